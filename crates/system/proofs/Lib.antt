@@ -1,0 +1,5 @@
+-- The laws of crate `system` that other crates cite.
+pub mod Laws
+pub mod Prefix
+mod Steps
+mod Reader

@@ -1,0 +1,16 @@
+-- `system::seen_of` meets its contract: the tests of tag and `last` pick the case.
+use borrow.Author.Tests.{eq-eqb, ne-eqb}
+use Rattle.system.proofs.seen_of.Statement.{statement}
+use Rattle.system.proofs.seen_of.Tie as tie
+
+returns : tie.Need-returns
+returns c = simp (ne-eqb _ _ (c .if1 .taken))
+
+returns-2 : tie.Need-returns-2
+returns-2 c = simp (eq-eqb _ _ (c .before .if1 .left), eq-eqb _ _ (c .if2 .taken))
+
+returns-3 : tie.Need-returns-3
+returns-3 c = simp (eq-eqb _ _ (c .before .if1 .left), ne-eqb _ _ (c .if2 .left))
+
+pub seen-of-spec : {M : Type 1} → statement M
+seen-of-spec = tie.close (tie.spec returns returns-2 returns-3)
