@@ -1,0 +1,203 @@
+-- Laws of time, memory and fit: of the empty load, of a smaller load, and of one instance more or less.
+use Prim.Native.Nat.{ℕ, zero, suc, _+_, _-_, _*_, _≤_, _<_, zero-le}
+use mathlib.Core.Path.{_≡_, refl, ap}
+use mathlib.Core.List.{List, [], _∷_}
+use mathlib.Core.Bool.{Bool, true, false, cond, false≢true}
+use native.Mathlib.Nat.{zero-mul, mul-zero, add-mul, mul-le-mul-right, add-le-add, sub-le, le-refl, le-trans, le-of-suc-le-suc, not-suc-le-zero, suc-inj}
+use native.Mathlib.Nat.{sub-add-cancel, lt-of-not-le}
+use native.Mathlib.Omega.{arith}
+use borrow.Author.Tests.{leb-true, le-leb, eqb-true, eqb-false, eq-eqb, ne-eqb}
+use lib.ListN.{length, getD, set, replicate, List·getD-eq-default}
+use lib.Dec.{leb, eqb}
+use Rattle.system.specs.declared.TaskType.{TaskType}
+use Rattle.system.specs.declared.System.{System}
+use Rattle.system.specs.Values.{noTask}
+use Rattle.system.specs.Limits.{typeLimit}
+use Rattle.loads.specs.Load.{timeOf, memoryAt, memoryOf, fitsEngine, emptyLoad, within, plus, oneMore, oneLess, engineWith, idleEngine}
+use Rattle.loads.proofs.Order.{and-parts, and-both, within-refl}
+
+-- intermediate: the memory of one type
+
+-- each instance has a copy of the code
+abbrev ownCopies : ℕ → Bool
+ownCopies rule = eqb rule 0
+
+pub memoryAt-none : (rule : ℕ) (t : TaskType) → memoryAt rule t 0 ≡ 0
+memoryAt-none rule t = go (ownCopies rule)
+  where
+    go : (b : Bool) → cond b (0 * t .memory) 0 ≡ 0
+    go true = zero-mul (t .memory)
+    go false = refl
+
+memoryAt-noTask : (rule x : ℕ) → memoryAt rule noTask x ≡ 0
+memoryAt-noTask rule x = go (ownCopies rule) (eqb x 0)
+  where
+    go : (b e : Bool) → cond b (x * 0) (cond e 0 0) ≡ 0
+    go true e = mul-zero x
+    go false true = refl
+    go false false = refl
+
+memoryAt-le : (rule : ℕ) (t : TaskType) (x z : ℕ) → x ≤ z → memoryAt rule t x ≤ memoryAt rule t z
+memoryAt-le rule t x z h = go (ownCopies rule) (eqb x 0) (eqb z 0) refl refl
+  where
+    go : (b e f : Bool) → eqb x 0 ≡ e → eqb z 0 ≡ f → cond b (x * t .memory) (cond e 0 (t .memory)) ≤ cond b (z * t .memory) (cond f 0 (t .memory))
+    go true e f p q = mul-le-mul-right (t .memory) h
+    go false true f p q = zero-le
+    go false false true p q = absurd (eqb-false x 0 p (omega (arith, eqb-true z 0 q)))
+    go false false false p q = le-refl (t .memory)
+
+-- main: fit is a bound on time and one on memory
+
+module _ (y : System) (x : List ℕ) where
+  pub fits-of : timeOf (y .tasks) x ≤ y .time → memoryOf (y .rule) (y .tasks) x ≤ y .memory → fitsEngine y x ≡ true
+  unfolding fitsEngine
+  fits-of h k = and-both (leb (timeOf (y .tasks) x) (y .time)) _ (le-leb _ _ h) (le-leb _ _ k)
+
+  pub fits-time : fitsEngine y x ≡ true → timeOf (y .tasks) x ≤ y .time
+  unfolding fitsEngine
+  fits-time h = leb-true _ _ (and-parts (leb (timeOf (y .tasks) x) (y .time)) _ h .0)
+
+  pub fits-memory : fitsEngine y x ≡ true → memoryOf (y .rule) (y .tasks) x ≤ y .memory
+  unfolding fitsEngine
+  fits-memory h = leb-true _ _ (and-parts (leb (timeOf (y .tasks) x) (y .time)) _ h .1)
+
+-- main: the empty load
+
+pub time-empty : (ts : List TaskType) (n : ℕ) → timeOf ts (replicate n 0) ≡ 0
+unfolding timeOf
+time-empty [] n = refl
+time-empty (t ∷ ts) zero = refl
+time-empty (t ∷ ts) (suc n) = rw (zero-mul, time-empty ts n)
+
+pub memory-empty : (rule : ℕ) (ts : List TaskType) (n : ℕ) → memoryOf rule ts (replicate n 0) ≡ 0
+unfolding memoryOf
+memory-empty rule [] n = refl
+memory-empty rule (t ∷ ts) zero = refl
+memory-empty rule (t ∷ ts) (suc n) = rw (memoryAt-none rule t, memory-empty rule ts n)
+
+pub zeros-fit : (y : System) (n : ℕ) → fitsEngine y (replicate n 0) ≡ true
+zeros-fit y n = fits-of y (replicate n 0) (rw (time-empty (y .tasks) n) zero-le) (rw (memory-empty (y .rule) (y .tasks) n) zero-le)
+
+pub empty-fits : (y : System) → fitsEngine y emptyLoad ≡ true
+empty-fits y = zeros-fit y typeLimit
+
+pub engineWith-idle : (y : System) → engineWith y emptyLoad ≡ idleEngine
+engineWith-idle y = λ i. record { time = time-empty (y .tasks) typeLimit i; memory = memory-empty (y .rule) (y .tasks) typeLimit i; counts = emptyLoad }
+
+-- main: a smaller load
+
+pub time-within : (ts : List TaskType) (x z : List ℕ) → within x z ≡ true → timeOf ts x ≤ timeOf ts z
+unfolding timeOf within
+time-within [] x z h = zero-le
+time-within (t ∷ ts) [] z h = zero-le
+time-within (t ∷ ts) (x ∷ xs) [] h = absurd (false≢true h)
+time-within (t ∷ ts) (x ∷ xs) (z ∷ zs) h =
+    let b = and-parts (leb x z) (within xs zs) h in
+    add-le-add (mul-le-mul-right (t .time) (leb-true x z (b .0))) (time-within ts xs zs (b .1))
+
+pub memory-within : (rule : ℕ) (ts : List TaskType) (x z : List ℕ) → within x z ≡ true → memoryOf rule ts x ≤ memoryOf rule ts z
+unfolding memoryOf within
+memory-within rule [] x z h = zero-le
+memory-within rule (t ∷ ts) [] z h = zero-le
+memory-within rule (t ∷ ts) (x ∷ xs) [] h = absurd (false≢true h)
+memory-within rule (t ∷ ts) (x ∷ xs) (z ∷ zs) h =
+    let b = and-parts (leb x z) (within xs zs) h in
+    add-le-add (memoryAt-le rule t x z (leb-true x z (b .0))) (memory-within rule ts xs zs (b .1))
+
+pub fits-within : (y : System) (x z : List ℕ) → within x z ≡ true → fitsEngine y z ≡ true → fitsEngine y x ≡ true
+fits-within y x z h f =
+    fits-of y x
+    (le-trans (time-within (y .tasks) x z h) (fits-time y z f))
+    (le-trans (memory-within (y .rule) (y .tasks) x z h) (fits-memory y z f))
+
+-- main: the two loads together
+
+pub time-plus : (ts : List TaskType) (x z : List ℕ) → length x ≡ length z → timeOf ts (plus x z) ≡ timeOf ts x + timeOf ts z
+unfolding timeOf plus
+time-plus [] x z h = refl
+time-plus (t ∷ ts) [] [] h = refl
+time-plus (t ∷ ts) [] (z ∷ zs) h = absurd (omega arith)
+time-plus (t ∷ ts) (x ∷ xs) [] h = absurd (omega arith)
+time-plus (t ∷ ts) (x ∷ xs) (z ∷ zs) h = omega (arith, add-mul x z (t .time), time-plus ts xs zs (suc-inj h))
+
+-- intermediate: one count replaced
+
+time-set : (ts : List TaskType) (x : List ℕ) (i v : ℕ) → i < length x →
+    timeOf ts (set x i v) + getD x i 0 * getD ts i noTask .time ≡ timeOf ts x + v * getD ts i noTask .time
+unfolding timeOf
+time-set [] x i v h = rw (mul-zero, mul-zero)
+time-set (t ∷ ts) [] i v h = absurd (not-suc-le-zero h)
+time-set (t ∷ ts) (x ∷ xs) zero v h = omega arith
+time-set (t ∷ ts) (x ∷ xs) (suc i) v h = omega (arith, time-set ts xs i v (le-of-suc-le-suc h))
+
+memory-set : (rule : ℕ) (ts : List TaskType) (x : List ℕ) (i v : ℕ) → i < length x →
+    memoryOf rule ts (set x i v) + memoryAt rule (getD ts i noTask) (getD x i 0) ≡ memoryOf rule ts x + memoryAt rule (getD ts i noTask) v
+unfolding memoryOf
+memory-set rule [] x i v h = rw (memoryAt-noTask rule (getD x i 0), memoryAt-noTask rule v)
+memory-set rule (t ∷ ts) [] i v h = absurd (not-suc-le-zero h)
+memory-set rule (t ∷ ts) (x ∷ xs) zero v h = omega arith
+memory-set rule (t ∷ ts) (x ∷ xs) (suc i) v h = omega (arith, memory-set rule ts xs i v (le-of-suc-le-suc h))
+
+within-set-below : (x : List ℕ) (i v : ℕ) → v ≤ getD x i 0 → within (set x i v) x ≡ true
+unfolding within
+within-set-below [] i v h = refl
+within-set-below (x ∷ xs) zero v h = and-both (leb v x) _ (le-leb v x h) (within-refl xs)
+within-set-below (x ∷ xs) (suc i) v h = and-both (leb x x) _ (le-leb x x (le-refl x)) (within-set-below xs i v h)
+
+-- a type that has an instance is one of the list's
+pub held-in : (x : List ℕ) (i : ℕ) → 1 ≤ getD x i 0 → i < length x
+held-in x i h = lt-of-not-le (λ (past : length x ≤ i). omega (arith, List·getD-eq-default x 0 past))
+
+one-less-times : (n u : ℕ) → 1 ≤ n → (n - 1) * u + u ≡ n * u
+one-less-times n u h = omega (arith, add-mul (n - 1) 1 u, ap (λ (k : ℕ). k * u) (sub-add-cancel h))
+
+shared-some : (t : TaskType) (x : ℕ) → 1 ≤ x → memoryAt 1 t x ≡ t .memory
+shared-some t x h = rw (ne-eqb x 0 (λ e. omega arith))
+
+shared-none : (t : TaskType) (x : ℕ) → x ≡ 0 → memoryAt 1 t x ≡ 0
+shared-none t x e = rw (eq-eqb x 0 e)
+
+-- main: one instance more, one instance less
+
+pub within-oneLess : (i : ℕ) (x : List ℕ) → within (oneLess i x) x ≡ true
+within-oneLess i x = within-set-below x i (getD x i 0 - 1) (sub-le (getD x i 0) 1)
+
+-- an instance that leaves keeps the engine good
+pub fits-one-less : (y : System) (i : ℕ) (x : List ℕ) → fitsEngine y x ≡ true → fitsEngine y (oneLess i x) ≡ true
+fits-one-less y i x f = fits-within y (oneLess i x) x (within-oneLess i x) f
+
+module _ (ts : List TaskType) (x : List ℕ) (i : ℕ) where
+  pub time-one-more : i < length x → timeOf ts (oneMore i x) ≡ timeOf ts x + getD ts i noTask .time
+  time-one-more h = omega (arith, time-set ts x i (getD x i 0 + 1) h, add-mul (getD x i 0) 1 (getD ts i noTask .time))
+
+  pub time-one-less : 1 ≤ getD x i 0 → timeOf ts (oneLess i x) + getD ts i noTask .time ≡ timeOf ts x
+  time-one-less h = omega (arith, time-set ts x i (getD x i 0 - 1) (held-in x i h), one-less-times (getD x i 0) (getD ts i noTask .time) h)
+
+  -- rule 0, own copies: each instance has its s
+  pub memory-one-more-own : i < length x → memoryOf 0 ts (oneMore i x) ≡ memoryOf 0 ts x + getD ts i noTask .memory
+  memory-one-more-own h = omega (arith, memory-set 0 ts x i (getD x i 0 + 1) h, add-mul (getD x i 0) 1 (getD ts i noTask .memory))
+
+  pub memory-one-less-own : 1 ≤ getD x i 0 → memoryOf 0 ts (oneLess i x) + getD ts i noTask .memory ≡ memoryOf 0 ts x
+  memory-one-less-own h =
+      omega (arith, memory-set 0 ts x i (getD x i 0 - 1) (held-in x i h), one-less-times (getD x i 0) (getD ts i noTask .memory) h)
+
+  -- rule 1, shared code: only the first instance of a type brings its s, only the last takes it away
+  pub memory-one-more-shared-first : i < length x → getD x i 0 ≡ 0 → memoryOf 1 ts (oneMore i x) ≡ memoryOf 1 ts x + getD ts i noTask .memory
+  memory-one-more-shared-first h e =
+      let t = getD ts i noTask in
+      omega (arith, memory-set 1 ts x i (getD x i 0 + 1) h, shared-none t (getD x i 0) e, shared-some t (getD x i 0 + 1) (omega arith))
+
+  pub memory-one-more-shared-kept : 1 ≤ getD x i 0 → memoryOf 1 ts (oneMore i x) ≡ memoryOf 1 ts x
+  memory-one-more-shared-kept h =
+      let t = getD ts i noTask in
+      omega (arith, memory-set 1 ts x i (getD x i 0 + 1) (held-in x i h), shared-some t (getD x i 0) h, shared-some t (getD x i 0 + 1) (omega arith))
+
+  pub memory-one-less-shared-kept : 2 ≤ getD x i 0 → memoryOf 1 ts (oneLess i x) ≡ memoryOf 1 ts x
+  memory-one-less-shared-kept h =
+      let t = getD ts i noTask in
+      omega (arith, memory-set 1 ts x i (getD x i 0 - 1) (held-in x i (omega arith)), shared-some t (getD x i 0) (omega arith), shared-some t (getD x i 0 - 1) (omega arith))
+
+  pub memory-one-less-shared-freed : getD x i 0 ≡ 1 → memoryOf 1 ts (oneLess i x) + getD ts i noTask .memory ≡ memoryOf 1 ts x
+  memory-one-less-shared-freed e =
+      let t = getD ts i noTask in
+      omega (arith, memory-set 1 ts x i (getD x i 0 - 1) (held-in x i (omega arith)), shared-some t (getD x i 0) (omega arith), shared-none t (getD x i 0 - 1) (omega arith))

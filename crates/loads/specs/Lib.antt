@@ -1,0 +1,3 @@
+-- The definitions of crate `loads`, in reading order.
+pub mod Load
+pub mod Column

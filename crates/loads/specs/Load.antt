@@ -1,0 +1,69 @@
+-- A load, its time, its memory and whether it fits an engine: document 01's "Words". A load is a list, the number of instances of each type in order.
+use Prim.Native.Nat.{ℕ, _+_, _-_, _*_}
+use mathlib.Core.List.{List, [], _∷_}
+use mathlib.Core.Bool.{Bool, true, false, cond, _&&_}
+use lib.ListN.{getD, set, replicate}
+use lib.Dec.{leb, eqb}
+use Rattle.system.specs.declared.TaskType.{TaskType}
+use Rattle.system.specs.declared.System.{System}
+use Rattle.system.specs.Limits.{typeLimit}
+use Rattle.loads.specs.declared.EngineLoad.{EngineLoad}
+
+-- "Its time is the sum of count × u(t)"
+unfoldable pub timeOf : List TaskType → List ℕ → ℕ
+timeOf [] xs = 0
+timeOf (t ∷ ts) [] = 0
+timeOf (t ∷ ts) (x ∷ xs) = x * t .time + timeOf ts xs
+
+-- the memory that x instances of one type take on an engine: x copies of the code under rule 0, one copy for all under rule 1
+abbrev pub memoryAt : ℕ → TaskType → ℕ → ℕ
+memoryAt rule t x = cond (eqb rule 0) (x * t .memory) (cond (eqb x 0) 0 (t .memory))
+
+unfoldable pub memoryOf : ℕ → List TaskType → List ℕ → ℕ
+memoryOf rule [] xs = 0
+memoryOf rule (t ∷ ts) [] = 0
+memoryOf rule (t ∷ ts) (x ∷ xs) = memoryAt rule t x + memoryOf rule ts xs
+
+-- document 01's "fits": time at most U and memory at most S
+unfoldable pub fitsEngine : System → List ℕ → Bool
+fitsEngine y x = leb (timeOf (y .tasks) x) (y .time) && leb (memoryOf (y .rule) (y .tasks) x) (y .memory)
+
+-- no instance at all
+unfoldable pub holdsNone : List ℕ → Bool
+holdsNone [] = true
+holdsNone (x ∷ xs) = eqb x 0 && holdsNone xs
+
+abbrev pub emptyLoad : List ℕ
+emptyLoad = replicate typeLimit 0
+
+-- no count of x is above that of y
+unfoldable pub within : List ℕ → List ℕ → Bool
+within [] ys = true
+within (x ∷ xs) [] = false
+within (x ∷ xs) (y ∷ ys) = leb x y && within xs ys
+
+-- the two loads together
+unfoldable pub plus : List ℕ → List ℕ → List ℕ
+plus [] ys = []
+plus (x ∷ xs) [] = []
+plus (x ∷ xs) (y ∷ ys) = (x + y) ∷ plus xs ys
+
+-- the load x less the load y
+unfoldable pub less : List ℕ → List ℕ → List ℕ
+less [] ys = []
+less (x ∷ xs) [] = []
+less (x ∷ xs) (y ∷ ys) = (x - y) ∷ less xs ys
+
+-- the load with one instance more, and one less, of the type at index i (type number i + 1)
+abbrev pub oneMore : ℕ → List ℕ → List ℕ
+oneMore i x = set x i (getD x i 0 + 1)
+
+abbrev pub oneLess : ℕ → List ℕ → List ℕ
+oneLess i x = set x i (getD x i 0 - 1)
+
+-- an engine that holds the load x, with its time and memory always computed anew from the counts
+abbrev pub engineWith : System → List ℕ → EngineLoad
+engineWith y x = record { time = timeOf (y .tasks) x; memory = memoryOf (y .rule) (y .tasks) x; counts = x }
+
+abbrev pub idleEngine : EngineLoad
+idleEngine = record { time = 0; memory = 0; counts = emptyLoad }

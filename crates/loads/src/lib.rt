@@ -1,0 +1,201 @@
+// Time, memory and fit of a load, and the column that stands for it.
+ghost use mathlib.Core.Path.{_≡_};
+ghost use Prim.Native.Nat.{_+_, _-_, _*_, _%_, _^_, _≤_, _<_};
+ghost use mathlib.Core.Bool.{true};
+ghost use lib.ListN.{getD};
+ghost use Rattle.system.specs.Values.{ceilingsOf};
+ghost use Rattle.system.specs.Limits.{columns, columnLimit};
+ghost use Rattle.loads.specs.Load.{timeOf, memoryAt, memoryOf, fitsEngine, holdsNone, less, oneMore, oneLess, engineWith, idleEngine};
+ghost use Rattle.loads.specs.Column.{columnOf, loadOf};
+use system::System;
+use system::TaskType;
+
+// What one engine holds: the number of instances of each type, with their time and memory.
+pub struct EngineLoad {
+    pub time: u32,
+    pub memory: u32,
+    pub counts: [u16; 6],
+}
+
+// What `count` instances cost at `each`. Six such products are far below 2^64.
+fn cost(count: u16, each: u32) -> u64
+    ensures { λ r. ⌜ (r ≡ count * each) × (r ≤ 2 ^ 48) ⌝ }
+{
+    (count as u64) * (each as u64)
+}
+
+// The time of a load.
+pub fn time_of(tasks: [TaskType; 6], counts: [u16; 6]) -> u64
+    ensures { λ r. ⌜ r ≡ timeOf tasks counts ⌝ }
+{
+    let mut sum: u64 = 0;
+    for i in 0..6 {
+        let task = tasks[i];
+        let count = counts[i];
+        sum += cost(count, task.time);
+    }
+    sum
+}
+
+// What `count` instances of one type take of an engine's memory.
+fn memory_at(rule: u8, task: TaskType, count: u16) -> u64
+    ensures { λ r. ⌜ (r ≡ memoryAt rule task count) × (r ≤ 2 ^ 48) ⌝ }
+{
+    if rule == 0 {
+        return cost(count, task.memory);
+    }
+    if count == 0 {
+        return 0;
+    }
+    task.memory as u64
+}
+
+// The memory of a load.
+pub fn memory_of(rule: u8, tasks: [TaskType; 6], counts: [u16; 6]) -> u64
+    ensures { λ r. ⌜ r ≡ memoryOf rule tasks counts ⌝ }
+{
+    let mut sum: u64 = 0;
+    for i in 0..6 {
+        let task = tasks[i];
+        let count = counts[i];
+        sum += memory_at(rule, task, count);
+    }
+    sum
+}
+
+// Whether a load fits an engine of the system.
+pub fn fits_engine(y: System, counts: [u16; 6]) -> bool
+    ensures { λ r. ⌜ r ≡ fitsEngine y counts ⌝ }
+{
+    let tasks = y.tasks;
+    let time = time_of(tasks, counts);
+    let memory = memory_of(y.rule, tasks, counts);
+    (time <= y.time as u64) & (memory <= y.memory as u64)
+}
+
+// The engine that holds a load, its sums computed anew.
+pub fn engine_with(y: System, counts: [u16; 6]) -> EngineLoad
+    requires { ⌜ fitsEngine y counts ≡ true ⌝ }
+    ensures { λ r. ⌜ r ≡ engineWith y counts ⌝ }
+{
+    let tasks = y.tasks;
+    let time = time_of(tasks, counts);
+    let memory = memory_of(y.rule, tasks, counts);
+    EngineLoad {
+        time: time as u32,
+        memory: memory as u32,
+        counts: counts,
+    }
+}
+
+// The engine that holds nothing.
+pub fn idle_engine() -> EngineLoad
+    ensures { λ r. ⌜ r ≡ idleEngine ⌝ }
+{
+    EngineLoad {
+        time: 0,
+        memory: 0,
+        counts: [0; 6],
+    }
+}
+
+// Whether a load has no instance at all.
+pub fn holds_none(counts: [u16; 6]) -> bool
+    ensures { λ r. ⌜ r ≡ holdsNone counts ⌝ }
+{
+    let mut none = true;
+    for i in 0..6 {
+        none = none & (counts[i] == 0);
+    }
+    none
+}
+
+// What is left of a when b are taken away: nothing where there are fewer.
+fn difference(a: u16, b: u16) -> u16
+    ensures { λ r. ⌜ r ≡ a - b ⌝ }
+{
+    if b <= a { a - b } else { 0 }
+}
+
+// The load x less the load y.
+pub fn minus(x: [u16; 6], y: [u16; 6]) -> [u16; 6]
+    ensures { λ r. ⌜ r ≡ less x y ⌝ }
+{
+    let mut left: [u16; 6] = [0; 6];
+    for i in 0..6 {
+        left[i] = difference(x[i], y[i]);
+    }
+    left
+}
+
+// The load with one instance more of the type at index i.
+pub fn one_more(counts: [u16; 6], i: usize) -> [u16; 6]
+    requires { ⌜ (i < 6) × (getD counts i 0 < 65535) ⌝ }
+    ensures { λ r. ⌜ r ≡ oneMore i counts ⌝ }
+{
+    let mut next = counts;
+    next[i] = counts[i] + 1;
+    next
+}
+
+// The load with one instance less of the type at index i: as it is, where there is none.
+pub fn one_less(counts: [u16; 6], i: usize) -> [u16; 6]
+    requires { ⌜ i < 6 ⌝ }
+    ensures { λ r. ⌜ r ≡ oneLess i counts ⌝ }
+{
+    let mut next = counts;
+    next[i] = difference(counts[i], 1);
+    next
+}
+
+// n + 1, by which a column counts a type of ceiling n.
+fn base(ceiling: u16) -> usize
+    ensures { λ r. ⌜ r ≡ ceiling + 1 ⌝ }
+{
+    ceiling as usize + 1
+}
+
+// A count as a number of columns.
+fn wide(count: u16) -> usize
+    ensures { λ r. ⌜ (r ≡ count) × (r < 65536) ⌝ }
+{
+    count as usize
+}
+
+// The number of instances of a type of this ceiling that a column has at its lowest place.
+fn digit(column: usize, ceiling: u16) -> u16
+    ensures { λ r. ⌜ r ≡ column % (ceiling + 1) ⌝ }
+{
+    (column % base(ceiling)) as u16
+}
+
+// The column that stands for a load.
+pub fn column_of(y: System, counts: [u16; 6]) -> usize
+    requires { ⌜ columns y ≤ columnLimit ⌝ }
+    ensures { λ r. ⌜ r ≡ columnOf (ceilingsOf y) counts ⌝ }
+{
+    let tasks = y.tasks;
+    let mut stride: usize = 1;
+    let mut column: usize = 0;
+    for i in 0..6 {
+        let task = tasks[i];
+        column += wide(counts[i]) * stride;
+        stride = stride * base(task.ceiling);
+    }
+    column
+}
+
+// The load that a column stands for.
+pub fn load_of(y: System, column: usize) -> [u16; 6]
+    ensures { λ r. ⌜ r ≡ loadOf (ceilingsOf y) column ⌝ }
+{
+    let tasks = y.tasks;
+    let mut counts: [u16; 6] = [0; 6];
+    let mut rest = column;
+    for i in 0..6 {
+        let task = tasks[i];
+        counts[i] = digit(rest, task.ceiling);
+        rest = rest / base(task.ceiling);
+    }
+    counts
+}
