@@ -1,0 +1,12 @@
+-- The theorems of crate `partition`, in the order of their proofs.
+pub mod Lists
+pub mod Lowest
+pub mod Shares
+pub mod Cells
+pub mod Rows
+pub mod Recovery
+pub mod Brute
+pub mod OwnWords
+pub mod Theorems
+pub mod ForSystem
+pub mod Standing

@@ -1,0 +1,7 @@
+-- The definitions of crate `partition`, in reading order.
+pub mod Assignment
+pub mod OwnWords
+pub mod Listing
+pub mod Cell
+pub mod Shares
+pub mod ForSystem

@@ -1,0 +1,1 @@
+// No code: the theory of partitioning stands in specs/ and proofs/.
