@@ -1,0 +1,13 @@
+-- The laws of crate `table`, in the order of their proofs.
+pub mod Filled
+pub mod Begun
+pub mod Between
+pub mod Stepping
+pub mod Candidates
+pub mod Preceding
+pub mod FilledRow
+pub mod Shown
+pub mod Rows
+pub mod Recovered
+pub mod Placed
+pub mod Reading

@@ -1,0 +1,62 @@
+-- Laws of a table that shows the cells: a filled one does, and every entry of its rows lies inside it.
+use Prim.Native.Nat.{ℕ, suc, _+_, _*_, _≤_, _<_}
+use mathlib.Core.Path.{_≡_, refl, ap}
+use mathlib.Core.Bool.{true}
+use mathlib.Core.List.{List}
+use native.Mathlib.Nat.{le-mul-of-pos-right, mul-le-mul-right, add-mul}
+use native.Mathlib.Omega.{arith}
+use borrow.Author.Tests.{leb-true}
+use lib.ListN.{length, getD}
+use Rattle.system.specs.declared.System.{System}
+use Rattle.system.specs.Values.{ceilingsOf}
+use Rattle.system.specs.Limits.{columns, keepsLimits}
+use Rattle.system.proofs.Laws.{limits-of}
+use Rattle.loads.specs.Load.{fitsEngine}
+use Rattle.partition.specs.Cell.{saysYes, lowestRow}
+use Rattle.partition.specs.ForSystem.{cellFor}
+use Rattle.partition.proofs.Lowest.{lowest-same}
+use Rattle.table.specs.Table.{entries, longEnough, filled}
+use Rattle.table.specs.Recovery.{Shows, rowShown}
+use Rattle.table.proofs.Filled.{length-filledTo, filledTo-at}
+
+pub shows-filled : (y : System) (table : List ℕ) → keepsLimits y ≡ true → longEnough y table ≡ true → Shows y (y .engines) (columns y) (filled y table)
+shows-filled y table limits long =
+    let room = leb-true (entries y (y .engines)) (length table) long in
+    record {
+      limits = limits;
+      few = limits-of y limits .engines;
+      wide = refl;
+      room = rw (length-filledTo y (y .engines) table room) room;
+      holds = filledTo-at y (y .engines) table;
+    }
+
+-- intermediate: entries of a table with room for rows 0 to `rows`
+
+module _ (rows width : ℕ) (table : List ℕ) (room : (rows + 1) * width ≤ length table) (i c : ℕ) (h : i ≤ rows) (l : c < width) where
+  pub entry-inside : i * width + c < length table
+  entry-inside = omega (arith, mul-le-mul-right width h, add-mul rows 1 width)
+
+  pub row-inside : i < length table
+  row-inside =
+      let some : 0 < width = omega arith in
+      omega (arith, entry-inside, le-mul-of-pos-right i some)
+
+-- main: a table that shows some rows
+
+module _ {y : System} {rows width : ℕ} {table : List ℕ} (shows : Shows y rows width table) where
+  pub shows-fewer : (i : ℕ) → i ≤ rows → Shows y i width table
+  shows-fewer i h =
+      record {
+        limits = shows .limits;
+        few = omega (arith, shows .few);
+        wide = shows .wide;
+        room = omega (arith, shows .room, mul-le-mul-right width h, add-mul rows 1 width, add-mul i 1 width);
+        holds = λ j c k l. shows .holds j c (omega arith) l;
+      }
+
+  -- the row that is found in the table is the lowest that says yes
+  pub rowShown-cells : (c : ℕ) → c < width → rowShown table width rows c ≡ lowestRow (fitsEngine y) (ceilingsOf y) rows c
+  unfolding rowShown lowestRow
+  rowShown-cells c l =
+      lowest-same (λ (i : ℕ). saysYes (getD table (i * width + c) 0)) (λ (i : ℕ). saysYes (cellFor y i c)) (suc rows) (suc rows) 0
+      (λ i from to. ap saysYes (shows .holds i c (omega arith) l))

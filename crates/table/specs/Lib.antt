@@ -1,0 +1,4 @@
+-- The definitions of crate `table`, in reading order.
+pub mod Table
+pub mod Search
+pub mod Recovery
