@@ -1,0 +1,6 @@
+-- The laws of crate `planner`.
+pub mod Front
+pub mod Records
+pub mod RecordType
+pub mod Demands
+pub mod Exits

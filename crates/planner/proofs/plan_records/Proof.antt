@@ -1,0 +1,23 @@
+-- `planner::plan_records`: the plan of `plan_for`, with its loads as records.
+use mathlib.Core.Path.{ap, _∙_}
+use borrow.Author.Needs.{needs}
+use Rattle.planner.specs.Plan.{recordsOf}
+use Rattle.planner.proofs.plan_records.Statement.{statement}
+use Rattle.planner.proofs.plan_records.Tie as tie
+
+plan-for-requires : tie.Need-plan-for-requires
+plan-for-requires c κs = search needs
+
+records-of-requires : tie.Need-records-of-requires
+records-of-requires c κs = search needs
+
+same-length : tie.Need-same-length
+same-length c = search needs
+
+returns : tie.Need-returns
+returns c =
+    let p = c .before .before .before .before .plan-for .ensures in
+    record { answer = p .answer; used = p .used; records = c .records-of .ensures ∙ ap recordsOf (p .loads); left = p .left }
+
+pub plan-records-spec : {M : Type 1} → statement M
+plan-records-spec = tie.close (tie.spec plan-for-requires records-of-requires same-length returns)

@@ -1,0 +1,3 @@
+-- The definitions of crate `planner`, in reading order.
+pub mod Plan
+pub mod Demands
