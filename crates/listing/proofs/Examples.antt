@@ -1,0 +1,48 @@
+-- Document 01's listings come out of the definition: its example, W6's refusal and W7's `engines 0`. All by computation.
+use Prim.Native.Nat.{ℕ}
+use mathlib.Core.List.{List, [], _∷_, map}
+use mathlib.Core.Path.{_≡_, refl}
+use lib.ListN.{replicate}
+use Rattle.system.specs.Limits.{columnsOf}
+use Rattle.system.specs.Layout.{fieldAt, bodyAt, ruleOf, platformFrom, typeFrom, ruledHead, headOf, bodyOf, ruledField, fieldOf, endOf, fieldsFrom, readFile}
+use Rattle.loads.specs.Load.{timeOf, memoryOf, fitsEngine, within, less}
+use Rattle.loads.specs.Column.{columnFrom, loadOf}
+use Rattle.partition.specs.Cell.{lowest, precedes, cell, lowestRow, recover, recovery}
+use Rattle.planner.specs.Plan.{verdictOf, recordsFrom}
+use Rattle.listing.specs.Listing.{decimalFrom, parted, engineLine, recordLines, listingOf, fileListing}
+
+-- a table that is long enough for each of them
+abbrev table : List ℕ
+table = replicate 48 0
+
+-- document 01's system A, with its two ceilings
+abbrev systemA : ℕ → ℕ → List ℕ
+systemA n₁ n₂ =
+    1 ∷ 0 ∷ 10 ∷ 3 ∷ 0 ∷ 0 ∷ 0 ∷ 0 ∷ 10 ∷ 0 ∷ 0 ∷ 0 ∷ 8
+    ∷ 2 ∷ 0 ∷ 10 ∷ 0 ∷ 0 ∷ 0 ∷ 4 ∷ 0 ∷ 0 ∷ 0 ∷ 3 ∷ 0 ∷ n₁
+    ∷ 2 ∷ 0 ∷ 10 ∷ 0 ∷ 0 ∷ 0 ∷ 3 ∷ 0 ∷ 0 ∷ 0 ∷ 2 ∷ 0 ∷ n₂ ∷ []
+
+-- document 01's system B under rule 0, with its number of engines
+abbrev systemB : ℕ → List ℕ
+systemB m =
+    1 ∷ 0 ∷ 10 ∷ m ∷ 0 ∷ 0 ∷ 0 ∷ 0 ∷ 10 ∷ 0 ∷ 0 ∷ 0 ∷ 8
+    ∷ 2 ∷ 0 ∷ 10 ∷ 0 ∷ 0 ∷ 0 ∷ 2 ∷ 0 ∷ 0 ∷ 0 ∷ 5 ∷ 0 ∷ 4 ∷ []
+
+-- engines 2 | engine 1 util 8 mem 6 types 2 0 | engine 2 util 10 mem 7 types 1 2, byte by byte: the words too are fixed by this
+abbrev twoEngines : List ℕ
+twoEngines =
+    101 ∷ 110 ∷ 103 ∷ 105 ∷ 110 ∷ 101 ∷ 115 ∷ 32 ∷ 50 ∷ 10
+    ∷ 101 ∷ 110 ∷ 103 ∷ 105 ∷ 110 ∷ 101 ∷ 32 ∷ 49 ∷ 32 ∷ 117 ∷ 116 ∷ 105 ∷ 108 ∷ 32 ∷ 56 ∷ 32 ∷ 109 ∷ 101 ∷ 109 ∷ 32 ∷ 54 ∷ 32 ∷ 116 ∷ 121 ∷ 112 ∷ 101 ∷ 115 ∷ 32 ∷ 50 ∷ 32 ∷ 48 ∷ 10
+    ∷ 101 ∷ 110 ∷ 103 ∷ 105 ∷ 110 ∷ 101 ∷ 32 ∷ 50 ∷ 32 ∷ 117 ∷ 116 ∷ 105 ∷ 108 ∷ 32 ∷ 49 ∷ 48 ∷ 32 ∷ 109 ∷ 101 ∷ 109 ∷ 32 ∷ 55 ∷ 32 ∷ 116 ∷ 121 ∷ 112 ∷ 101 ∷ 115 ∷ 32 ∷ 49 ∷ 32 ∷ 50 ∷ 10 ∷ []
+
+-- refused 12
+abbrev refused12 : List ℕ
+refused12 = 114 ∷ 101 ∷ 102 ∷ 117 ∷ 115 ∷ 101 ∷ 100 ∷ 32 ∷ 49 ∷ 50 ∷ 10 ∷ []
+
+-- engines 0
+abbrev noEngine : List ℕ
+noEngine = 101 ∷ 110 ∷ 103 ∷ 105 ∷ 110 ∷ 101 ∷ 115 ∷ 32 ∷ 48 ∷ 10 ∷ []
+
+pub examples : map (λ (file : List ℕ). fileListing file table) (systemA 3 2 ∷ systemB 3 ∷ systemA 0 0 ∷ []) ≡ twoEngines ∷ refused12 ∷ noEngine ∷ []
+unfolding fieldAt bodyAt ruleOf platformFrom typeFrom ruledHead headOf bodyOf ruledField fieldOf endOf fieldsFrom readFile columnsOf timeOf memoryOf fitsEngine within less columnFrom loadOf lowest precedes cell lowestRow recover recovery verdictOf recordsFrom decimalFrom parted engineLine recordLines listingOf
+examples = refl

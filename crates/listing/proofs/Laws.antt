@@ -1,0 +1,187 @@
+-- Laws of the definitions of a listing: bytes put one after another, decimal digits, and lines.
+use Prim.Native.Nat.{ℕ, zero, suc, _+_, _-_, _/_, _%_, _^_, _≤_, _<_, min}
+use mathlib.Core.Path.{_≡_, refl, sym, ap, ap₂, _∙_}
+use mathlib.Core.Bool.{Bool, true, false}
+use mathlib.Core.List.{List, [], _∷_, _++_, append-assoc, append-nil, map, map-append}
+use native.Mathlib.Nat.{add-zero, zero-add, add-assoc, le-refl, le-of-lt, min-eq-left, min-eq-right, mod-eq-of-lt, pow-suc, pow-le-pow-right, one-le-pow}
+use native.Mathlib.Omega.{arith}
+use native.Mathlib.Numerals.{add-one, sub-one}
+use lib.ListN.{length, getD, take, drop, set, length-append, take-append-drop}
+use lib.Seq.{take-at, drop-at, drop-drop, set-split, paste, take-suc, take-all, take-length, length-take-le}
+use lib.Dec.{leb, lit<, lit≤}
+use borrow.Author.Tests.{lt-ltb, le-ltb, leb-true, leb-false}
+use Rattle.system.specs.Limits.{engineLimit}
+use Rattle.system.specs.Layout.{Reading, longestField, longestFile}
+use Rattle.system.specs.Outcome.{outcomeOf}
+use Rattle.system.proofs.Prefix.{read-take}
+use Rattle.loads.specs.declared.EngineLoad.{EngineLoad}
+use Rattle.planner.specs.declared.Plan.{Plan}
+use Rattle.planner.specs.Plan.{recordsFrom, recordsOf, verdictOf, Plans}
+use Rattle.io.specs.Digits.{glyph, digits, Fewest}
+use Rattle.listing.specs.Listing.{engineWord, utilWord, memWord, typesWord, space, lineEnd, digit, decimalFrom, decimal, parted, line, engineLine, recordLine, recordLines, listingOf, verdictListing, fileListing}
+use Rattle.listing.specs.Written.{put, Puts, Written}
+
+-- bytes put one after another
+
+-- b put where a ended: the two put together
+pub put-put : (a b : List ℕ) (at : ℕ) (old : List ℕ) → at ≤ length old → put b (at + length a) (put a at old) ≡ put (a ++ b) at old
+put-put a b at old h =
+    let head : length (take at old ++ a) ≡ at + length a = length-append (take at old) a ∙ ap (λ (n : ℕ). n + length a) (length-take-le at old h) in
+    let kept : take (at + length a) (put a at old) ≡ take at old ++ a = ap (take (at + length a)) (sym (append-assoc (take at old) a _)) ∙ take-at (take at old ++ a) _ (at + length a) head in
+    let rest : drop (at + length a) (put a at old) ≡ drop (at + length a) old = ap (drop (at + length a)) (sym (append-assoc (take at old) a _)) ∙ drop-at (take at old ++ a) _ (at + length a) head in
+    let past : drop (at + length a + length b) (put a at old) ≡ drop (at + length (a ++ b)) old =
+    sym (drop-drop (length b) (at + length a) (put a at old))
+    ∙ ap (drop (length b)) rest
+    ∙ drop-drop (length b) (at + length a) old
+    ∙ ap (λ (n : ℕ). drop n old) (add-assoc at (length a) (length b) ∙ ap (λ (n : ℕ). at + n) (sym (length-append a b))) in
+    ap₂ (λ (x y : List ℕ). x ++ (b ++ y)) kept past ∙ simp append-assoc
+
+pub puts-then : {a b : List ℕ} {at p q : ℕ} {old mid new : List ℕ} → at ≤ length old → Puts a at old mid p → Puts b p mid new q → Puts (a ++ b) at old new q
+puts-then {a = a} {b = b} {at = at} {p = p} {q = q} {old = old} {mid = mid} {new = new} h x y = record {
+  left = y .left ∙ ap₂ (put b) (x .next) (x .left) ∙ put-put a b at old h;
+  next = y .next ∙ ap (λ (n : ℕ). n + length b) (x .next) ∙ simp length-append (omega arith);
+}
+
+-- one byte stored
+pub puts-byte : (b at : ℕ) (old : List ℕ) → at < length old → Puts (b ∷ []) at old (set old at b) (at + 1)
+puts-byte b at old h = record { left = rw (add-one, set-split old at b); next = refl }
+
+-- nothing put
+pub puts-none : (at : ℕ) (old : List ℕ) → Puts [] at old old at
+puts-none at old = record { left = sym (simp (add-zero, take-append-drop)); next = sym (add-zero at) }
+
+-- a whole word copied
+pub puts-copy : (word old : List ℕ) (at n : ℕ) → n ≡ length word → Puts word at old (paste old at word n) (at + length word)
+puts-copy word old at n e = record { left = rw (e, take-length word, append-assoc); next = refl }
+
+-- decimal digits
+
+glyph-digit : (d : ℕ) → d < 10 → glyph d ≡ digit d
+glyph-digit d h = rw (lt-ltb d 10 h)
+
+pub one-digit : (f n : ℕ) → n < 10 → decimalFrom f n ≡ digit n ∷ []
+unfolding decimalFrom
+one-digit zero n h = refl
+one-digit (suc f) n h = rw (lt-ltb n 10 h)
+
+pub more-digits : (f n : ℕ) → 10 ≤ n → decimalFrom (suc f) n ≡ decimalFrom f (n / 10) ++ (digit (n % 10) ∷ [])
+unfolding decimalFrom
+more-digits f n h = rw (le-ltb n 10 h)
+
+-- the fewest digits that hold a number are its decimal
+decimalFrom-digits : (r f n : ℕ) → Fewest 10 1 n r → n ≤ f → digits 10 r n ≡ decimalFrom f n
+decimalFrom-digits zero f n (some, below, above) h = absurd (omega arith)
+decimalFrom-digits (suc zero) f n (some, below, above) h =
+    let small : n < 10 = below in
+    rw (one-digit f n small, mod-eq-of-lt small) (ap (λ (b : ℕ). b ∷ []) (glyph-digit n small))
+decimalFrom-digits (suc (suc k)) zero n (some, below, above) h =
+    let large : 10 ^ suc k ≤ n = rw (sub-one (suc (suc k))) at above (omega arith) in
+    absurd (omega (arith, one-le-pow (suc k) 10 (lit< tt)))
+decimalFrom-digits (suc (suc k)) (suc f) n (some, below, above) h =
+    let large : 10 ^ suc k ≤ n = rw (sub-one (suc (suc k))) at above (omega arith) in
+    let fewer : Fewest 10 1 (n / 10) (suc k) = (omega arith, omega (arith, pow-suc 10 (suc k)), λ (more : 1 < suc k). rw (sub-one (suc k)) (omega (arith, pow-suc 10 k))) in
+    rw (more-digits f n (omega (arith, pow-suc 10 k, one-le-pow k 10 (lit< tt))), ← decimalFrom-digits (suc k) f (n / 10) fewer (omega arith)) (ap (λ (b : ℕ). digits 10 (suc k) (n / 10) ++ (b ∷ [])) (glyph-digit (n % 10) (omega arith)))
+
+pub decimal-digits : (r n : ℕ) → Fewest 10 1 n r → digits 10 r n ≡ decimal n
+decimal-digits r n h = decimalFrom-digits r n n h (le-refl n)
+
+-- a number of 64 bits has at most 20 digits
+pub decimal-short : (r n : ℕ) → Fewest 10 1 n r → n < 2 ^ 64 → r ≤ 20
+decimal-short r n (some, below, above) h = go (leb r 20) refl
+  where
+    go : (b : Bool) → leb r 20 ≡ b → r ≤ 20
+    go true e = leb-true r 20 e
+    go false e =
+        let long : 20 < r = leb-false r 20 e in
+        let more : 10 ^ 20 ≤ 10 ^ (r - 1) = pow-le-pow-right (lit< tt) {i = 20} {j = r - 1} (omega arith) in
+        let large : 10 ^ (r - 1) ≤ n = above (omega arith) in
+        absurd (omega arith)
+
+-- lines
+
+pub parted-append : (ws vs : List (List ℕ)) → parted (ws ++ vs) ≡ parted ws ++ parted vs
+unfolding parted
+parted-append [] vs = refl
+parted-append (w ∷ ws) vs = ap (λ (l : List ℕ). space ∷ (w ++ l)) (parted-append ws vs) ∙ simp append-assoc
+
+-- one count more
+pub counts-suc : (xs : List ℕ) (i : ℕ) → i < length xs → parted (map decimal (take (suc i) xs)) ≡ parted (map decimal (take i xs)) ++ (space ∷ decimal (getD xs i 0))
+unfolding parted
+counts-suc xs i h = rw (take-suc xs i 0, map-append, parted-append) (simp append-nil)
+
+-- a list is not longer than it is
+pub take-min : {A : Type 0} (k : ℕ) (l : List A) → take (min k (length l)) l ≡ take k l
+take-min k l = go (leb k (length l)) refl
+  where
+    go : (b : Bool) → leb k (length l) ≡ b → take (min k (length l)) l ≡ take k l
+    go true e = ap (λ (n : ℕ). take n l) (min-eq-left (leb-true k (length l) e))
+    go false e =
+        let short : length l ≤ k = le-of-lt (leb-false k (length l) e) in
+        ap (λ (n : ℕ). take n l) (min-eq-right short) ∙ take-length l ∙ sym (take-all k l short)
+
+-- a line is its parts, one after another
+regroup : (a b c d e f g h i j : List ℕ) → (a ++ b) ++ (c ++ d) ++ (e ++ f) ++ g ++ h ++ i ++ j ≡ a ++ (b ++ (c ++ (d ++ (e ++ (f ++ (g ++ (h ++ i)))))) ++ j)
+regroup a b c d e f g h i j = simp append-assoc
+
+pub engineLine-parts : (n t m : ℕ) (xs : List ℕ)
+    → (engineWord ++ space ∷ decimal n)
+    ++ (space ∷ utilWord ++ space ∷ decimal t)
+    ++ (space ∷ memWord ++ space ∷ decimal m)
+    ++ (space ∷ [])
+    ++ typesWord
+    ++ parted (map decimal xs)
+    ++ (lineEnd ∷ [])
+    ≡ engineLine n t m xs
+unfolding engineLine parted
+engineLine-parts n t m xs =
+    regroup engineWord (space ∷ decimal n) (space ∷ utilWord) (space ∷ decimal t) (space ∷ memWord) (space ∷ decimal m) (space ∷ []) typesWord (parted (map decimal xs)) (lineEnd ∷ [])
+
+-- one engine more; its number is its place in the list, counted from a
+engines-suc : (k a : ℕ) (loads : List EngineLoad) (i : ℕ) (d : EngineLoad) → i < length loads
+    → recordLines k (take (suc i) (recordsFrom a loads)) ≡ recordLines k (take i (recordsFrom a loads)) ++ recordLine k (record { number = a + i; load = getD loads i d })
+unfolding recordLines recordsFrom
+engines-suc k a [] i d h = absurd (omega arith)
+engines-suc k a (l ∷ ls) zero d h = simp (append-nil, add-zero)
+engines-suc k a (l ∷ ls) (suc i) d h =
+    let first = recordLine k (record { number = a; load = l }) in
+    let lines = recordLines k (take i (recordsFrom (suc a) ls)) in
+    let same : suc a + i ≡ a + suc i = omega arith in
+    ap (λ (rest : List ℕ). first ++ rest) (engines-suc k (suc a) ls i d (omega arith))
+    ∙ sym (append-assoc first lines (recordLine k (record { number = suc a + i; load = getD ls i d })))
+    ∙ ap (λ (n : ℕ). first ++ lines ++ recordLine k (record { number = n; load = getD ls i d })) same
+
+pub lines-suc : (k : ℕ) (loads : List EngineLoad) (i : ℕ) (d : EngineLoad) → i < length loads
+    → recordLines k (take (i + 1) (recordsOf loads)) ≡ recordLines k (take i (recordsOf loads)) ++ recordLine k (record { number = i + 1; load = getD loads i d })
+lines-suc k loads i d h =
+    let same : 1 + i ≡ i + 1 = omega arith in
+    ap (λ (n : ℕ). recordLines k (take n (recordsOf loads))) (add-one i)
+    ∙ engines-suc k 1 loads i d h
+    ∙ ap (λ (n : ℕ). recordLines k (take i (recordsOf loads)) ++ recordLine k (record { number = n; load = getD loads i d })) same
+
+-- a line of one word and one number
+pub line-parts : (word : List ℕ) (n : ℕ) → word ++ (space ∷ decimal n) ++ (lineEnd ∷ []) ≡ line word (decimal n ∷ [])
+unfolding parted
+line-parts word n = simp (append-assoc, append-nil)
+
+-- what stands at the start of the buffer
+pub written : {bytes old new : List ℕ} {r : ℕ} → r ≤ length old → length new ≡ length old → Puts bytes 0 old new r → Written bytes old new r
+written {bytes = bytes} {old = old} {new = new} {r = r} h e p =
+    let inside : r ≤ length new = omega arith in
+    record {
+      left = p .left ∙ ap (λ (n : ℕ). bytes ++ drop n old) (zero-add (length bytes));
+      count = p .next ∙ zero-add (length bytes);
+      within = (inside, sym (length-take-le r new inside));
+    }
+
+-- the listing of what a plan promises
+pub listing-planned : {x : Reading} {table : List ℕ} {room : ℕ} {p : Plan} {after : List ℕ} → Plans x table room p after
+    → listingOf (outcomeOf (p .answer)) (p .used) (p .types) (p .loads) ≡ verdictListing (verdictOf x table room)
+listing-planned h = rw (h .answer, h .used, h .types, h .loads)
+
+-- a cut that leaves the longest file and one field more has the listing of the whole file
+pub listing-take : (n : ℕ) (file table : List ℕ) → longestFile + longestField ≤ n → fileListing (take n file) table ≡ fileListing file table
+listing-take n file table wide = ap (λ (x : Reading). verdictListing (verdictOf x table engineLimit)) (read-take n file wide)
+
+-- so the 128 bytes that program `plan` reads are enough
+pub listing-prefix : (file table : List ℕ) → fileListing (take 128 file) table ≡ fileListing file table
+listing-prefix file table = listing-take 128 file table (lit≤ tt)

@@ -1,0 +1,30 @@
+-- `listing`: the listing of the plan is that of the file, by what a plan promises.
+use Rattle.listing.proofs.Laws.{listing-planned}
+use Rattle.listing.proofs.Demands.{listing-demand2}
+use borrow.Author.Needs.{needs}
+use Rattle.listing.proofs.listing.Statement.{statement}
+use Rattle.listing.proofs.listing.Tie as tie
+
+plan-of-requires : tie.Need-plan-of-requires
+plan-of-requires c κs = search needs
+
+write-listing-requires : tie.Need-write-listing-requires
+write-listing-requires c κs = search needs
+
+same-length : tie.Need-same-length
+same-length c = search needs
+
+returns : tie.Need-returns
+returns c =
+    let planned = c .before .before .before .before in
+    let args = planned .before .before .before .before .args in
+    let promises = planned .plan-of .ensures in
+    let text = listing-planned (promises .plans) in
+    record {
+      written = rw text at (c .write-listing .ensures);
+      leavesTable = promises .plans .left;
+      demand2 = rw text at (listing-demand2 (args .file .now) (args .table .now) (planned .plan-of .result) (planned .plan-of .last .1 .0) promises);
+    }
+
+pub listing-spec : {M : Type 1} → statement M
+listing-spec = tie.close (tie.spec plan-of-requires write-listing-requires same-length returns)

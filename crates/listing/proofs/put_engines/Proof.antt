@@ -1,0 +1,96 @@
+-- `put_engines`. The loop's invariant: the lines of the first i engines stand at `at`, and take at most 211 bytes each.
+use borrow.Author.Needs.{needs}
+use Prim.Native.Nat.{ℕ, _+_, _-_, _*_, _≤_, _<_, min}
+use mathlib.Core.Path.{_≡_, refl, sym, ap, _∙_}
+use mathlib.Core.List.{[]}
+use native.Mathlib.Nat.{min-le-right}
+use native.Mathlib.Omega.{arith}
+use lib.ListN.{length, take}
+use Rattle.planner.specs.Plan.{recordsOf}
+use Rattle.loads.specs.declared.EngineLoad.{EngineLoad}
+use Rattle.planner.proofs.Records.{length-recordsFrom}
+use Rattle.listing.specs.Listing.{recordLines}
+use Rattle.listing.specs.Written.{Puts}
+use Rattle.listing.proofs.Laws.{puts-then, puts-none, lines-suc, take-min}
+use Rattle.listing.proofs.put_engines.Statement.{statement}
+use Rattle.listing.proofs.put_engines.Tie as tie
+
+-- what the code would read past the end of the loads
+abbrev past : EngineLoad
+past = record { time = 0; memory = 0; counts = [] }
+
+abbrev Inv-loop : tie.InvT-loop
+Inv-loop out₀ at used types loads end next₀ i₀ out next i =
+    (i ≤ end) × (length out ≡ length out₀) × (next ≤ at + 211 * i) × Puts (recordLines types (take i (recordsOf loads))) at out₀ out next
+
+abbrev μ-loop : tie.MeasureT-loop
+μ-loop out₀ at used types loads end next₀ i₀ out next i = end - i
+
+least-requires : tie.Need-least-requires Inv-loop μ-loop
+least-requires c κs = search needs
+
+loop-holds : tie.Need-loop-holds Inv-loop μ-loop
+unfolding recordLines
+loop-holds c = (search needs, refl, search needs, puts-none (c .before .before .args .at) (c .before .before .args .out .now))
+
+add-put-engine : tie.Need-add-put-engine Inv-loop μ-loop
+add-put-engine c = search needs
+
+mul-put-engine : tie.Need-mul-put-engine Inv-loop μ-loop
+mul-put-engine c = search needs
+
+array-copy-out-put-engine : tie.Need-array-copy-out-put-engine Inv-loop μ-loop
+array-copy-out-put-engine c = search needs
+
+put-engine-requires : tie.Need-put-engine-requires Inv-loop μ-loop
+put-engine-requires c κs = search needs
+
+add-i : tie.Need-add-i Inv-loop μ-loop
+add-i c = search needs
+
+loop-less : tie.Need-loop-less Inv-loop μ-loop
+loop-less c = search needs
+
+loop-again : tie.Need-loop-again Inv-loop μ-loop
+loop-again c =
+    let engine = c .before .before in
+    let turn = engine .before .before .before .before in
+    let start = turn .before .before .before in
+    let l : length (start .args .t3) ≡ 16 = search needs in
+    let more : turn .loop .i < length (start .args .t3) = omega (arith, min-le-right (start .args .used) 16) in (
+      omega arith,
+      engine .put-engine .kept .0 ∙ turn .loop .inv .1,
+      omega arith,
+      rw (lines-suc (start .args .types) (start .args .t3) (turn .loop .i) past more) (puts-then (omega arith) (turn .loop .inv .3) (engine .put-engine .ensures .0)),
+    )
+
+same-length : tie.Need-same-length Inv-loop μ-loop
+same-length c = search needs
+
+returns : tie.Need-returns Inv-loop μ-loop
+returns c =
+    let start = c .before .before .before .before in
+    let turns : c .before .loop .i ≡ min (start .args .used) 16 = omega arith in
+    let l : length (start .args .t3) ≡ 16 = search needs in
+    let records : length (recordsOf (start .args .t3)) ≡ 16 = length-recordsFrom 1 (start .args .t3) ∙ l in
+    let whole : take (c .before .loop .i) (recordsOf (start .args .t3)) ≡ take (start .args .used) (recordsOf (start .args .t3)) =
+    ap (λ (n : ℕ). take n (recordsOf (start .args .t3))) (turns ∙ ap (min (start .args .used)) (sym records)) ∙ take-min (start .args .used) (recordsOf (start .args .t3)) in
+    (rw whole at (c .before .loop .inv .3), omega (arith, min-le-right (start .args .used) 16))
+
+pub put-engines-spec : {M : Type 1} → statement M
+put-engines-spec =
+    tie.close
+    (tie.spec
+    Inv-loop
+    μ-loop
+    least-requires
+    loop-holds
+    add-put-engine
+    mul-put-engine
+    array-copy-out-put-engine
+    put-engine-requires
+    add-i
+    loop-less
+    loop-again
+    same-length
+    returns)

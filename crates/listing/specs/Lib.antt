@@ -1,0 +1,4 @@
+-- The definitions of crate `listing`, in reading order.
+pub mod Listing
+pub mod Written
+pub mod Demands

@@ -1,0 +1,93 @@
+-- Document 01's "Listing": the bytes that program `plan` writes, over the plan's definition.
+use Prim.Native.Nat.{ℕ, zero, suc, _+_, _/_, _%_}
+use mathlib.Core.List.{List, [], _∷_, _++_, map}
+use mathlib.Core.Bool.{cond}
+use lib.ListN.{take}
+use lib.Dec.{ltb}
+use Rattle.system.specs.Limits.{engineLimit}
+use Rattle.system.specs.Layout.{readFile}
+use Rattle.system.specs.Outcome.{Outcome, accepted, refused}
+use Rattle.loads.specs.declared.EngineLoad.{EngineLoad}
+use Rattle.planner.specs.declared.EngineRecord.{EngineRecord}
+use Rattle.planner.specs.Plan.{Verdict, verdictOf, planOutcome, usedEngines, plannedTypes, planLoads, recordsOf}
+
+-- the words of a listing, as bytes
+abbrev pub enginesWord : List ℕ
+enginesWord = 101 ∷ 110 ∷ 103 ∷ 105 ∷ 110 ∷ 101 ∷ 115 ∷ []
+
+abbrev pub engineWord : List ℕ
+engineWord = 101 ∷ 110 ∷ 103 ∷ 105 ∷ 110 ∷ 101 ∷ []
+
+abbrev pub utilWord : List ℕ
+utilWord = 117 ∷ 116 ∷ 105 ∷ 108 ∷ []
+
+abbrev pub memWord : List ℕ
+memWord = 109 ∷ 101 ∷ 109 ∷ []
+
+abbrev pub typesWord : List ℕ
+typesWord = 116 ∷ 121 ∷ 112 ∷ 101 ∷ 115 ∷ []
+
+abbrev pub refusedWord : List ℕ
+refusedWord = 114 ∷ 101 ∷ 102 ∷ 117 ∷ 115 ∷ 101 ∷ 100 ∷ []
+
+abbrev pub space : ℕ
+space = 32
+
+abbrev pub lineEnd : ℕ
+lineEnd = 10
+
+-- the digit d as a byte: 48 is `0`
+abbrev pub digit : ℕ → ℕ
+digit d = 48 + d
+
+-- a number in decimal, with no zero in front. Each step takes a digit off, so as many steps as the number itself are enough
+unfoldable pub decimalFrom : ℕ → ℕ → List ℕ
+decimalFrom zero n = digit n ∷ []
+decimalFrom (suc f) n =
+    let before = decimalFrom f (n / 10) in
+    cond (ltb n 10) (digit n ∷ []) (before ++ (digit (n % 10) ∷ []))
+
+abbrev pub decimal : ℕ → List ℕ
+decimal n = decimalFrom n n
+
+-- what follows a line's first word: each further word or number after one space
+unfoldable pub parted : List (List ℕ) → List ℕ
+parted [] = []
+parted (w ∷ ws) = space ∷ (w ++ parted ws)
+
+-- "Words and numbers are parted by one space, and every line ends with the byte 0A"
+abbrev pub line : List ℕ → List (List ℕ) → List ℕ
+line first rest = first ++ (parted rest ++ (lineEnd ∷ []))
+
+-- the line of an engine: "its number, time, memory and a count per type"
+unfoldable pub engineLine : ℕ → ℕ → ℕ → List ℕ → List ℕ
+engineLine number time memory counts =
+    line engineWord (decimal number ∷ utilWord ∷ decimal time ∷ memWord ∷ decimal memory ∷ typesWord ∷ map decimal counts)
+
+-- of a record, with the counts of the first k types
+abbrev pub recordLine : ℕ → EngineRecord → List ℕ
+recordLine k e = engineLine (e .number) (e .load .time) (e .load .memory) (take k (e .load .counts))
+
+unfoldable pub recordLines : ℕ → List EngineRecord → List ℕ
+recordLines k [] = []
+recordLines k (e ∷ es) = recordLine k e ++ recordLines k es
+
+-- "First the used engines, then for each its number, .."
+abbrev pub planLines : ℕ → ℕ → List EngineLoad → List ℕ
+planLines used k loads = line enginesWord (decimal used ∷ []) ++ recordLines k (take used (recordsOf loads))
+
+-- "A refusal is one line, as `refused 12`"
+abbrev pub refusalLine : ℕ → List ℕ
+refusalLine n = line refusedWord (decimal n ∷ [])
+
+unfoldable pub listingOf : Outcome → ℕ → ℕ → List EngineLoad → List ℕ
+listingOf (accepted ns) used k loads = planLines used k loads
+listingOf (refused s n) used k loads = refusalLine n
+
+-- the listing of a verdict on a system file
+abbrev pub verdictListing : Verdict → List ℕ
+verdictListing v = listingOf (planOutcome v) (usedEngines v) (plannedTypes v) (planLoads v)
+
+-- the listing of a file, planned over the lent table
+abbrev pub fileListing : List ℕ → List ℕ → List ℕ
+fileListing file table = verdictListing (verdictOf (readFile file) table engineLimit)
