@@ -1,0 +1,11 @@
+-- The theorems of crate `board`, in the order of their proofs.
+pub mod Truth
+pub mod TrueMeans
+pub mod Demand1
+pub mod Views
+pub mod Means
+pub mod Order
+pub mod Steps
+pub mod Ready
+pub mod Exits
+pub mod Promises

@@ -1,0 +1,5 @@
+-- The definitions of crate `board`, in reading order.
+pub mod Truth
+pub mod Calls
+pub mod Meaning
+pub mod Inner

@@ -1,0 +1,87 @@
+// Opening a board, and the four calls: admit, seat, retire, repack. Each checks first and works second.
+ghost use mathlib.Core.Path.{_≡_};
+ghost use mathlib.Core.Bool.{true};
+ghost use mathlib.Core.List.{[]};
+ghost use Rattle.system.specs.Layout.{readFile, readOutcome};
+ghost use Rattle.system.specs.Outcome.{outcomeOf};
+ghost use Rattle.table.specs.Table.{longEnough};
+ghost use Rattle.board.specs.Truth.{openedBoard, trueBoard};
+ghost use Rattle.board.specs.Calls.{admitOf, seatOf, retireOf, repackOf, gave, Does};
+ghost use Rattle.board.specs.Meaning.{Demand1, AdmitMeans, SeatMeans, RetireMeans, RepackMeans};
+use crate::Board;
+use crate::Check;
+use crate::Place;
+use crate::Turn;
+use crate::checks;
+use crate::state;
+use crate::work;
+
+// The fresh board of a system file, or the blank board where the file is refused.
+pub fn open_board(file: &[u8]) -> Turn
+    ensures { λ r. ⌜ (outcomeOf (r .answer) ≡ readOutcome (readFile (now (file .entry)))) × (r .board ≡ openedBoard (readFile (now (file .entry)))) ⌝ }
+{
+    let o = system::read_system(file);
+    let y = o.system;
+    let a = o.answer;
+    Turn {
+        answer: a,
+        board: work::empty_board(y),
+    }
+}
+
+// Admit: the newcomer goes to the lowest-numbered engine that takes it; the table is filled only if there is none.
+pub fn admit(b: Board, t: usize, table: &mut [u16]) -> Turn
+    ensures { λ r. ⌜ Does (admitOf b t (now (table .entry))) r (now (table .exit)) ⌝ }
+    ensures { λ r. ⌜ Demand1 b (now (table .entry)) (gave r (now (table .exit))) ⌝ }
+    ensures { λ r. ⌜ (trueBoard b ≡ true → longEnough (b .system) (now (table .entry)) ≡ true → AdmitMeans b t (gave r (now (table .exit)))) ⌝ }
+{
+    let check = checks::check_newcomer(b, t, table.len());
+    if let Check::Fails(why) = check {
+        return work::refuse(b, why);
+    }
+    let Place::Engine(e) = work::first_engine(b, t) else {
+        return work::no_engine(b, t, table);
+    };
+    work::join(b, t, e)
+}
+
+// Seat: the whole board becomes the recovery of what stands with the newcomer.
+pub fn seat(b: Board, t: usize, table: &mut [u16]) -> Turn
+    ensures { λ r. ⌜ Does (seatOf b t (now (table .entry))) r (now (table .exit)) ⌝ }
+    ensures { λ r. ⌜ Demand1 b (now (table .entry)) (gave r (now (table .exit))) ⌝ }
+    ensures { λ r. ⌜ (trueBoard b ≡ true → longEnough (b .system) (now (table .entry)) ≡ true → SeatMeans b t (gave r (now (table .exit)))) ⌝ }
+{
+    let check = checks::check_newcomer(b, t, table.len());
+    if let Check::Fails(why) = check {
+        return work::refuse(b, why);
+    }
+    let counts = work::with_newcomer(b, t);
+    work::reseat(b, counts, table)
+}
+
+// Retire: one instance of type t leaves engine e.
+pub fn retire(b: Board, t: usize, e: usize) -> Turn
+    ensures { λ r. ⌜ Does (retireOf b t e []) r [] ⌝ }
+    ensures { λ r. ⌜ Demand1 b [] (gave r []) ⌝ }
+    ensures { λ r. ⌜ (trueBoard b ≡ true → RetireMeans b t e (gave r [])) ⌝ }
+{
+    let check = checks::check_retire(b, t, e);
+    if let Check::Fails(why) = check {
+        return work::refuse(b, why);
+    }
+    work::leave(b, t, e)
+}
+
+// Repack: the board becomes the recovery of what stands.
+pub fn repack(b: Board, table: &mut [u16]) -> Turn
+    ensures { λ r. ⌜ Does (repackOf b (now (table .entry))) r (now (table .exit)) ⌝ }
+    ensures { λ r. ⌜ Demand1 b (now (table .entry)) (gave r (now (table .exit))) ⌝ }
+    ensures { λ r. ⌜ (trueBoard b ≡ true → longEnough (b .system) (now (table .entry)) ≡ true → RepackMeans b (gave r (now (table .exit)))) ⌝ }
+{
+    let check = checks::check_repack(b, table.len());
+    if let Check::Fails(why) = check {
+        return work::refuse(b, why);
+    }
+    let counts = state::standing_counts(b);
+    work::reseat(b, counts, table)
+}

@@ -1,0 +1,160 @@
+// The work of a call once its checks have passed.
+ghost use mathlib.Core.Path.{_≡_};
+ghost use mathlib.Core.Bool.{true};
+ghost use Prim.Native.Nat.{_-_, _≤_};
+ghost use Rattle.system.specs.Limits.{engineLimit, keepsLimits};
+ghost use Rattle.system.specs.Values.{ceilingsOf};
+ghost use Rattle.loads.specs.Load.{fitsEngine, within, oneMore, oneLess};
+ghost use Rattle.table.specs.Table.{longEnough};
+ghost use Rattle.board.specs.Truth.{emptyBoard, loadAt, withLoad};
+ghost use Rattle.board.specs.Calls.{knownType, takes, withNewcomer, firstEngine, crowded, reseated, Does};
+ghost use Rattle.board.specs.Inner.{placeOf, CheckedNewcomer, OnEngine};
+use crate::Board;
+use crate::Place;
+use crate::Turn;
+use crate::state;
+use system::Answer;
+use system::Refusal;
+use system::System;
+
+// A board on which nothing stands.
+pub fn empty_board(y: System) -> Board
+    ensures { λ r. ⌜ r ≡ emptyBoard y ⌝ }
+{
+    Board {
+        system: y,
+        loads: [loads::idle_engine(); 16],
+    }
+}
+
+// A refusal hands back the board as it was given.
+pub fn refuse(b: Board, why: Refusal) -> Turn
+    ensures { λ r. ⌜ (r .answer ≡ Answer.Refused why) × (r .board ≡ b) ⌝ }
+{
+    Turn {
+        answer: Answer::Refused(why),
+        board: b,
+    }
+}
+
+// The board with this load on engine e, its sums computed anew.
+fn with_load(b: Board, e: usize, counts: [u16; 6]) -> Board
+    requires { ⌜ (1 ≤ e) × (e ≤ engineLimit) × (fitsEngine (b .system) counts ≡ true) ⌝ }
+    ensures { λ r. ⌜ r ≡ withLoad b e counts ⌝ }
+{
+    let i = e - 1;
+    let y = b.system;
+    let mut next = b;
+    next.loads[i] = loads::engine_with(y, counts);
+    next
+}
+
+// What engine e would hold with a newcomer of type t.
+fn load_with(b: Board, t: usize, e: usize) -> [u16; 6]
+    requires { ⌜ CheckedNewcomer b t × OnEngine b e ⌝ }
+    ensures { λ r. ⌜ r ≡ oneMore (t - 1) (loadAt b e) ⌝ }
+{
+    let counts = state::load_at(b, e);
+    loads::one_more(counts, t - 1)
+}
+
+// Engine e takes a newcomer of type t.
+fn takes_it(b: Board, t: usize, e: usize) -> bool
+    requires { ⌜ CheckedNewcomer b t × OnEngine b e ⌝ }
+    ensures { λ r. ⌜ r ≡ takes b t e ⌝ }
+{
+    let y = b.system;
+    loads::fits_engine(y, load_with(b, t, e))
+}
+
+// The lowest-numbered engine that takes a newcomer of type t.
+pub fn first_engine(b: Board, t: usize) -> Place
+    requires { ⌜ CheckedNewcomer b t ⌝ }
+    ensures { λ r. ⌜ r ≡ placeOf (b .system .engines) (firstEngine b t) ⌝ }
+{
+    let y = b.system;
+    let mut e: usize = 1;
+    while e <= y.engines {
+        if takes_it(b, t, e) {
+            return Place::Engine(e);
+        }
+        e += 1;
+    }
+    Place::Nowhere
+}
+
+// What stands with a newcomer of type t.
+pub fn with_newcomer(b: Board, t: usize) -> [u16; 6]
+    requires { ⌜ CheckedNewcomer b t ⌝ }
+    ensures { λ r. ⌜ r ≡ withNewcomer b t ⌝ }
+{
+    let counts = state::standing_counts(b);
+    loads::one_more(counts, t - 1)
+}
+
+// A newcomer of type t joins engine e, which takes it.
+pub fn join(b: Board, t: usize, e: usize) -> Turn
+    requires { ⌜ CheckedNewcomer b t × OnEngine b e × (takes b t e ≡ true) ⌝ }
+    ensures { λ r. ⌜ (r .answer ≡ Answer.Number e) × (r .board ≡ withLoad b e (oneMore (t - 1) (loadAt b e))) ⌝ }
+{
+    let counts = load_with(b, t, e);
+    Turn {
+        answer: Answer::Number(e),
+        board: with_load(b, e, counts),
+    }
+}
+
+// What engine e would hold without one of its instances of type t.
+fn load_without(b: Board, t: usize, e: usize) -> [u16; 6]
+    requires { ⌜ OnEngine b e × (knownType (b .system) t ≡ true) ⌝ }
+    ensures { λ r. ⌜ r ≡ oneLess (t - 1) (loadAt b e) ⌝ }
+{
+    let counts = state::load_at(b, e);
+    loads::one_less(counts, t - 1)
+}
+
+// One instance of type t leaves engine e.
+pub fn leave(b: Board, t: usize, e: usize) -> Turn
+    requires { ⌜ OnEngine b e × (knownType (b .system) t ≡ true) ⌝ }
+    ensures { λ r. ⌜ (r .answer ≡ Answer.Accepted) × (r .board ≡ withLoad b e (oneLess (t - 1) (loadAt b e))) ⌝ }
+{
+    let counts = load_without(b, t, e);
+    Turn {
+        answer: Answer::Accepted,
+        board: with_load(b, e, counts),
+    }
+}
+
+// The whole board becomes the recovery of a load within the ceilings; 24 where there is none.
+pub fn reseat(b: Board, counts: [u16; 6], table: &mut [u16]) -> Turn
+    requires { ⌜ (keepsLimits (b .system) ≡ true) × (longEnough (b .system) (now table) ≡ true) × (within counts (ceilingsOf (b .system)) ≡ true) ⌝ }
+    ensures { λ r. ⌜ Does (reseated b counts (now (table .entry))) r (now (table .exit)) ⌝ }
+{
+    let y = b.system;
+    let found = table::place(table, y, counts);
+    if !found.placed {
+        return refuse(b, Refusal::State(24));
+    }
+    let loads = found.loads;
+    Turn {
+        answer: Answer::Accepted,
+        board: Board {
+            system: y,
+            loads: loads,
+        },
+    }
+}
+
+// No engine takes a newcomer of type t: 23 if a good assignment of all with it exists, else 24.
+pub fn no_engine(b: Board, t: usize, table: &mut [u16]) -> Turn
+    requires { ⌜ CheckedNewcomer b t × (longEnough (b .system) (now table) ≡ true) ⌝ }
+    ensures { λ r. ⌜ Does (crowded b t (now (table .entry))) r (now (table .exit)) ⌝ }
+{
+    let y = b.system;
+    let counts = with_newcomer(b, t);
+    let found = table::place(table, y, counts);
+    if found.placed {
+        return refuse(b, Refusal::State(23));
+    }
+    refuse(b, Refusal::State(24))
+}

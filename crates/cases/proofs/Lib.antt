@@ -1,0 +1,2 @@
+-- The theorem of crate `cases`.
+pub mod Shown

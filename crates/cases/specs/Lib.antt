@@ -1,0 +1,2 @@
+-- The definitions of crate `cases`.
+pub mod Cases

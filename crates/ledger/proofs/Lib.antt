@@ -1,0 +1,3 @@
+-- The theorems of crate `ledger`, in the order of their proofs.
+pub mod Step
+pub mod Demand3

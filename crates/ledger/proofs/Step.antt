@@ -1,0 +1,210 @@
+-- One call on the board and in the ledger of the same valid loads: the same answer, and again the same valid loads.
+use Prim.Native.Nat.{ℕ, _+_, _-_, _≤_, _<_}
+use mathlib.Core.Path.{_≡_, refl, sym, ap, subst, _∙_}
+use mathlib.Core.List.{List, [], _∷_}
+use mathlib.Core.Bool.{Bool, true, false, cond, _&&_, and-false, and-true}
+use native.Mathlib.Nat.{add-zero}
+use native.Mathlib.Omega.{arith}
+use borrow.Author.Tests.{leb-true, leb-false, le-leb, lt-leb, eqb-true, eqb-false, eq-eqb, ne-eqb}
+use lib.ListN.{getD, set}
+use lib.Dec.{leb, eqb}
+use Rattle.system.specs.declared.System.{System}
+use Rattle.system.specs.Values.{ceilingsOf}
+use Rattle.system.specs.Limits.{keepsLimits, typeLimit}
+use Rattle.system.specs.Outcome.{Source, accepted, refused, fromInput, fromState, isAccepted}
+use Rattle.system.proofs.Laws.{Limits, limits-of}
+use Rattle.loads.specs.Load.{oneLess}
+use Rattle.loads.proofs.Order.{and-parts}
+use Rattle.loads.proofs.Change.{getD-oneMore, getD-oneLess}
+use Rattle.partition.specs.Shares.{usedLoads}
+use Rattle.partition.specs.ForSystem.{placeable, recoveredFor, OnFewest}
+use Rattle.partition.proofs.ForSystem.{someGood-placeable}
+use Rattle.partition.proofs.Standing.{Valid, total, length-total, count-le-sum, total-joined, valid-joined, total-left, valid-left, total-recovered, valid-recovered}
+use Rattle.table.specs.Table.{longEnough, filled}
+use Rattle.board.specs.declared.Board.{Board}
+use Rattle.board.specs.Truth.{countsOf, standing}
+use Rattle.board.specs.Calls.{Result, result, knownType}
+use Rattle.board.specs.Meaning.{Packed}
+use Rattle.board.proofs.Truth.{boardOn, board-true}
+use Rattle.board.proofs.Views.{joinedAt, withOne, countIn, leftAt, firstIn, Newcomer, TakesFirst, AdmitView, SeatView, RetireView, known-engine, length-withOne, withOne-within, admit-view, seat-view, retire-view, total-placeable, repack-view}
+use Rattle.board.proofs.Means.{admit-means, seat-means, retire-means, repack-means}
+use Rattle.ledger.specs.Ledger.{Call, admit, seat, retire, repack, Ledger, ledgerWith, stands, exists, Entry, entry, admitEntry, seatEntry, retireEntry, repackEntry, step}
+use Rattle.ledger.specs.Demand3.{callOn, lendsTable, addsType, retiresType, CallKept}
+
+-- what one call does to the board and the ledger of the loads xs
+pub record Step (y : System) (xs : List (List ℕ)) (c : Call) (table : List ℕ) : Type 0 where
+  pub rows : List (List ℕ)
+  pub valid : Valid y rows
+  pub board : callOn (boardOn y xs) c table .board ≡ boardOn y rows
+  pub ledger : step (ledgerWith y xs) c .ledger ≡ ledgerWith y rows
+  pub answer : callOn (boardOn y xs) c table .outcome ≡ step (ledgerWith y xs) c .answer
+  pub stand : (t : ℕ) → 1 ≤ t
+      → getD (total rows) (t - 1) 0 + cond (retiresType t c && isAccepted (callOn (boardOn y xs) c table .outcome)) 1 0
+      ≡ getD (total xs) (t - 1) 0 + cond (addsType t c && isAccepted (callOn (boardOn y xs) c table .outcome)) 1 0
+
+-- type numbers and their indexes
+same-number : (t u : ℕ) → 1 ≤ t → 1 ≤ u → eqb (t - 1) (u - 1) ≡ eqb t u
+same-number t u h k = go (eqb t u) refl
+  where
+    go : (p : Bool) → eqb t u ≡ p → eqb (t - 1) (u - 1) ≡ p
+    go true e = eq-eqb (t - 1) (u - 1) (ap (λ (n : ℕ). n - 1) (eqb-true t u e))
+    go false e = ne-eqb (t - 1) (u - 1) (λ q. eqb-false t u e (omega arith))
+
+module _ (y : System) (xs : List (List ℕ)) (keeps : keepsLimits y ≡ true) (v : Valid y xs) where
+  abbrev b : Board
+  b = boardOn y xs
+
+  abbrev l : Ledger
+  l = ledgerWith y xs
+
+  limits : Limits y
+  limits = limits-of y keeps
+
+  -- intermediate: the two ways that a call ends
+
+  refused-step : (c : Call) (table : List ℕ) (s : Source) (n : ℕ) (after : List ℕ) → callOn b c table ≡ result (refused s n) b after → step l c ≡ entry (refused s n) l → Step y xs c table
+  refused-step c table s n after p q = record {
+    rows = xs;
+    valid = v;
+    board = ap (λ (r : Result). r .board) p;
+    ledger = ap (λ (e : Entry). e .ledger) q;
+    answer = ap (λ (r : Result). r .outcome) p ∙ sym (ap (λ (e : Entry). e .answer) q);
+    stand = λ t h. rw (p, and-false (retiresType t c), and-false (addsType t c));
+  }
+
+  accepted-step : (c : Call) (table : List ℕ) (ns : List ℕ) (rows : List (List ℕ)) (after : List ℕ) → Valid y rows
+      → callOn b c table ≡ result (accepted ns) (boardOn y rows) after → step l c ≡ entry (accepted ns) (ledgerWith y rows)
+      → ((t : ℕ) → 1 ≤ t → getD (total rows) (t - 1) 0 + cond (retiresType t c) 1 0 ≡ getD (total xs) (t - 1) 0 + cond (addsType t c) 1 0)
+      → Step y xs c table
+  accepted-step c table ns rows after w p q count = record {
+    rows = rows;
+    valid = w;
+    board = ap (λ (r : Result). r .board) p;
+    ledger = ap (λ (e : Entry). e .ledger) q;
+    answer = ap (λ (r : Result). r .outcome) p ∙ sym (ap (λ (e : Entry). e .answer) q);
+    stand = λ t h. rw (p, and-true (retiresType t c), and-true (addsType t c)) (count t h);
+  }
+
+  -- intermediate: the numbers of a newcomer
+
+  known-type : (t : ℕ) → knownType y t ≡ true → (1 ≤ t) × (t ≤ y .types)
+  known-type t h =
+      let p = and-parts (leb 1 t) (leb t (y .types)) h in
+      (leb-true 1 t (p .0), leb-true t (y .types) (p .1))
+
+  one-more : (t : ℕ) (rows : List (List ℕ)) → knownType y t ≡ true → total rows ≡ withOne xs t
+      → (u : ℕ) → 1 ≤ u → getD (total rows) (u - 1) 0 + 0 ≡ getD (total xs) (u - 1) 0 + cond (eqb t u) 1 0
+  one-more t rows k e u h =
+      let p = known-type t k in
+      add-zero (getD (total rows) (u - 1) 0)
+      ∙ ap (λ (x : List ℕ). getD x (u - 1) 0) e
+      ∙ getD-oneMore (t - 1) (u - 1) (total xs) (omega (arith, p .0, p .1, limits .types, length-total v))
+      ∙ ap (λ (q : Bool). getD (total xs) (u - 1) 0 + cond q 1 0) (same-number t u (p .0) h)
+
+  exists-one : (t : ℕ) → Newcomer y xs t → exists l (withOne xs t) ≡ placeable y (withOne xs t)
+  exists-one t n = someGood-placeable y limits (withOne xs t) (length-withOne y xs keeps v t) (withOne-within y xs keeps v t n)
+
+  -- main: admit
+
+  admit-step : (t : ℕ) (table : List ℕ) → longEnough y table ≡ true → Step y xs (admit t) table
+  unfolding step admitEntry
+  admit-step t table long = by-view (admit-view y xs keeps v t table long)
+    where
+      by-view : AdmitView y xs t table (callOn b (admit t) table) → Step y xs (admit t) table
+      by-view (AdmitView.unknown k s) = refused-step (admit t) table fromInput 13 table s (rw k)
+      by-view (AdmitView.full k f s) = refused-step (admit t) table fromState 21 table s (rw (k, f))
+      by-view (AdmitView.joins e n f s) =
+          accepted-step (admit t) table (e ∷ []) (set xs (e - 1) (joinedAt xs t e)) table
+          (valid-joined y xs v (e - 1) (t - 1) (index e f) (leb-false (getD (ceilingsOf y) (t - 1) 0) (getD (total xs) (t - 1) 0) (n .notFull)) (f .takes .fit))
+          s
+          (rw (n .known, n .notFull, f .first, le-leb e (y .engines) (f .takes .most)))
+          (one-more t (set xs (e - 1) (joinedAt xs t e)) (n .known) (total-joined y xs v (e - 1) (t - 1) (index e f)))
+        where
+          index : (d : ℕ) → TakesFirst y xs t d → d - 1 < y .engines
+          index d g = omega (arith, g .takes .least, g .takes .most)
+      by-view (AdmitView.tight n f can s) =
+          refused-step (admit t) table fromState 23 (filled y table) s
+          (rw (n .known, n .notFull, lt-leb (firstIn y xs t) (y .engines) (f .past), exists-one t n, can))
+      by-view (AdmitView.noRoom n f cannot s) =
+          refused-step (admit t) table fromState 24 (filled y table) s
+          (rw (n .known, n .notFull, lt-leb (firstIn y xs t) (y .engines) (f .past), exists-one t n, cannot))
+
+  -- main: seat
+
+  seat-step : (t : ℕ) (table : List ℕ) → longEnough y table ≡ true → Step y xs (seat t) table
+  unfolding step seatEntry
+  seat-step t table long = by-view (seat-view y xs keeps v t table long)
+    where
+      by-view : SeatView y xs t table (callOn b (seat t) table) → Step y xs (seat t) table
+      by-view (SeatView.unknown k s) = refused-step (seat t) table fromInput 13 table s (rw k)
+      by-view (SeatView.full k f s) = refused-step (seat t) table fromState 21 table s (rw (k, f))
+      by-view (SeatView.seats n can s) =
+          let six = length-withOne y xs keeps v t in
+          let below = withOne-within y xs keeps v t n in
+          accepted-step (seat t) table [] (recoveredFor (y .engines) y (withOne xs t)) (filled y table)
+          (valid-recovered y limits (withOne xs t) six below can)
+          s
+          (rw (n .known, n .notFull, exists-one t n, can))
+          (one-more t (recoveredFor (y .engines) y (withOne xs t)) (n .known) (total-recovered y limits (withOne xs t) six below can))
+      by-view (SeatView.noRoom n cannot s) =
+          refused-step (seat t) table fromState 24 (filled y table) s (rw (n .known, n .notFull, exists-one t n, cannot))
+
+  -- main: retire
+
+  retire-step : (t e : ℕ) (table : List ℕ) → Step y xs (retire t e) table
+  unfolding step retireEntry
+  retire-step t e table = by-view (retire-view y xs keeps v t e table)
+    where
+      by-view : RetireView y xs t table (callOn b (retire t e) table) e → Step y xs (retire t e) table
+      by-view (RetireView.unknown k s) = refused-step (retire t e) table fromInput 13 table s (rw k)
+      by-view (RetireView.noEngine k d s) = refused-step (retire t e) table fromInput 14 table s (rw (k, d))
+      by-view (RetireView.noneThere k d z s) = refused-step (retire t e) table fromState 22 table s (rw (k, d, eq-eqb (countIn xs t e) 0 z))
+      by-view (RetireView.leaves k d held s) =
+          accepted-step (retire t e) table [] (set xs (e - 1) (leftAt xs t e)) table
+          (valid-left y xs v (e - 1) (t - 1) index held)
+          s
+          (rw (k, d, ne-eqb (countIn xs t e) 0 (λ z. omega arith)))
+          (λ u h.
+          ap (λ (x : List ℕ). getD x (u - 1) 0 + cond (eqb t u) 1 0) (total-left y xs v (e - 1) (t - 1) index held)
+          ∙ ap (λ (q : Bool). getD (oneLess (t - 1) (total xs)) (u - 1) 0 + cond q 1 0) (sym (same-number t u (known-type t k .0) h))
+          ∙ getD-oneLess (t - 1) (u - 1) (total xs) (omega (arith, held, count-le-sum typeLimit xs (e - 1) (t - 1) (v .sized) (omega (arith, index, v .rows))))
+          ∙ sym (add-zero (getD (total xs) (u - 1) 0)))
+        where
+          index : e - 1 < y .engines
+          index = let at = known-engine y xs keeps v e d in omega (arith, at .0, at .1)
+
+  -- main: repack
+
+  repack-step : (table : List ℕ) → longEnough y table ≡ true → Step y xs repack table
+  unfolding step repackEntry
+  repack-step table long =
+      let can = total-placeable y xs keeps v in
+      accepted-step repack table [] (recoveredFor (y .engines) y (total xs)) (filled y table)
+      (valid-recovered y limits (total xs) (length-total v) (v .ceiling) can)
+      (repack-view y xs keeps v table long)
+      refl
+      (λ u h. ap (λ (x : List ℕ). getD x (u - 1) 0 + 0) (total-recovered y limits (total xs) (length-total v) (v .ceiling) can))
+
+  -- main: every call
+
+  pub step-of : (c : Call) (table : List ℕ) → (lendsTable c ≡ true → longEnough y table ≡ true) → Step y xs c table
+  step-of (admit t) table long = admit-step t table (long refl)
+  step-of (seat t) table long = seat-step t table (long refl)
+  step-of (retire t e) table long = retire-step t e table
+  step-of repack table long = repack-step table (long refl)
+
+  -- what demand 3 says of the call, on the board that it is given
+  packed-fewest : (x : List ℕ) (after : Board) → Packed b x after → OnFewest y (standing after) (after .loads) (usedLoads (countsOf (after .loads)))
+  packed-fewest x after p = subst (λ (z : List ℕ). OnFewest y z (after .loads) (usedLoads (countsOf (after .loads)))) (sym (p .stands)) (p .fewest)
+
+  pub kept-of : (c : Call) (table : List ℕ) → (lendsTable c ≡ true → longEnough y table ≡ true) → CallKept b c (callOn b c table)
+  kept-of (admit t) table long =
+      let m = admit-means b t table (board-true y xs keeps v) (long refl) in
+      λ h. (m .admits h, m .noRoom h)
+  kept-of (seat t) table long =
+      let m = seat-means b t table (board-true y xs keeps v) (long refl) in
+      ((λ h. (m .seats h, m .noRoom h)), (λ a. packed-fewest _ _ (m .packs a)))
+  kept-of (retire t e) table long = retire-means b t e table (board-true y xs keeps v) .retires
+  kept-of repack table long =
+      let m = repack-means b table (board-true y xs keeps v) (long refl) in
+      (m .repacks, packed-fewest _ _ (m .packs))

@@ -1,0 +1,116 @@
+-- Document 01's "Ledger": kept from the calls alone. It knows systems, loads, assignments and cells, and nothing of the board or the table.
+use Prim.Native.Nat.{ℕ, suc, _-_}
+use mathlib.Core.List.{List, [], _∷_}
+use mathlib.Core.Bool.{Bool, cond, not, _&&_}
+use lib.ListN.{getD, set, replicate}
+use lib.Dec.{leb, eqb}
+use Rattle.system.specs.declared.System.{System}
+use Rattle.system.specs.Values.{ceilingsOf}
+use Rattle.system.specs.Limits.{typeLimit}
+use Rattle.system.specs.Outcome.{Outcome, accepted, refused, fromInput, fromState}
+use Rattle.loads.specs.Load.{fitsEngine, oneMore, oneLess, emptyLoad}
+use Rattle.partition.specs.Assignment.{enginesTo, someGood}
+use Rattle.partition.specs.Shares.{sumOf}
+use Rattle.partition.specs.Cell.{lowest}
+use Rattle.partition.specs.ForSystem.{recoveredFor}
+
+-- a call, as the ledger hears of it: its kind, with its type number and engine number where it has them
+pub data Call : Type 0 where
+  admit : ℕ → Call
+  seat : ℕ → Call
+  retire : ℕ → ℕ → Call
+  repack : Call
+
+-- the file's system, and for each of the engines 1 to m a count for each type
+pub record Ledger : Type 0 where
+  pub system : System
+  pub counts : List (List ℕ)
+
+abbrev pub ledgerWith : System → List (List ℕ) → Ledger
+ledgerWith y counts = record { system = y; counts = counts }
+
+-- "all 0 at first"
+abbrev pub freshLedger : System → Ledger
+freshLedger y = ledgerWith y (replicate (y .engines) emptyLoad)
+
+-- "What stands is the sum over its engines"
+abbrev pub stands : Ledger → List ℕ
+stands l = sumOf typeLimit (l .counts)
+
+-- the count of engine e
+abbrev pub countsAt : Ledger → ℕ → List ℕ
+countsAt l e = getD (l .counts) (e - 1) emptyLoad
+
+abbrev pub withCounts : Ledger → ℕ → List ℕ → Ledger
+withCounts l e x = ledgerWith (l .system) (set (l .counts) (e - 1) x)
+
+-- a good assignment of x exists, by trying all assignments
+abbrev pub exists : Ledger → List ℕ → Bool
+exists l x = someGood (λ (e : ℕ). fitsEngine (l .system)) (enginesTo (l .system .engines)) x
+
+-- the recovery of x by the cells
+abbrev pub recovered : Ledger → List ℕ → Ledger
+recovered l x = ledgerWith (l .system) (recoveredFor (l .system .engines) (l .system) x)
+
+-- what the ledger answers to a call, and the ledger after it
+pub record Entry : Type 0 where
+  pub answer : Outcome
+  pub ledger : Ledger
+
+abbrev pub entry : Outcome → Ledger → Entry
+entry o l = record { answer = o; ledger = l }
+
+abbrev pub isType : Ledger → ℕ → Bool
+isType l t = leb 1 t && leb t (l .system .types)
+
+abbrev pub isEngine : Ledger → ℕ → Bool
+isEngine l e = leb 1 e && leb e (l .system .engines)
+
+-- n(t) of t stand
+abbrev pub isFull : Ledger → ℕ → Bool
+isFull l t = leb (getD (ceilingsOf (l .system)) (t - 1) 0) (getD (stands l) (t - 1) 0)
+
+-- the lowest-numbered engine whose load with one more t fits; m + 1 if there is none
+abbrev pub lowestFit : Ledger → ℕ → ℕ
+lowestFit l t = lowest (λ (e : ℕ). fitsEngine (l .system) (oneMore (t - 1) (countsAt l e))) (suc (l .system .engines)) (l .system .engines) 1
+
+unfoldable pub admitEntry : Ledger → ℕ → Entry
+admitEntry l t =
+    cond (not (isType l t)) (entry (refused fromInput 13) l)
+    (cond (isFull l t) (entry (refused fromState 21) l)
+    (cond (leb (lowestFit l t) (l .system .engines))
+    (entry (accepted (lowestFit l t ∷ [])) (withCounts l (lowestFit l t) (oneMore (t - 1) (countsAt l (lowestFit l t)))))
+    (cond (exists l (oneMore (t - 1) (stands l))) (entry (refused fromState 23) l) (entry (refused fromState 24) l))))
+
+unfoldable pub seatEntry : Ledger → ℕ → Entry
+seatEntry l t =
+    cond (not (isType l t)) (entry (refused fromInput 13) l)
+    (cond (isFull l t) (entry (refused fromState 21) l)
+    (cond (exists l (oneMore (t - 1) (stands l)))
+    (entry (accepted []) (recovered l (oneMore (t - 1) (stands l))))
+    (entry (refused fromState 24) l)))
+
+unfoldable pub retireEntry : Ledger → ℕ → ℕ → Entry
+retireEntry l t e =
+    cond (not (isType l t)) (entry (refused fromInput 13) l)
+    (cond (not (isEngine l e)) (entry (refused fromInput 14) l)
+    (cond (eqb (getD (countsAt l e) (t - 1) 0) 0) (entry (refused fromState 22) l)
+    (entry (accepted []) (withCounts l e (oneLess (t - 1) (countsAt l e))))))
+
+unfoldable pub repackEntry : Ledger → Entry
+repackEntry l = entry (accepted []) (recovered l (stands l))
+
+unfoldable pub step : Ledger → Call → Entry
+step l (admit t) = admitEntry l t
+step l (seat t) = seatEntry l t
+step l (retire t e) = retireEntry l t e
+step l repack = repackEntry l
+
+-- the ledger after a list of calls, and its answers in order
+unfoldable pub ledgerAfter : Ledger → List Call → Ledger
+ledgerAfter l [] = l
+ledgerAfter l (c ∷ cs) = ledgerAfter (step l c .ledger) cs
+
+unfoldable pub ledgerAnswers : Ledger → List Call → List Outcome
+ledgerAnswers l [] = []
+ledgerAnswers l (c ∷ cs) = step l c .answer ∷ ledgerAnswers (step l c .ledger) cs
