@@ -1,0 +1,74 @@
+-- The loop's invariant: `i` is at most 512.
+use Prim.Native.Nat.{_-_, _≤_}
+use borrow.Author.Needs.{needs}
+use Rattle.brute.proofs.recovery.right_row.Statement.{statement}
+use Rattle.brute.proofs.recovery.right_row.Tie as tie
+
+abbrev Inv-loop : tie.InvT-loop
+Inv-loop y row start table bases digits₀ right₀ i₀ digits right i = i ≤ 512
+
+abbrev μ-loop : tie.MeasureT-loop
+μ-loop y row start table bases digits₀ right₀ i₀ digits right i = 512 - i
+
+ceilings-of-requires : tie.Need-ceilings-of-requires Inv-loop μ-loop
+ceilings-of-requires c κs = search needs
+
+digits-of-requires : tie.Need-digits-of-requires Inv-loop μ-loop
+digits-of-requires c κs = search needs
+
+bases-of-requires : tie.Need-bases-of-requires Inv-loop μ-loop
+bases-of-requires c κs = search needs
+
+loop-holds : tie.Need-loop-holds Inv-loop μ-loop
+loop-holds c = search needs
+
+mul-wide : tie.Need-mul-wide Inv-loop μ-loop
+mul-wide c = search needs
+
+array-read-wide : tie.Need-array-read-wide Inv-loop μ-loop
+array-read-wide c = search needs
+
+wide-requires : tie.Need-wide-requires Inv-loop μ-loop
+wide-requires c κs = search needs
+
+cell-of-requires : tie.Need-cell-of-requires Inv-loop μ-loop
+cell-of-requires c κs = search needs
+
+counted-up-requires : tie.Need-counted-up-requires Inv-loop μ-loop
+counted-up-requires c κs = search needs
+
+returns : tie.Need-returns Inv-loop μ-loop
+returns c = search needs
+
+add-i : tie.Need-add-i Inv-loop μ-loop
+add-i c = search needs
+
+loop-less : tie.Need-loop-less Inv-loop μ-loop
+loop-less c = search needs
+
+loop-again : tie.Need-loop-again Inv-loop μ-loop
+loop-again c = search needs
+
+returns-2 : tie.Need-returns-2 Inv-loop μ-loop
+returns-2 c = search needs
+
+pub right-row-spec : {M : Type 1} → statement M
+right-row-spec =
+    tie.close
+    (tie.spec
+    Inv-loop
+    μ-loop
+    ceilings-of-requires
+    digits-of-requires
+    bases-of-requires
+    loop-holds
+    mul-wide
+    array-read-wide
+    wide-requires
+    cell-of-requires
+    counted-up-requires
+    returns
+    add-i
+    loop-less
+    loop-again
+    returns-2)

@@ -1,0 +1,86 @@
+// A small generator of numbers, the same at every run, and systems drawn with it: a linear congruential step on 31 bits.
+use crate::systems;
+use std::num::wrapping_add_usize;
+use system::System;
+
+// A number drawn, and the seed that the next one comes from.
+pub struct Drawn {
+    pub seed: u64,
+    pub value: usize,
+}
+
+// A number below `limit`, from the upper bits of the seed after this one; 0 where the limit is 0.
+pub fn draw(seed: u64, limit: usize) -> Drawn {
+    let next = ((seed % 2147483648) * 1103515245 + 12345) % 2147483648;
+    Drawn {
+        seed: next,
+        value: remainder((next / 65536) as usize, limit),
+    }
+}
+
+fn remainder(x: usize, limit: usize) -> usize {
+    if limit == 0 {
+        return 0;
+    }
+    x % limit
+}
+
+// A number of at most 16 steps: of 1, or of 62,500, so that the largest is document 01's limit.
+fn scaled(value: usize, large: bool) -> u32 {
+    let steps = (value % 17) as u32;
+    if large { steps * 62500 } else { steps }
+}
+
+// A system drawn, and the seed after it.
+pub struct DrawnSystem {
+    pub seed: u64,
+    pub system: System,
+}
+
+// The platform: 1 to `engines` engines, either rule, capacities of at most 16 steps.
+fn drawn_platform(seed: u64, engines: usize, large: bool) -> DrawnSystem {
+    let m = draw(seed, engines);
+    let rule = draw(m.seed, 2);
+    let time = draw(rule.seed, 17);
+    let memory = draw(time.seed, 17);
+    DrawnSystem {
+        seed: memory.seed,
+        system: systems::platform_of(
+            wrapping_add_usize(m.value, 1),
+            (rule.value % 2) as u8,
+            scaled(time.value, large),
+            scaled(memory.value, large),
+        ),
+    }
+}
+
+// The system with one type more, of at most `most` instances that cost up to eight steps.
+fn with_drawn_type(d: DrawnSystem, most: usize, large: bool) -> DrawnSystem {
+    let time = draw(d.seed, 9);
+    let memory = draw(time.seed, 9);
+    let ceiling = draw(memory.seed, wrapping_add_usize(most, 1));
+    let y = d.system;
+    DrawnSystem {
+        seed: ceiling.seed,
+        system: systems::with_type(
+            y,
+            scaled(time.value, large),
+            scaled(memory.value, large),
+            (ceiling.value % 65536) as u16,
+        ),
+    }
+}
+
+// A system of up to `engines` engines and this many types of at most `most` instances each.
+pub fn drawn_system(seed: u64, engines: usize, types: usize, most: usize) -> DrawnSystem {
+    let scale = draw(seed, 2);
+    let large = scale.value == 1;
+    let mut d = drawn_platform(scale.seed, engines, large);
+    for t in 0..6 {
+        if t < types {
+            let next = with_drawn_type(d, most, large);
+            d = next;
+        }
+    }
+    d
+}

@@ -1,0 +1,232 @@
+// Boards that are not true, one for each way that document 01's row of refusal 20 names, with numbers far past every limit among
+// them: each of the four calls must refuse 20, and hand back the board and the table as they were. A line for each board.
+use board::Board;
+use board::Turn;
+use board::calls;
+use brute::recovery;
+use brute::say;
+use brute::systems;
+use loads::EngineLoad;
+use system::System;
+use system::TaskType;
+
+// System A with two engines that hold (2, 0) and (1, 2).
+fn sound() -> Board {
+    let y = systems::system_a(2);
+    let mut loads = [recovery::idle(); 16];
+    loads[0] = recovery::engine_of(y, [2, 0, 0, 0, 0, 0, 0, 0]);
+    loads[1] = recovery::engine_of(y, [1, 2, 0, 0, 0, 0, 0, 0]);
+    Board {
+        system: y,
+        loads: loads,
+    }
+}
+
+// A board on which nothing stands.
+fn empty(y: System) -> Board {
+    Board {
+        system: y,
+        loads: [recovery::idle(); 16],
+    }
+}
+
+// The sound board with another system, or with another load on the engine at index e.
+fn over(y: System) -> Board {
+    let mut b = sound();
+    b.system = y;
+    b
+}
+
+fn with_engine(b: Board, e: usize, l: EngineLoad) -> Board {
+    let mut c = b;
+    if e < 16 {
+        c.loads[e] = l;
+    }
+    c
+}
+
+fn engine(time: u32, memory: u32, first: u16, third: u16) -> EngineLoad {
+    EngineLoad {
+        time,
+        memory,
+        counts: [first, 0, third, 0, 0, 0],
+    }
+}
+
+// System A with two engines and another entry for the type at index i.
+fn with_task(i: usize, time: u32, memory: u32, ceiling: u16) -> System {
+    let mut y = systems::system_a(2);
+    if i < 6 {
+        y.tasks[i] = TaskType {
+            time,
+            memory,
+            ceiling,
+        };
+    }
+    y
+}
+
+// System A with two engines and one number of the platform changed.
+fn with_engines(engines: usize) -> System {
+    let mut y = systems::system_a(2);
+    y.engines = engines;
+    y
+}
+
+fn with_rule(rule: u8) -> System {
+    let mut y = systems::system_a(2);
+    y.rule = rule;
+    y
+}
+
+fn with_capacities(time: u32, memory: u32) -> System {
+    let mut y = systems::system_a(2);
+    y.time = time;
+    y.memory = memory;
+    y
+}
+
+fn with_types(types: usize) -> System {
+    let mut y = systems::system_a(2);
+    y.types = types;
+    y
+}
+
+// Six types of the largest numbers that their fields hold.
+fn enormous() -> System {
+    let task = TaskType {
+        time: 1000000,
+        memory: 1000000,
+        ceiling: 65535,
+    };
+    let mut y = systems::platform_of(2, 0, 1000000, 1000000);
+    y.tasks = [task; 6];
+    y.types = 6;
+    y
+}
+
+// All counts at 65,535, with sums that they have modulo 2^32.
+fn crowded() -> EngineLoad {
+    EngineLoad {
+        time: 2367976064,
+        memory: 2367976064,
+        counts: [65535; 6],
+    }
+}
+
+fn same_board(a: Board, b: Board) -> bool {
+    let x = a.system;
+    let y = b.system;
+    let held = a.loads;
+    let wanted = b.loads;
+    systems::same_system(x, y) & recovery::same_loads(held, wanted)
+}
+
+// Refused 20, with the board as it was.
+fn refuses(t: Turn, b: Board) -> bool {
+    let a = t.answer;
+    let after = t.board;
+    (say::code_of(a) == 220) & same_board(after, b)
+}
+
+// The table as it was lent: all 9.
+fn untouched(table: [u16; 512]) -> bool {
+    let mut same = true;
+    for i in 0..512 {
+        same = same & (table[i] == 9);
+    }
+    same
+}
+
+// All four calls refuse the board.
+fn all_refuse(b: Board) -> bool {
+    let mut table: [u16; 512] = [9; 512];
+    let admitted = calls::admit(b, 1, &mut table);
+    let seated = calls::seat(b, 1, &mut table);
+    let repacked = calls::repack(b, &mut table);
+    let retired = calls::retire(b, 1, 1);
+    refuses(admitted, b)
+        & refuses(seated, b)
+        & refuses(repacked, b)
+        & refuses(retired, b)
+        & untouched(table)
+}
+
+fn say_board(name: &[u8], b: Board) {
+    say::say(name);
+    if all_refuse(b) {
+        say::say(b": refused 20\n");
+    } else {
+        say::say(b": NOT REFUSED 20\n");
+    }
+}
+
+fn say_systems() {
+    say_board(b"k 0", over(with_types(0)));
+    say_board(b"k 0 and no type", empty(systems::platform_of(2, 0, 10, 8)));
+    say_board(b"k 7", over(with_types(7)));
+    say_board(b"rule 2", over(with_rule(2)));
+    say_board(b"m 0", empty(with_engines(0)));
+    say_board(b"m 17", over(with_engines(17)));
+    say_board(b"U 1,000,001", over(with_capacities(1000001, 8)));
+    say_board(b"S 1,000,001", over(with_capacities(10, 1000001)));
+    say_board(b"u 1,000,001", empty(with_task(0, 1000001, 3, 3)));
+    say_board(b"s 1,000,001", empty(with_task(0, 4, 1000001, 3)));
+    say_board(b"u past k", over(with_task(2, 1, 0, 0)));
+    say_board(b"s past k", over(with_task(5, 0, 1, 0)));
+    say_board(b"n past k", over(with_task(2, 0, 0, 1)));
+    say_board(
+        b"columns 1,025",
+        empty(systems::with_type(systems::platform_of(2, 0, 10, 8), 1, 1, 1024)),
+    );
+    say_board(b"six n of 65,535", empty(enormous()));
+}
+
+fn say_loads() {
+    let b = sound();
+    say_board(
+        b"65,535 of each type",
+        with_engine(empty(enormous()), 0, crowded()),
+    );
+    say_board(
+        b"65,535 of a type past k",
+        with_engine(b, 0, engine(8, 6, 2, 65535)),
+    );
+    say_board(b"time one more", with_engine(b, 0, engine(9, 6, 2, 0)));
+    say_board(b"time one less", with_engine(b, 0, engine(7, 6, 2, 0)));
+    say_board(b"memory one more", with_engine(b, 0, engine(8, 7, 2, 0)));
+    say_board(b"memory one less", with_engine(b, 0, engine(8, 5, 2, 0)));
+    say_board(b"an instance past m", over(with_engines(1)));
+    say_board(b"time past m", with_engine(b, 2, engine(1, 0, 0, 0)));
+    say_board(b"memory past m", with_engine(b, 15, engine(0, 1, 0, 0)));
+    say_board(b"a count past k", with_engine(b, 0, engine(8, 6, 2, 1)));
+    say_board(b"a total over its ceiling", over(with_task(0, 4, 3, 2)));
+    say_board(b"time over U", over(with_capacities(9, 8)));
+    say_board(b"memory over S", over(with_capacities(10, 6)));
+}
+
+// The board that the others were made from: two calls are refused 21, and two accepted.
+fn say_sound() {
+    let b = sound();
+    let mut table: [u16; 512] = [9; 512];
+    let admitted = calls::admit(b, 1, &mut table);
+    let seated = calls::seat(b, 1, &mut table);
+    let repacked = calls::repack(b, &mut table);
+    let retired = calls::retire(b, 1, 1);
+    let first = admitted.answer;
+    let second = seated.answer;
+    let third = repacked.answer;
+    let fourth = retired.answer;
+    say::say(b"sound:");
+    say::say_answer(first);
+    say::say_answer(second);
+    say::say_answer(third);
+    say::say_answer(fourth);
+    say::say(b"\n");
+}
+
+fn main() {
+    say_sound();
+    say_systems();
+    say_loads();
+}
