@@ -2,20 +2,39 @@
 use Prim.Native.Nat.{ℕ, _-_}
 use mathlib.Core.Path.{_≡_, refl}
 use mathlib.Core.List.{List, [], _∷_}
-use mathlib.Core.Bool.{Bool, true, false, cond, not, true≢false}
+use mathlib.Core.Bool.{Bool, true, false, cond, true≢false}
 use native.Mathlib.Omega.{arith}
 use borrow.Author.Tests.{ltb-true}
-use lib.ListN.{getD}
-use lib.Dec.{leb, ltb, eqb}
+use lib.ListN.{length}
+use lib.Dec.{ltb}
 use Rattle.system.specs.Limits.{engineLimit}
-use Rattle.system.specs.Outcome.{Source, accepted, refused, fromInput, fromState}
-use Rattle.loads.specs.Load.{oneMore, oneLess}
+use Rattle.system.specs.Outcome.{Source, accepted, refused, fromInput, fromState, Checked, passes, fails, check, andThen}
+use Rattle.loads.specs.Load.{oneLess}
 use Rattle.partition.specs.ForSystem.{placeable, recoveredFor}
 use Rattle.table.specs.Table.{longEnough, filled}
 use Rattle.board.specs.declared.Board.{Board}
-use Rattle.board.specs.Truth.{trueBoard, boardOf, standing, loadAt, withLoad}
-use Rattle.board.specs.Calls.{Result, result, Checked, passes, fails, checked, knownType, knownEngine, atCeiling, withNewcomer, firstEngine, checkNewcomer, admitted, admitOf, reseated, seatOf, checkRetire, retireOf, checkRepack, repackOf}
+use Rattle.board.specs.declared.Place.{Place}
+use Rattle.board.specs.declared.Place.the-variants.{Engine, Nowhere}
+use Rattle.board.specs.Boards.{boardOf, withLoad, enginesOf, loadAt, standing}
+use Rattle.board.specs.Truth.{trueBoard}
+use Rattle.board.specs.Calls.{Result, result, checked, knownType, knownEngine, underCeiling, heldAt, checkNewcomer, checkRetire, checkRepack, withNewcomer, firstEngine, admitted, admitOf, reseated, seatOf, retireOf, repackOf}
 use Rattle.board.specs.Meaning.{Demand1}
+
+-- intermediate: the checks refuse with numbers below 23
+
+early : Checked → Bool
+early passes = true
+early (fails s n) = ltb n 23
+
+early-check : (met : Bool) (s : Source) (n : ℕ) → ltb n 23 ≡ true → early (check met s n) ≡ true
+unfolding early
+early-check true s n h = refl
+early-check false s n h = h
+
+early-then : (x later : Checked) → early x ≡ true → early later ≡ true → early (andThen x later) ≡ true
+unfolding early
+early-then passes later h k = k
+early-then (fails s n) later h k = h
 
 module _ (b : Board) (table : List ℕ) where
   -- intermediate: the three ways that a call can end
@@ -27,7 +46,7 @@ module _ (b : Board) (table : List ℕ) where
     leftFilled = λ s n e. let z : _≡_ {A = ℕ} 0 1 = cc in absurd (omega arith);
   }
 
-  -- refused before any work, by a number below 23
+  -- refused before any work
   refuses : (s : Source) (n : ℕ) → ltb n 23 ≡ true → Demand1 b table (result (refused s n) b table)
   refuses s n h = record {
     board = λ e. refl;
@@ -36,7 +55,7 @@ module _ (b : Board) (table : List ℕ) where
   }
 
   -- refused 23 or 24 after the table was filled
-  leaves : (p : Bool) → Demand1 b table (result (refused fromState (cond p 23 24)) b (filled (b .system) table))
+  leaves : (p : Bool) → Demand1 b table (result (refused fromState (cond p 23 24)) b (filled (b .system) (enginesOf b) table))
   leaves true = record {
     board = λ e. refl;
     asLent = λ s n e p q. let same : 23 ≡ n = cc in absurd (omega arith);
@@ -48,72 +67,56 @@ module _ (b : Board) (table : List ℕ) where
     leftFilled = λ s n e. (λ p. refl, λ p. refl);
   }
 
-  -- the checks: every refusal by them has a number below 23
-  early : Checked → Bool
-  early passes = true
-  early (fails s n) = ltb n 23
-
   checks : (c : Checked) (work : Result) → early c ≡ true → Demand1 b table work → Demand1 b table (checked c b table work)
   unfolding early
   checks passes work h d = d
   checks (fails s n) work h d = refuses s n h
 
-  four : (p q r u : Bool) (s₁ s₂ s₃ s₄ : Source) (k l m n : ℕ) → ltb k 23 ≡ true → ltb l 23 ≡ true → ltb m 23 ≡ true → ltb n 23 ≡ true
-      → early (cond p (fails s₁ k) (cond q (fails s₂ l) (cond r (fails s₃ m) (cond u (fails s₄ n) passes)))) ≡ true
-  unfolding early
-  four true q r u s₁ s₂ s₃ s₄ k l m n a b′ c d = a
-  four false true r u s₁ s₂ s₃ s₄ k l m n a b′ c d = b′
-  four false false true u s₁ s₂ s₃ s₄ k l m n a b′ c d = c
-  four false false false true s₁ s₂ s₃ s₄ k l m n a b′ c d = d
-  four false false false false s₁ s₂ s₃ s₄ k l m n a b′ c d = refl
-
-  early-newcomer : (t : ℕ) → early (checkNewcomer b t table) ≡ true
+  early-newcomer : (t : ℕ) → early (checkNewcomer b t (length table)) ≡ true
   unfolding checkNewcomer
   early-newcomer t =
-      four (not (trueBoard b)) (not (knownType (b .system) t)) (not (longEnough (b .system) table)) (atCeiling b t) fromState fromInput fromInput fromState 20 13 11 21
-      refl refl refl refl
+      early-then _ _ (early-check (trueBoard b) fromState 20 refl)
+      (early-then _ _ (early-check (knownType (b .system) t) fromInput 13 refl)
+      (early-then _ _ (early-check (longEnough (b .system) table) fromInput 11 refl) (early-check (underCeiling b t) fromState 21 refl)))
 
   -- main: the work of each call
 
   reseats : (x : List ℕ) → Demand1 b table (reseated b x table)
   unfolding reseated
-  reseats x = go (placeable (b .system) x) (boardOf (b .system) (recoveredFor engineLimit (b .system) x))
+  reseats x = go (placeable (b .system) (enginesOf b) x) (boardOf (b .system) (recoveredFor engineLimit (b .system) (enginesOf b) x)) (filled (b .system) (enginesOf b) table) refl
     where
-      go : (p : Bool) (after : Board)
-          → Demand1 b table (cond p (result (accepted []) after (filled (b .system) table)) (result (refused fromState 24) b (filled (b .system) table)))
-      go true after = accepts [] after (filled (b .system) table)
-      go false after = leaves false
+      go : (p : Bool) (after : Board) (left : List ℕ) → left ≡ filled (b .system) (enginesOf b) table
+          → Demand1 b table (cond p (result (accepted []) after left) (result (refused fromState 24) b (filled (b .system) (enginesOf b) table)))
+      go true after left e = accepts [] after left
+      go false after left e = leaves false
 
-  admits : (t e : ℕ) → Demand1 b table (admitted b t table e)
+  admits : (t : ℕ) (e : Place) → Demand1 b table (admitted b t table e)
   unfolding admitted
-  admits t e = go (leb e (b .system .engines)) (withLoad b e (oneMore (t - 1) (loadAt b e))) (placeable (b .system) (withNewcomer b t))
-    where
-      go : (p : Bool) (after : Board) (q : Bool)
-          → Demand1 b table (cond p (result (accepted (e ∷ [])) after table) (result (refused fromState (cond q 23 24)) b (filled (b .system) table)))
-      go true after q = accepts (e ∷ []) after table
-      go false after q = leaves q
+  admits t (Engine e) = accepts (e ∷ []) _ table
+  admits t Nowhere = leaves (placeable (b .system) (enginesOf b) (withNewcomer b t))
 
 -- main: demand 1
 
 pub admit-demand1 : (b : Board) (t : ℕ) (table : List ℕ) → Demand1 b table (admitOf b t table)
 unfolding admitOf
-admit-demand1 b t table = checks b table (checkNewcomer b t table) (admitted b t table (firstEngine b t)) (early-newcomer b table t) (admits b table t (firstEngine b t))
+admit-demand1 b t table = checks b table (checkNewcomer b t (length table)) (admitted b t table (firstEngine b t)) (early-newcomer b table t) (admits b table t (firstEngine b t))
 
 pub seat-demand1 : (b : Board) (t : ℕ) (table : List ℕ) → Demand1 b table (seatOf b t table)
 unfolding seatOf
-seat-demand1 b t table = checks b table (checkNewcomer b t table) (reseated b (withNewcomer b t) table) (early-newcomer b table t) (reseats b table (withNewcomer b t))
+seat-demand1 b t table = checks b table (checkNewcomer b t (length table)) (reseated b (withNewcomer b t) table) (early-newcomer b table t) (reseats b table (withNewcomer b t))
 
 pub retire-demand1 : (b : Board) (t e : ℕ) (table : List ℕ) → Demand1 b table (retireOf b t e table)
 unfolding retireOf checkRetire
 retire-demand1 b t e table =
     checks b table (checkRetire b t e) (result (accepted []) (withLoad b e (oneLess (t - 1) (loadAt b e))) table)
-    (four b table (not (trueBoard b)) (not (knownType (b .system) t)) (not (knownEngine (b .system) e)) (eqb (getD (loadAt b e) (t - 1) 0) 0)
-    fromState fromInput fromInput fromState 20 13 14 22 refl refl refl refl)
+    (early-then _ _ (early-check (trueBoard b) fromState 20 refl)
+    (early-then _ _ (early-check (knownType (b .system) t) fromInput 13 refl)
+    (early-then _ _ (early-check (knownEngine (b .system) e) fromInput 14 refl) (early-check (heldAt b t e) fromState 22 refl))))
     (accepts b table [] (withLoad b e (oneLess (t - 1) (loadAt b e))) table)
 
 pub repack-demand1 : (b : Board) (table : List ℕ) → Demand1 b table (repackOf b table)
 unfolding repackOf checkRepack
 repack-demand1 b table =
-    checks b table (checkRepack b table) (reseated b (standing b) table)
-    (four b table (not (trueBoard b)) (not (longEnough (b .system) table)) false false fromState fromInput fromInput fromInput 20 11 0 0 refl refl refl refl)
+    checks b table (checkRepack b (length table)) (reseated b (standing b) table)
+    (early-then _ _ (early-check (trueBoard b) fromState 20 refl) (early-check (longEnough (b .system) table) fromInput 11 refl))
     (reseats b table (standing b))

@@ -1,51 +1,49 @@
 -- How an exit of a call meets its definition: a refusal by the checks, and what is known once they have passed.
-use Prim.Native.Nat.{ℕ, suc, _-_, _≤_}
+use Prim.Native.Nat.{ℕ, _-_}
 use mathlib.Core.Path.{_≡_, refl, sym, ap, subst, _∙_}
 use mathlib.Core.List.{List, map}
-use mathlib.Core.Bool.{Bool, true, false, cond, not}
-use mathlib.Core.Logic.{⊎-elim}
+use mathlib.Core.Bool.{Bool, true, false, cond}
 use native.Mathlib.Omega.{arith}
-use borrow.Author.Tests.{leb-true, le-leb}
-use lib.ListN.{getD}
-use lib.Dec.{leb, eqb}
+use lib.ListN.{length}
 use Rattle.system.specs.declared.Refusal.{Refusal}
 use Rattle.system.specs.declared.Refusal.the-variants.{Input, State}
 use Rattle.system.specs.declared.Answer.the-variants.{Accepted, Number, Refused}
 use Rattle.system.specs.Limits.{engineLimit}
 use Rattle.system.specs.Layout.{Reading, opened, unread, readSystem}
-use Rattle.system.specs.Outcome.{Source, refused, fromInput, fromState, outcomeOf}
+use Rattle.system.specs.Outcome.{refused, fromInput, fromState, outcomeOf, Checked, passes, failsWith}
+use Rattle.system.proofs.Checks.{check-passed, both-passed}
 use Rattle.loads.specs.declared.EngineLoad.{EngineLoad}
 use Rattle.loads.specs.Load.{engineWith, oneMore}
 use Rattle.partition.specs.ForSystem.{placeable, recoveredFor}
-use Rattle.partition.proofs.Lowest.{lowest-found}
 use Rattle.table.specs.declared.Placement.{Placement}
 use Rattle.table.specs.Table.{longEnough, filled, placement}
 use Rattle.board.specs.declared.Board.{Board}
 use Rattle.board.specs.declared.Turn.{Turn}
+use Rattle.board.specs.declared.Place.{Place}
 use Rattle.board.specs.declared.Place.the-variants.{Engine, Nowhere}
-use Rattle.board.specs.Truth.{trueBoard, emptyBoard, openedBoard, loadAt, withLoad}
+use Rattle.board.specs.Boards.{emptyBoard, openedBoard, withLoad, enginesOf, loadAt}
+use Rattle.board.specs.Truth.{trueBoard}
 use Rattle.board.specs.Calls.{
   Result,
-  Checked,
-  passes,
-  fails,
   checked,
   knownType,
   knownEngine,
-  atCeiling,
+  underCeiling,
+  checkNewcomer,
+  checkRetire,
+  checkRepack,
   withNewcomer,
   takes,
   firstEngine,
   crowded,
-  checkNewcomer,
-  checkRetire,
-  checkRepack,
   admitted,
   reseated,
   gave,
   Does,
 }
-use Rattle.board.specs.Inner.{failsWith, placeOf, CheckedNewcomer, OnEngine}
+use Rattle.board.specs.Inner.{CheckedNewcomer, OnEngine}
+use Rattle.board.proofs.Places.{FirstView, somewhere, nowhere, first-view, engines-rising}
+use Rattle.board.proofs.Ready.{on-engine}
 
 -- the board of a file
 pub opened-board : (x : Reading) → emptyBoard (readSystem x) ≡ openedBoard x
@@ -71,86 +69,65 @@ module _ (b : Board) (table : List ℕ) (work : Result) (r : Turn) where
   pub checks-pass : (x : Checked) (after : List ℕ) → passes ≡ x → Does work r after → Does (checked x b table work) r after
   checks-pass x after e d = subst (λ (z : Checked). Does (checked z b table work) r after) e d
 
--- two cases of `Checked` that differ
-differ : {A : Type 0} (s : Source) (n : ℕ) → passes ≡ fails s n → A
-differ s n e = let z : _≡_ {A = ℕ} 0 1 = cc in absurd (omega arith)
+-- what the checks have shown where they passed
 
-passes-four : (p q r u : Bool) (s₁ s₂ s₃ s₄ : Source) (k l m n : ℕ)
-    → passes ≡ cond (not p) (fails s₁ k) (cond (not q) (fails s₂ l) (cond (not r) (fails s₃ m) (cond u (fails s₄ n) passes)))
-    → (p ≡ true) × (q ≡ true) × (r ≡ true) × (u ≡ false)
-passes-four true true true false s₁ s₂ s₃ s₄ k l m n e = (refl, refl, refl, refl)
-passes-four true true true true s₁ s₂ s₃ s₄ k l m n e = differ s₄ n e
-passes-four true true false u s₁ s₂ s₃ s₄ k l m n e = differ s₃ m e
-passes-four true false r u s₁ s₂ s₃ s₄ k l m n e = differ s₂ l e
-passes-four false q r u s₁ s₂ s₃ s₄ k l m n e = differ s₁ k e
-
-module _ (b : Board) (t : ℕ) (table : List ℕ) (e : passes ≡ checkNewcomer b t table) where
-  newcomer-four : (trueBoard b ≡ true) × (knownType (b .system) t ≡ true) × (longEnough (b .system) table ≡ true) × (atCeiling b t ≡ false)
+module _ (b : Board) (t : ℕ) (table : List ℕ) (e : passes ≡ checkNewcomer b t (length table)) where
+  newcomer-parts : CheckedNewcomer b t × (longEnough (b .system) table ≡ true)
   unfolding checkNewcomer
-  newcomer-four =
-      passes-four (trueBoard b) (knownType (b .system) t) (longEnough (b .system) table) (atCeiling b t) fromState fromInput fromInput fromState 20 13 11 21 e
+  newcomer-parts =
+      let p = both-passed _ _ e in
+      let q = both-passed _ _ (p .1) in
+      let r = both-passed _ _ (q .1) in (
+        record { isTrue = check-passed (trueBoard b) fromState 20 (p .0); known = check-passed (knownType (b .system) t) fromInput 13 (q .0); below = check-passed (underCeiling b t) fromState 21 (r .1) },
+        check-passed (longEnough (b .system) table) fromInput 11 (r .0),
+      )
 
   pub newcomer-passed : CheckedNewcomer b t
-  newcomer-passed = let p = newcomer-four in record { isTrue = p .0; known = p .1; below = p .3 }
+  newcomer-passed = newcomer-parts .0
 
   pub newcomer-long : longEnough (b .system) table ≡ true
-  newcomer-long = newcomer-four .2
+  newcomer-long = newcomer-parts .1
 
 pub leaver-passed : (b : Board) (t e : ℕ) → passes ≡ checkRetire b t e → OnEngine b e × (knownType (b .system) t ≡ true)
 unfolding checkRetire
 leaver-passed b t e h =
-    let p =
-    passes-four (trueBoard b) (knownType (b .system) t) (knownEngine (b .system) e) (eqb (getD (loadAt b e) (t - 1) 0) 0)
-    fromState fromInput fromInput fromState 20 13 14 22 h in
-    (record { isTrue = p .0; known = p .2 }, p .1)
+    let p = both-passed _ _ h in
+    let q = both-passed _ _ (p .1) in
+    let r = both-passed _ _ (q .1) in
+    (record { isTrue = check-passed (trueBoard b) fromState 20 (p .0); known = check-passed (knownEngine (b .system) e) fromInput 14 (r .0) }, check-passed (knownType (b .system) t) fromInput 13 (q .0))
 
-pub repack-passed : (b : Board) (table : List ℕ) → passes ≡ checkRepack b table → (trueBoard b ≡ true) × (longEnough (b .system) table ≡ true)
+pub repack-passed : (b : Board) (table : List ℕ) → passes ≡ checkRepack b (length table) → (trueBoard b ≡ true) × (longEnough (b .system) table ≡ true)
 unfolding checkRepack
 repack-passed b table h =
-    let p = passes-four (trueBoard b) (longEnough (b .system) table) true false fromState fromInput fromState fromState 20 11 0 0 h in
-    (p .0, p .1)
+    let p = both-passed _ _ h in
+    (check-passed (trueBoard b) fromState 20 (p .0), check-passed (longEnough (b .system) table) fromInput 11 (p .1))
 
--- main: the place that the search came to
+-- main: admit's work, by the place that the search came to
 
-place-cases : (q : Bool) (e d : ℕ) → Engine d ≡ cond q (Engine e) Nowhere → (q ≡ true) × (e ≡ d)
-place-cases true e d h = (refl, cc)
-place-cases false e d h = let z : _≡_ {A = ℕ} 0 1 = cc in absurd (omega arith)
+engine-same : (d e : ℕ) → Engine d ≡ Engine e → d ≡ e
+engine-same d e h = cc
 
-place-none : (q : Bool) (e : ℕ) → Nowhere ≡ cond q (Engine e) Nowhere → q ≡ false
-place-none true e h = let z : _≡_ {A = ℕ} 0 1 = cc in absurd (omega arith)
-place-none false e h = refl
+nowhere-not : (e : ℕ) → Nowhere ≡ Engine e → ⊥
+nowhere-not e h = let z : _≡_ {A = ℕ} 0 1 = cc in omega arith
 
-pub found-engine : (m e d : ℕ) → Engine d ≡ placeOf m e → (e ≤ m) × (e ≡ d)
-found-engine m e d h = let p = place-cases (leb e m) e d h in (leb-true e m (p .0), p .1)
+-- an engine that was found takes the newcomer
+pub found-takes : (b : Board) (t e : ℕ) → trueBoard b ≡ true → Engine e ≡ firstEngine b t → OnEngine b e × (takes b t e ≡ true)
+found-takes b t e h is = by-view (first-view (takes b t) (enginesOf b) (engines-rising b))
+  where
+    by-view : FirstView (takes b t) (enginesOf b) → OnEngine b e × (takes b t e ≡ true)
+    by-view (somewhere d f) =
+        let same : d ≡ e = engine-same d e (sym (f .found) ∙ sym is) in
+        subst (λ (z : ℕ). OnEngine b z × (takes b t z ≡ true)) same (on-engine b h d (f .engine), f .passes)
+    by-view (nowhere f) = absurd (nowhere-not e (sym (f .found) ∙ sym is))
 
-pub found-nowhere : (m e : ℕ) → Nowhere ≡ placeOf m e → leb e m ≡ false
-found-nowhere m e h = place-none (leb e m) e h
-
--- the engine found takes the newcomer
-pub first-takes : (b : Board) (t : ℕ) → firstEngine b t ≤ b .system .engines → (1 ≤ firstEngine b t) × (takes b t (firstEngine b t) ≡ true)
-unfolding firstEngine
-first-takes b t h =
-    ⊎-elim (λ e. absurd (omega arith)) (λ f. (f .from, f .passes)) (lowest-found (takes b t) (suc (b .system .engines)) (b .system .engines) 1)
-
--- main: admit's work, by that place
-
-module _ (b : Board) (t : ℕ) (table : List ℕ) (e : ℕ) (r : Turn) where
-  pub admitted-joins : (d : ℕ) → e ≤ b .system .engines → e ≡ d → r .answer ≡ Number d → r .board ≡ withLoad b d (oneMore (t - 1) (loadAt b d))
-      → Does (admitted b t table e) r table
+module _ (b : Board) (t : ℕ) (table : List ℕ) (p : Place) (r : Turn) where
+  pub admitted-joins : (e : ℕ) → Engine e ≡ p → r .answer ≡ Number e → r .board ≡ withLoad b e (oneMore (t - 1) (loadAt b e)) → Does (admitted b t table p) r table
   unfolding admitted
-  admitted-joins d h same a s =
-      rw (le-leb e (b .system .engines) h)
-      (record {
-        answer = ap outcomeOf (a ∙ ap Number (sym same));
-        board = s ∙ ap (λ (k : ℕ). withLoad b k (oneMore (t - 1) (loadAt b k))) (sym same);
-        table = refl;
-      })
+  admitted-joins e is a s = rw (← is) (record { answer = ap outcomeOf a; board = s; table = refl })
 
-  pub admitted-nowhere : (after : List ℕ) → leb e (b .system .engines) ≡ false
-      → Does (crowded b t table) r after
-      → Does (admitted b t table e) r after
+  pub admitted-nowhere : (after : List ℕ) → Nowhere ≡ p → Does (crowded b t table) r after → Does (admitted b t table p) r after
   unfolding admitted
-  admitted-nowhere after h d = rw h d
+  admitted-nowhere after is d = rw (← is) d
 
 -- main: a load placed or not
 
@@ -158,17 +135,17 @@ placed-flag : (q : Bool) (one none : Placement) → one .placed ≡ true → non
 placed-flag true one none h k = h
 placed-flag false one none h k = k
 
-module _ (b : Board) (x : List ℕ) (found : Placement) (e : found ≡ placement (b .system) x) where
-  pub found-placed : found .placed ≡ placeable (b .system) x
+module _ (b : Board) (x : List ℕ) (found : Placement) (e : found ≡ placement (b .system) (enginesOf b) x) where
+  pub found-placed : found .placed ≡ placeable (b .system) (enginesOf b) x
   unfolding placement
-  found-placed = ap (λ (p : Placement). p .placed) e ∙ placed-flag (placeable (b .system) x) _ _ refl refl
+  found-placed = ap (λ (p : Placement). p .placed) e ∙ placed-flag (placeable (b .system) (enginesOf b) x) _ _ refl refl
 
-  module _ (table : List ℕ) (r : Turn) (after : List ℕ) (f : after ≡ filled (b .system) table) where
+  module _ (table : List ℕ) (r : Turn) (after : List ℕ) (f : after ≡ filled (b .system) (enginesOf b) table) where
     pub reseated-placed : found .placed ≡ true → r .answer ≡ Accepted → r .board ≡ record { system = b .system; loads = found .loads } → Does (reseated b x table) r after
     unfolding reseated placement
     reseated-placed h a s =
-        let can : placeable (b .system) x ≡ true = sym found-placed ∙ h in
-        let same : found .loads ≡ map (engineWith (b .system)) (recoveredFor engineLimit (b .system) x) = ap (λ (p : Placement). p .loads) e ∙ rw can in
+        let can : placeable (b .system) (enginesOf b) x ≡ true = sym found-placed ∙ h in
+        let same : found .loads ≡ map (engineWith (b .system)) (recoveredFor engineLimit (b .system) (enginesOf b) x) = ap (λ (p : Placement). p .loads) e ∙ rw can in
         rw can
         (record {
           answer = ap outcomeOf a;
@@ -179,12 +156,12 @@ module _ (b : Board) (x : List ℕ) (found : Placement) (e : found ≡ placement
     pub reseated-none : found .placed ≡ false → r .answer ≡ Refused (State 24) → r .board ≡ b → Does (reseated b x table) r after
     unfolding reseated
     reseated-none h a s =
-        let cannot : placeable (b .system) x ≡ false = sym found-placed ∙ h in
+        let cannot : placeable (b .system) (enginesOf b) x ≡ false = sym found-placed ∙ h in
         rw cannot (record { answer = ap outcomeOf a; board = s; table = f })
 
 -- no engine takes the newcomer: 23 or 24
-module _ (b : Board) (t : ℕ) (found : Placement) (e : found ≡ placement (b .system) (withNewcomer b t)) (table : List ℕ) (r : Turn) (after : List ℕ) where
-  pub crowded-by : (q : Bool) → found .placed ≡ q → after ≡ filled (b .system) table → r .answer ≡ Refused (State (cond q 23 24)) → r .board ≡ b → Does (crowded b t table) r after
+module _ (b : Board) (t : ℕ) (found : Placement) (e : found ≡ placement (b .system) (enginesOf b) (withNewcomer b t)) (table : List ℕ) (r : Turn) (after : List ℕ) where
+  pub crowded-by : (q : Bool) → found .placed ≡ q → after ≡ filled (b .system) (enginesOf b) table → r .answer ≡ Refused (State (cond q 23 24)) → r .board ≡ b → Does (crowded b t table) r after
   crowded-by q h f a s =
-      let same : q ≡ placeable (b .system) (withNewcomer b t) = sym h ∙ found-placed b (withNewcomer b t) found e in
+      let same : q ≡ placeable (b .system) (enginesOf b) (withNewcomer b t) = sym h ∙ found-placed b (withNewcomer b t) found e in
       record { answer = ap outcomeOf a ∙ ap (λ (z : Bool). refused fromState (cond z 23 24)) same; board = s; table = f }

@@ -1,4 +1,5 @@
 -- The theorems of crate `board`, in the order of their proofs.
+pub mod Places
 pub mod Truth
 pub mod TrueMeans
 pub mod Demand1

@@ -3,22 +3,29 @@ use Prim.Native.Nat.{ℕ, zero, suc, _+_, _-_, _≤_, _<_}
 use mathlib.Core.Path.{_≡_, sym, ap, subst, _∙_}
 use mathlib.Core.List.{List, [], _∷_}
 use mathlib.Core.Bool.{true}
-use native.Mathlib.Nat.{mul-le-mul-left, mul-le-mul-right}
+use native.Mathlib.Nat.{le-refl, mul-le-mul-left, mul-le-mul-right}
 use native.Mathlib.Omega.{arith}
-use borrow.Author.Tests.{leb-true, leb-false}
+use borrow.Author.Tests.{leb-true, le-leb, ltb-true}
 use lib.ListN.{length, getD}
 use lib.Dec.{leb}
 use Rattle.system.specs.Values.{ceilingsOf}
 use Rattle.system.specs.Limits.{keepsLimits, columnsOf, columnLimit, engineLimit, typeLimit}
 use Rattle.system.proofs.Laws.{Limits, limits-of, columnsOf-pos}
 use Rattle.loads.specs.Load.{fitsEngine, within}
-use Rattle.loads.proofs.Order.{and-parts}
+use Rattle.loads.proofs.Order.{and-parts, and-both}
 use Rattle.loads.proofs.Change.{within-getD, oneMore-within}
+use Rattle.partition.specs.Assignment.{among, enginesTo}
+use Rattle.partition.proofs.Lists.{among-enginesTo, tested-among}
 use Rattle.partition.proofs.Standing.{count-le-sum, loadIn-fits}
+use Rattle.table.specs.declared.Engines.{Engines}
+use Rattle.table.specs.Table.{longEnough}
+use Rattle.table.specs.Recovery.{listed, MayPlace}
 use Rattle.board.specs.declared.Board.{Board}
-use Rattle.board.specs.Truth.{trueBoard, loadAt, standing}
+use Rattle.board.specs.Boards.{enginesOf, loadAt, standing}
+use Rattle.board.specs.Truth.{trueBoard}
 use Rattle.board.specs.Calls.{knownType, knownEngine, withNewcomer}
-use Rattle.board.specs.Inner.{CheckedNewcomer}
+use Rattle.board.specs.Inner.{CheckedNewcomer, OnEngine}
+use Rattle.board.proofs.Places.{engines-distinct, engines-count, engine-of}
 use Rattle.board.proofs.Truth.{truth-of, loadAt-on}
 
 -- intermediate: a ceiling is below the columns
@@ -48,10 +55,31 @@ module _ (b : Board) (h : trueBoard b ≡ true) where
   standing-small j =
       omega (arith, within-getD (standing b) (ceilingsOf (b .system)) j true-within, ceiling-lt (ceilingsOf (b .system)) j, true-limits .columns)
 
+  -- an engine that instances may be on, as what the inner functions take
+  pub on-engine : (e : ℕ) → among (enginesOf b) e ≡ true → OnEngine b e
+  on-engine e k =
+      let r = engine-of b e k in
+      record { isTrue = h; known = and-both (leb 1 e) (leb e (b .system .engines)) (le-leb 1 e (r .0)) (le-leb e (b .system .engines) (r .1)) }
+
+  -- a load within the ceilings may be placed on them
+  pub may-place : (es : Engines) (x table : List ℕ) → es .count ≡ length (enginesOf b) → listed es ≡ enginesOf b → longEnough (b .system) table ≡ true → within x (ceilingsOf (b .system)) ≡ true → MayPlace (b .system) es x table
+  may-place es x table count same room under = record {
+    limits = true-keeps;
+    few = omega (arith, count, engines-count b);
+    engines = record {
+      enough = le-refl (es .count);
+      few = omega (arith, count, engines-count b, engines-most);
+      apart = rw same (engines-distinct b);
+      known = rw same (tested-among (among (enginesTo engineLimit)) (enginesOf b) (λ e k. let r = engine-of b e k in among-enginesTo engineLimit e .1 (r .0, omega (arith, r .1, engines-most))));
+    };
+    room = room;
+    under = under;
+  }
+
   pub type-range : (t : ℕ) → knownType (b .system) t ≡ true → (1 ≤ t) × (t ≤ typeLimit)
   type-range t k =
-      let p = and-parts (leb 1 t) (leb t (b .system .types)) k in
-      (leb-true 1 t (p .0), omega (arith, leb-true t (b .system .types) (p .1), true-limits .types))
+      let p = and-parts (leb 1 t) (leb t (b .system .typecount)) k in
+      (leb-true 1 t (p .0), omega (arith, leb-true t (b .system .typecount) (p .1), true-limits .typecount))
 
   module _ (e : ℕ) (k : knownEngine (b .system) e ≡ true) where
     pub engine-range : (1 ≤ e) × (e ≤ b .system .engines)
@@ -92,4 +120,4 @@ module _ (b : Board) (t : ℕ) (n : CheckedNewcomer b t) where
   pub newcomer-within : within (withNewcomer b t) (ceilingsOf (b .system)) ≡ true
   newcomer-within =
       oneMore-within (t - 1) (standing b) (ceilingsOf (b .system)) (true-within b (n .isTrue))
-      (leb-false (getD (ceilingsOf (b .system)) (t - 1) 0) (getD (standing b) (t - 1) 0) (n .below))
+      (ltb-true (getD (standing b) (t - 1) 0) (getD (ceilingsOf (b .system)) (t - 1) 0) (n .below))

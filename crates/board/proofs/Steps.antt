@@ -1,12 +1,11 @@
 -- A loop over the types or over the engines: what is left of a definition after those before i, by the next one, and nothing at the end.
 use Prim.Native.Nat.{ℕ, zero, suc, _+_, _-_, _≤_, _<_}
-use mathlib.Core.Path.{_≡_, refl, ap, ap₂, _∙_}
+use mathlib.Core.Path.{_≡_, refl, ap, _∙_}
 use mathlib.Core.List.{List, [], _∷_}
 use mathlib.Core.Bool.{Bool, true, false, _&&_, and-assoc}
 use native.Mathlib.Numerals.{add-one}
-use native.Mathlib.Nat.{not-suc-le-zero, le-of-suc-le-suc}
 use native.Mathlib.Omega.{arith}
-use borrow.Author.Tests.{lt-ltb, le-ltb, le-leb, lt-leb}
+use borrow.Author.Tests.{lt-ltb, le-ltb}
 use lib.ListN.{length, getD, set, drop, replicate, drop-of-length-le}
 use lib.Seq.{drop-cons}
 use lib.Dec.{leb}
@@ -17,11 +16,10 @@ use Rattle.loads.specs.declared.EngineLoad.{EngineLoad}
 use Rattle.loads.specs.Load.{plus, within, emptyLoad}
 use Rattle.loads.proofs.Steps.{ceilings}
 use Rattle.partition.specs.Shares.{sumOf}
-use Rattle.partition.specs.Cell.{lowest}
-use Rattle.partition.proofs.Lowest.{lowest-here, lowest-later}
 use Rattle.board.specs.declared.Place.the-variants.{Engine, Nowhere}
-use Rattle.board.specs.Truth.{standingOf, trueEngine, zeroEngine, trueLoads, engineTrue}
-use Rattle.board.specs.Inner.{placeOf}
+use Rattle.board.specs.Boards.{standingOf}
+use Rattle.board.specs.Truth.{trueEngine, zeroEngine, trueLoads, engineTrue}
+use Rattle.board.specs.Calls.{firstOf}
 
 -- one more part of a test: r is e, what is left is e and the next, and the flag so far with what is left is the whole
 pub and-turn : (flag r e left next whole : Bool) → r ≡ e → left ≡ (e && next) → (flag && left) ≡ whole → (flag && r && next) ≡ whole
@@ -62,12 +60,6 @@ within-end xs ys i h = rw (drop-of-length-le xs {i = i})
 
 -- over the engines
 
--- inside an array it does not matter what would stand past its end
-pub getD-inside : (ls : List EngineLoad) (i : ℕ) (d e : EngineLoad) → i < length ls → getD ls i d ≡ getD ls i e
-getD-inside [] i d e h = absurd (not-suc-le-zero h)
-getD-inside (l ∷ ls) zero d e h = refl
-getD-inside (l ∷ ls) (suc i) d e h = getD-inside ls i d e (le-of-suc-le-suc h)
-
 pub standing-turn : (ls : List EngineLoad) (i : ℕ) (d : EngineLoad) → i < length ls → standingOf (drop i ls) ≡ plus (getD ls i d .counts) (standingOf (drop (i + 1) ls))
 unfolding sumOf
 standing-turn ls i d h = rw (add-one i, drop-cons ls i d)
@@ -96,26 +88,17 @@ module _ (y : System) (ls : List EngineLoad) (i : ℕ) where
   unfolding trueLoads
   true-end h = rw (drop-of-length-le ls {i = i})
 
--- over the engines, upwards from engine e of m: the lowest that passes
+-- the first engine that passes
 
-module _ (p : ℕ → Bool) (none m e : ℕ) where
-  pub lowest-turn : e ≤ m → p e ≡ false → lowest p none (m + 1 - e) e ≡ lowest p none (m + 1 - (e + 1)) (e + 1)
-  lowest-turn h no′ =
-      ap (λ (f : ℕ). lowest p none f e) (omega arith)
-      ∙ lowest-later p none (m - e) e no′
-      ∙ ap₂ (λ (f a : ℕ). lowest p none f a) (omega arith) (omega arith)
+module _ (p : ℕ → Bool) (es : List ℕ) (i : ℕ) (h : i < length es) where
+  pub first-stop : p (getD es i 0) ≡ true → firstOf p (drop i es) ≡ Engine (getD es i 0)
+  unfolding firstOf
+  first-stop q = rw (drop-cons es i 0, q)
 
-  pub lowest-stop : e ≤ m → p e ≡ true → lowest p none (m + 1 - e) e ≡ e
-  lowest-stop h yes′ = ap (λ (f : ℕ). lowest p none f e) (omega arith) ∙ lowest-here p none (m - e) e yes′
+  pub first-turn : p (getD es i 0) ≡ false → firstOf p (drop i es) ≡ firstOf p (drop (i + 1) es)
+  unfolding firstOf
+  first-turn q = rw (add-one i, drop-cons es i 0, q)
 
-  pub lowest-past : m < e → lowest p none (m + 1 - e) e ≡ none
-  unfolding lowest
-  lowest-past h = let z : m + 1 - e ≡ 0 = omega arith in rw z
-
--- the place that a search for an engine comes to
-
-pub place-engine : (m e found : ℕ) → found ≡ e → e ≤ m → Engine e ≡ placeOf m found
-place-engine m e found s h = rw (s, le-leb e m h)
-
-pub place-nowhere : (m found : ℕ) → found ≡ suc m → Nowhere ≡ placeOf m found
-place-nowhere m found s = rw (s, lt-leb (suc m) m (omega arith))
+pub first-end : (p : ℕ → Bool) (es : List ℕ) (i : ℕ) → length es ≤ i → firstOf p (drop i es) ≡ Nowhere
+unfolding firstOf
+first-end p es i h = rw (drop-of-length-le es {i = i})

@@ -22,15 +22,16 @@ use Rattle.partition.specs.ForSystem.{Placed}
 use Rattle.partition.proofs.ForSystem.{length-ceilings}
 use Rattle.partition.proofs.Standing.{Valid, total, loadIn, length-loadIn, loadIn-fits, count-le-sum, valid-placed}
 use Rattle.board.specs.declared.Board.{Board}
-use Rattle.board.specs.Truth.{standingOf, standing, trueEngine, zeroEngine, trueLoads, trueBoard}
+use Rattle.board.specs.Boards.{enginesOf, standingOf, standing}
+use Rattle.board.specs.Truth.{trueEngine, zeroEngine, trueLoads, trueBoard}
 use Rattle.board.specs.Meaning.{engineAt, IsTrue, TrueMeans}
 use Rattle.board.proofs.Truth.{boardOn, standing-on, engine-on, length-on, truth-of}
 
 -- intermediate: the board of valid loads is true in the row's words
 
 module _ (y : System) (xs : List (List ℕ)) (keeps : keepsLimits y ≡ true) (v : Valid y xs) where
-  ceiling-past : (i : ℕ) → y .types ≤ i → getD (ceilingsOf y) i 0 ≡ 0
-  ceiling-past i h = List·getD-map (λ (t : TaskType). t .ceiling) (y .tasks) i noTask ∙ ap (λ (t : TaskType). t .ceiling) (limits-of y keeps .past i h)
+  ceiling-past : (i : ℕ) → y .typecount ≤ i → getD (ceilingsOf y) i 0 ≡ 0
+  ceiling-past i h = List·getD-map (λ (t : TaskType). t .ceiling) (y .types) i noTask ∙ ap (λ (t : TaskType). t .ceiling) (limits-of y keeps .past i h)
 
   counts-on : (i : ℕ) → engineAt (boardOn y xs) i .counts ≡ loadIn xs i
   counts-on i = ap (λ (l : EngineLoad). l .counts) (engine-on y xs i)
@@ -62,8 +63,8 @@ module _ (y : System) (xs : List (List ℕ)) (keeps : keepsLimits y ≡ true) (v
 
 engine-of : (y : System) (l : EngineLoad) → length (l .counts) ≡ typeLimit → l ≡ engineWith y (l .counts) → fitsEngine y (l .counts) ≡ true → trueEngine y l ≡ true
 engine-of y l six sums fit =
-    let time = timeOf (y .tasks) (l .counts) in
-    let memory = memoryOf (y .rule) (y .tasks) (l .counts) in
+    let time = timeOf (y .types) (l .counts) in
+    let memory = memoryOf (y .rule) (y .types) (l .counts) in
     rw (eq-eqb (length (l .counts)) typeLimit six, eq-eqb (l .time) time (ap (λ (k : EngineLoad). k .time) sums), eq-eqb (l .memory) memory (ap (λ (k : EngineLoad). k .memory) sums)) fit
 
 zero-of : (l : EngineLoad) → l ≡ idleEngine → zeroEngine l ≡ true
@@ -110,9 +111,9 @@ true-means b = record { tests = (words, test-of b); placed = placed }
     words : trueBoard b ≡ true → IsTrue b
     words h = let f = truth-of b h in subst IsTrue (sym (f .same)) (words-on (b .system) (f .rows) (f .keeps) (f .valid))
 
-    placed : trueBoard b ≡ true → Placed (b .system) (standing b) (b .loads)
+    placed : trueBoard b ≡ true → Placed (b .system) (enginesOf b) (standing b) (b .loads)
     placed h =
         let f = truth-of b h in
-        subst (λ (a : Board). Placed (b .system) (standing a) (a .loads)) (sym (f .same))
-        (subst (λ (x : List ℕ). Placed (b .system) x (boardOn (b .system) (f .rows) .loads)) (sym (standing-on (b .system) (f .rows)))
+        subst (λ (a : Board). Placed (b .system) (enginesOf b) (standing a) (a .loads)) (sym (f .same))
+        (subst (λ (x : List ℕ). Placed (b .system) (enginesOf b) x (boardOn (b .system) (f .rows) .loads)) (sym (standing-on (b .system) (f .rows)))
         (valid-placed (f .valid) (engineLimit - b .system .engines)))

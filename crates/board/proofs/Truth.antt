@@ -24,7 +24,8 @@ use Rattle.partition.proofs.Lists.{every-parts, getD-padded}
 use Rattle.partition.proofs.Recovery.{sumOf-padded}
 use Rattle.partition.proofs.Standing.{Valid, total, loadIn, engine-in}
 use Rattle.board.specs.declared.Board.{Board}
-use Rattle.board.specs.Truth.{boardOf, loadAt, withLoad, countsOf, standing, trueEngine, zeroEngine, trueLoads, trueBoard}
+use Rattle.board.specs.Boards.{boardOf, withLoad, loadAt, countsOf, standing}
+use Rattle.board.specs.Truth.{trueEngine, zeroEngine, trueLoads, trueBoard}
 
 -- the board of a system with these loads on its engines 1 to m, empty past them
 abbrev pub padded : System → List (List ℕ) → List (List ℕ)
@@ -72,8 +73,8 @@ idle-loads y (suc n) = and-both (zeroEngine (engineWith y emptyLoad)) (trueLoads
 
 engine-true : (y : System) (x : List ℕ) → length x ≡ typeLimit → fitsEngine y x ≡ true → trueEngine y (engineWith y x) ≡ true
 engine-true y x l h =
-    let time = timeOf (y .tasks) x in
-    let memory = memoryOf (y .rule) (y .tasks) x in
+    let time = timeOf (y .types) x in
+    let memory = memoryOf (y .rule) (y .types) x in
     rw (eq-eqb (length x) typeLimit l, eq-eqb time time refl, eq-eqb memory memory refl) h
 
 loads-true : (y : System) (xs : List (List ℕ)) (n : ℕ) → every (λ (x : List ℕ). eqb (length x) typeLimit) xs ≡ true → every (fitsEngine y) xs ≡ true
@@ -138,10 +139,10 @@ record TrueEngine (y : System) (l : EngineLoad) : Type 0 where
 true-engine : (y : System) (l : EngineLoad) → trueEngine y l ≡ true → TrueEngine y l
 true-engine y l h =
     let p =
-    four-true (eqb (length (l .counts)) typeLimit) (eqb (l .time) (timeOf (y .tasks) (l .counts)))
-    (eqb (l .memory) (memoryOf (y .rule) (y .tasks) (l .counts))) (fitsEngine y (l .counts)) h in
-    let time = eqb-true (l .time) (timeOf (y .tasks) (l .counts)) (p .1) in
-    let memory = eqb-true (l .memory) (memoryOf (y .rule) (y .tasks) (l .counts)) (p .2) in
+    four-true (eqb (length (l .counts)) typeLimit) (eqb (l .time) (timeOf (y .types) (l .counts)))
+    (eqb (l .memory) (memoryOf (y .rule) (y .types) (l .counts))) (fitsEngine y (l .counts)) h in
+    let time = eqb-true (l .time) (timeOf (y .types) (l .counts)) (p .1) in
+    let memory = eqb-true (l .memory) (memoryOf (y .rule) (y .types) (l .counts)) (p .2) in
     record { same = λ i. record { time = time i; memory = memory i; counts = l .counts }; six = p .0; fit = p .3 }
 
 all-idle : (y : System) (ls : List EngineLoad) → trueLoads y 0 ls ≡ true → ls ≡ map (engineWith y) (replicate (length ls) emptyLoad)

@@ -1,21 +1,23 @@
 -- The four calls on a board: document 01's "Board", with the orders under "From the state". Each is one definition of the answer, the board after it and the table after it.
-use Prim.Native.Nat.{ℕ, suc, _-_}
+use Prim.Native.Nat.{ℕ, _-_}
 use mathlib.Core.List.{List, [], _∷_}
-use mathlib.Core.Bool.{Bool, true, cond, not, _&&_}
+use mathlib.Core.Bool.{Bool, cond, _&&_}
 use mathlib.Core.Path.{_≡_}
-use lib.ListN.{getD}
-use lib.Dec.{leb, eqb}
+use lib.ListN.{length, getD}
+use lib.Dec.{leb, ltb}
 use Rattle.system.specs.declared.System.{System}
 use Rattle.system.specs.Values.{ceilingsOf}
 use Rattle.system.specs.Limits.{engineLimit}
-use Rattle.system.specs.Outcome.{Outcome, Source, accepted, refused, fromInput, fromState, outcomeOf}
+use Rattle.system.specs.Outcome.{Outcome, accepted, refused, fromInput, fromState, outcomeOf, Checked, passes, fails, check, andThen}
 use Rattle.loads.specs.Load.{fitsEngine, oneMore, oneLess}
-use Rattle.partition.specs.Cell.{lowest}
 use Rattle.partition.specs.ForSystem.{placeable, recoveredFor}
-use Rattle.table.specs.Table.{longEnough, filled}
+use Rattle.table.specs.Table.{roomCheck, filled}
 use Rattle.board.specs.declared.Board.{Board}
 use Rattle.board.specs.declared.Turn.{Turn}
-use Rattle.board.specs.Truth.{trueBoard, boardOf, loadAt, withLoad, standing}
+use Rattle.board.specs.declared.Place.{Place}
+use Rattle.board.specs.declared.Place.the-variants.{Engine, Nowhere}
+use Rattle.board.specs.Boards.{boardOf, withLoad, enginesOf, loadAt, standing}
+use Rattle.board.specs.Truth.{trueBoard}
 
 -- the answer of a call, the board after it, and what the lent table then holds
 pub record Result : Type 0 where
@@ -26,16 +28,58 @@ pub record Result : Type 0 where
 abbrev pub result : Outcome → Board → List ℕ → Result
 result o b table = record { outcome = o; board = b; table = table }
 
--- t is a type number, 1 to k; e an engine number, 1 to m
-abbrev pub knownType : System → ℕ → Bool
-knownType y t = leb 1 t && leb t (y .types)
+-- The checks, each number decided once
 
+-- 20: the board handed in is true
+abbrev pub boardCheck : Board → Checked
+boardCheck b = check (trueBoard b) fromState 20
+
+-- 13: t is a type number, 1 to k
+abbrev pub knownType : System → ℕ → Bool
+knownType y t = leb 1 t && leb t (y .typecount)
+
+abbrev pub typeCheck : System → ℕ → Checked
+typeCheck y t = check (knownType y t) fromInput 13
+
+-- 14: e is an engine number, 1 to m
 abbrev pub knownEngine : System → ℕ → Bool
 knownEngine y e = leb 1 e && leb e (y .engines)
 
--- as many of type t stand as its ceiling allows
-abbrev pub atCeiling : Board → ℕ → Bool
-atCeiling b t = leb (getD (ceilingsOf (b .system)) (t - 1) 0) (getD (standing b) (t - 1) 0)
+abbrev pub engineCheck : System → ℕ → Checked
+engineCheck y e = check (knownEngine y e) fromInput 14
+
+-- 21: fewer of type t stand than its ceiling allows
+abbrev pub underCeiling : Board → ℕ → Bool
+underCeiling b t = ltb (getD (standing b) (t - 1) 0) (getD (ceilingsOf (b .system)) (t - 1) 0)
+
+abbrev pub ceilingCheck : Board → ℕ → Checked
+ceilingCheck b t = check (underCeiling b t) fromState 21
+
+-- 22: engine e holds an instance of type t
+abbrev pub heldAt : Board → ℕ → ℕ → Bool
+heldAt b t e = leb 1 (getD (loadAt b e) (t - 1) 0)
+
+abbrev pub heldCheck : Board → ℕ → ℕ → Checked
+heldCheck b t e = check (heldAt b t e) fromState 22
+
+-- admit and seat: 20, 13, 11, 21, for a table of `room` entries
+unfoldable pub checkNewcomer : Board → ℕ → ℕ → Checked
+checkNewcomer b t room = andThen (boardCheck b) (andThen (typeCheck (b .system) t) (andThen (roomCheck (b .system) room) (ceilingCheck b t)))
+
+-- retire: 20, 13, 14, 22
+unfoldable pub checkRetire : Board → ℕ → ℕ → Checked
+checkRetire b t e = andThen (boardCheck b) (andThen (typeCheck (b .system) t) (andThen (engineCheck (b .system) e) (heldCheck b t e)))
+
+-- repack: 20, 11
+unfoldable pub checkRepack : Board → ℕ → Checked
+checkRepack b room = andThen (boardCheck b) (roomCheck (b .system) room)
+
+-- a refusal that leaves board and table as they were, or else the work
+abbrev pub checked : Checked → Board → List ℕ → Result → Result
+checked (fails s n) b table work = result (refused s n) b table
+checked passes b table work = work
+
+-- Admit
 
 -- what stands with the newcomer
 abbrev pub withNewcomer : Board → ℕ → List ℕ
@@ -45,59 +89,39 @@ withNewcomer b t = oneMore (t - 1) (standing b)
 abbrev pub takes : Board → ℕ → ℕ → Bool
 takes b t e = fitsEngine (b .system) (oneMore (t - 1) (loadAt b e))
 
--- the lowest-numbered engine that takes the newcomer; m + 1 if there is none
-unfoldable pub firstEngine : Board → ℕ → ℕ
-firstEngine b t = lowest (takes b t) (suc (b .system .engines)) (b .system .engines) 1
+-- the first of the engines that passes, or nowhere
+unfoldable pub firstOf : (ℕ → Bool) → List ℕ → Place
+firstOf p [] = Nowhere
+firstOf p (e ∷ es) = cond (p e) (Engine e) (firstOf p es)
 
--- what a call is refused with before any work, or nothing
-pub data Checked : Type 0 where
-  passes : Checked
-  fails : Source → ℕ → Checked
-
--- a refusal that leaves board and table as they were, or else the work
-abbrev pub checked : Checked → Board → List ℕ → Result → Result
-checked (fails s n) b table work = result (refused s n) b table
-checked passes b table work = work
-
--- admit and seat: 20, 13, 11, 21
-unfoldable pub checkNewcomer : Board → ℕ → List ℕ → Checked
-checkNewcomer b t table =
-    cond (not (trueBoard b)) (fails fromState 20)
-    (cond (not (knownType (b .system) t)) (fails fromInput 13)
-    (cond (not (longEnough (b .system) table)) (fails fromInput 11)
-    (cond (atCeiling b t) (fails fromState 21) passes)))
+-- the lowest-numbered engine that takes the newcomer: their numbers rise
+abbrev pub firstEngine : Board → ℕ → Place
+firstEngine b t = firstOf (takes b t) (enginesOf b)
 
 -- no engine takes the newcomer: 23 if a good assignment of all with it exists, else 24, and the table is left filled
 abbrev pub crowded : Board → ℕ → List ℕ → Result
-crowded b t table = result (refused fromState (cond (placeable (b .system) (withNewcomer b t)) 23 24)) b (filled (b .system) table)
+crowded b t table =
+    result (refused fromState (cond (placeable (b .system) (enginesOf b) (withNewcomer b t)) 23 24)) b (filled (b .system) (enginesOf b) table)
 
--- the newcomer goes to engine e, if there is such an engine
-unfoldable pub admitted : Board → ℕ → List ℕ → ℕ → Result
-admitted b t table e =
-    cond (leb e (b .system .engines))
-    (result (accepted (e ∷ [])) (withLoad b e (oneMore (t - 1) (loadAt b e))) table)
-    (crowded b t table)
+-- the newcomer goes to the engine that was found
+unfoldable pub admitted : Board → ℕ → List ℕ → Place → Result
+admitted b t table (Engine e) = result (accepted (e ∷ [])) (withLoad b e (oneMore (t - 1) (loadAt b e))) table
+admitted b t table Nowhere = crowded b t table
 
 unfoldable pub admitOf : Board → ℕ → List ℕ → Result
-admitOf b t table = checked (checkNewcomer b t table) b table (admitted b t table (firstEngine b t))
+admitOf b t table = checked (checkNewcomer b t (length table)) b table (admitted b t table (firstEngine b t))
+
+-- Seat, retire, repack
 
 -- the whole board becomes the recovery of the load x; 24 where there is none
 unfoldable pub reseated : Board → List ℕ → List ℕ → Result
 reseated b x table =
-    cond (placeable (b .system) x)
-    (result (accepted []) (boardOf (b .system) (recoveredFor engineLimit (b .system) x)) (filled (b .system) table))
-    (result (refused fromState 24) b (filled (b .system) table))
+    cond (placeable (b .system) (enginesOf b) x)
+    (result (accepted []) (boardOf (b .system) (recoveredFor engineLimit (b .system) (enginesOf b) x)) (filled (b .system) (enginesOf b) table))
+    (result (refused fromState 24) b (filled (b .system) (enginesOf b) table))
 
 unfoldable pub seatOf : Board → ℕ → List ℕ → Result
-seatOf b t table = checked (checkNewcomer b t table) b table (reseated b (withNewcomer b t) table)
-
--- 20, 13, 14, 22
-unfoldable pub checkRetire : Board → ℕ → ℕ → Checked
-checkRetire b t e =
-    cond (not (trueBoard b)) (fails fromState 20)
-    (cond (not (knownType (b .system) t)) (fails fromInput 13)
-    (cond (not (knownEngine (b .system) e)) (fails fromInput 14)
-    (cond (eqb (getD (loadAt b e) (t - 1) 0) 0) (fails fromState 22) passes)))
+seatOf b t table = checked (checkNewcomer b t (length table)) b table (reseated b (withNewcomer b t) table)
 
 -- one instance of type t leaves engine e; a retire takes no table
 unfoldable pub retireOf : Board → ℕ → ℕ → List ℕ → Result
@@ -105,15 +129,11 @@ retireOf b t e table =
     checked (checkRetire b t e) b table
     (result (accepted []) (withLoad b e (oneLess (t - 1) (loadAt b e))) table)
 
--- 20, 11
-unfoldable pub checkRepack : Board → List ℕ → Checked
-checkRepack b table =
-    cond (not (trueBoard b)) (fails fromState 20)
-    (cond (not (longEnough (b .system) table)) (fails fromInput 11) passes)
-
 -- the board becomes the recovery of what stands. A true board is a good assignment of it, so 24 does not arise: a law says so
 unfoldable pub repackOf : Board → List ℕ → Result
-repackOf b table = checked (checkRepack b table) b table (reseated b (standing b) table)
+repackOf b table = checked (checkRepack b (length table)) b table (reseated b (standing b) table)
+
+-- What a call gives
 
 -- what a call gave: its answer, the board that it returned, and what the table then held
 abbrev pub gave : Turn → List ℕ → Result

@@ -2,21 +2,23 @@
 -- and demand 1 for every board. Of the calls only `Result` is known here.
 use Prim.Native.Nat.{ℕ, _-_, _≤_, _<_}
 use mathlib.Core.List.{List, [], _∷_}
-use mathlib.Core.Bool.{Bool, true, false, cond, _&&_}
+use mathlib.Core.Bool.{true, false, cond}
 use mathlib.Core.Path.{_≡_}
 use mathlib.Core.Logic.{_↔_}
 use lib.ListN.{length, getD}
-use lib.Dec.{leb, ltb, eqb}
+use lib.Dec.{eqb}
 use Rattle.system.specs.Values.{ceilingsOf}
 use Rattle.system.specs.Limits.{keepsLimits, engineLimit, typeLimit}
 use Rattle.system.specs.Outcome.{Source, accepted, refused, fromInput, fromState, isAccepted}
 use Rattle.loads.specs.declared.EngineLoad.{EngineLoad}
 use Rattle.loads.specs.Load.{fitsEngine, oneMore, oneLess, engineWith, idleEngine}
+use Rattle.partition.specs.Assignment.{among}
 use Rattle.partition.specs.Shares.{usedLoads}
-use Rattle.partition.specs.ForSystem.{FeasibleFor, Placed, OnFewest}
+use Rattle.partition.specs.ForSystem.{FeasibleOn, Placed, OnFewest}
 use Rattle.table.specs.Table.{longEnough, filled}
 use Rattle.board.specs.declared.Board.{Board}
-use Rattle.board.specs.Truth.{trueBoard, loadAt, countsOf, standing}
+use Rattle.board.specs.Boards.{enginesOf, loadAt, countsOf, standing}
+use Rattle.board.specs.Truth.{trueBoard}
 use Rattle.board.specs.Calls.{Result}
 
 -- the record of the engine at index i, engine number i + 1
@@ -31,7 +33,7 @@ pub record IsTrue (b : Board) : Type 0 where
   pub limits : keepsLimits (b .system) ≡ true
   -- "an entry for an engine past m or a type past k is not 0"
   pub pastEngines : (i : ℕ) → b .system .engines ≤ i → engineAt b i ≡ idleEngine
-  pub pastTypes : (i j : ℕ) → i < b .system .engines → b .system .types ≤ j → getD (engineAt b i .counts) j 0 ≡ 0
+  pub pastTypes : (i j : ℕ) → i < b .system .engines → b .system .typecount ≤ j → getD (engineAt b i .counts) j 0 ≡ 0
   -- "a type's standing total passes its ceiling"
   pub ceilings : (j : ℕ) → getD (standing b) j 0 ≤ getD (ceilingsOf (b .system)) j 0
   -- "stored sums differ from the load, or a load doesn't fit"
@@ -41,26 +43,30 @@ pub record IsTrue (b : Board) : Type 0 where
 -- the test says so exactly, and a true board is a good assignment of what stands on it
 pub record TrueMeans (b : Board) : Type 0 where
   pub tests : (trueBoard b ≡ true) ↔ IsTrue b
-  pub placed : trueBoard b ≡ true → Placed (b .system) (standing b) (b .loads)
+  pub placed : trueBoard b ≡ true → Placed (b .system) (enginesOf b) (standing b) (b .loads)
 
 -- t is a type number, 1 to k; e an engine number, 1 to m
-abbrev pub isType : Board → ℕ → Bool
-isType b t = leb 1 t && leb t (b .system .types)
+abbrev pub IsType : Board → ℕ → Type 0
+IsType b t = (1 ≤ t) × (t ≤ b .system .typecount)
 
-abbrev pub isEngine : Board → ℕ → Bool
-isEngine b e = leb 1 e && leb e (b .system .engines)
+abbrev pub IsEngine : Board → ℕ → Type 0
+IsEngine b e = (1 ≤ e) × (e ≤ b .system .engines)
 
--- engine e holds an instance of type t; false where either number is out of range
-abbrev pub holdsType : Board → ℕ → ℕ → Bool
-holdsType b t e = isType b t && isEngine b e && leb 1 (getD (loadAt b e) (t - 1) 0)
+-- engine e holds an instance of type t
+pub record HoldsType (b : Board) (t e : ℕ) : Type 0 where
+  pub isType : IsType b t
+  pub isEngine : IsEngine b e
+  pub some : 1 ≤ getD (loadAt b e) (t - 1) 0
 
--- "A type is below its ceiling while fewer than n(t) of it stand"; false for a number that is no type
-abbrev pub belowCeiling : Board → ℕ → Bool
-belowCeiling b t = isType b t && ltb (getD (standing b) (t - 1) 0) (getD (ceilingsOf (b .system)) (t - 1) 0)
+-- "A type is below its ceiling while fewer than n(t) of it stand"
+pub record BelowCeiling (b : Board) (t : ℕ) : Type 0 where
+  pub isType : IsType b t
+  pub fewer : getD (standing b) (t - 1) 0 < getD (ceilingsOf (b .system)) (t - 1) 0
 
--- "An engine takes a newcomer if its load with it fits"; false where e is no engine
-abbrev pub takesType : Board → ℕ → ℕ → Bool
-takesType b t e = isEngine b e && fitsEngine (b .system) (oneMore (t - 1) (loadAt b e))
+-- "An engine takes a newcomer if its load with it fits"
+pub record TakesType (b : Board) (t e : ℕ) : Type 0 where
+  pub engine : among (enginesOf b) e ≡ true
+  pub fit : fitsEngine (b .system) (oneMore (t - 1) (loadAt b e)) ≡ true
 
 -- the standing instances and the newcomer
 abbrev pub allWith : Board → ℕ → List ℕ
@@ -68,7 +74,7 @@ allWith b t = oneMore (t - 1) (standing b)
 
 -- a good assignment of them exists
 abbrev pub Room : Board → ℕ → Type 0
-Room b t = FeasibleFor (b .system) (allWith b t)
+Room b t = FeasibleOn (b .system) (enginesOf b) (allWith b t)
 
 -- the board after differs from b by this load on engine e alone, and is true: its stored sums are those of its loads
 pub record Changed (b : Board) (e : ℕ) (x : List ℕ) (after : Board) : Type 0 where
@@ -81,27 +87,27 @@ pub record Packed (b : Board) (x : List ℕ) (after : Board) : Type 0 where
   pub isTrue : trueBoard after ≡ true
   pub system : after .system ≡ b .system
   pub stands : standing after ≡ x
-  pub fewest : OnFewest (b .system) x (after .loads) (usedLoads (countsOf (after .loads)))
+  pub fewest : OnFewest (b .system) (enginesOf b) x (after .loads) (usedLoads (countsOf (after .loads)))
 
 -- admit: the newcomer is on the engine that was answered, the lowest that takes it
 pub record AdmitMeans (b : Board) (t : ℕ) (r : Result) : Type 0 where
-  pub admits : belowCeiling b t ≡ true → (isAccepted (r .outcome) ≡ true) ↔ ((e : ℕ) × (takesType b t e ≡ true))
-  pub noRoom : belowCeiling b t ≡ true → (r .outcome ≡ refused fromState 24) ↔ (Room b t → ⊥)
+  pub admits : BelowCeiling b t → (isAccepted (r .outcome) ≡ true) ↔ ((e : ℕ) × TakesType b t e)
+  pub noRoom : BelowCeiling b t → (r .outcome ≡ refused fromState 24) ↔ (Room b t → ⊥)
   pub engine : isAccepted (r .outcome) ≡ true → (e : ℕ) × (r .outcome ≡ accepted (e ∷ []))
   pub joins : (e : ℕ) → r .outcome ≡ accepted (e ∷ []) → Changed b e (oneMore (t - 1) (loadAt b e)) (r .board)
   pub stands : isAccepted (r .outcome) ≡ true → standing (r .board) ≡ allWith b t
-  pub takesIt : (e : ℕ) → r .outcome ≡ accepted (e ∷ []) → takesType b t e ≡ true
-  pub lowest : (e d : ℕ) → r .outcome ≡ accepted (e ∷ []) → takesType b t d ≡ true → e ≤ d
+  pub takesIt : (e : ℕ) → r .outcome ≡ accepted (e ∷ []) → TakesType b t e
+  pub lowest : (e d : ℕ) → r .outcome ≡ accepted (e ∷ []) → TakesType b t d → e ≤ d
 
 -- seat: succeeds exactly when there is room, and packs all with the newcomer on the fewest engines
 pub record SeatMeans (b : Board) (t : ℕ) (r : Result) : Type 0 where
-  pub seats : belowCeiling b t ≡ true → (isAccepted (r .outcome) ≡ true) ↔ Room b t
-  pub noRoom : belowCeiling b t ≡ true → (r .outcome ≡ refused fromState 24) ↔ (Room b t → ⊥)
+  pub seats : BelowCeiling b t → (isAccepted (r .outcome) ≡ true) ↔ Room b t
+  pub noRoom : BelowCeiling b t → (r .outcome ≡ refused fromState 24) ↔ (Room b t → ⊥)
   pub packs : isAccepted (r .outcome) ≡ true → Packed b (allWith b t) (r .board)
 
 -- retire: succeeds exactly when that engine holds that type, and one instance leaves it
 pub record RetireMeans (b : Board) (t e : ℕ) (r : Result) : Type 0 where
-  pub retires : (isAccepted (r .outcome) ≡ true) ↔ (holdsType b t e ≡ true)
+  pub retires : (isAccepted (r .outcome) ≡ true) ↔ HoldsType b t e
   pub leaves : isAccepted (r .outcome) ≡ true → Changed b e (oneLess (t - 1) (loadAt b e)) (r .board)
   pub stands : isAccepted (r .outcome) ≡ true → standing (r .board) ≡ oneLess (t - 1) (standing b)
 
@@ -115,24 +121,24 @@ pub record RepackMeans (b : Board) (r : Result) : Type 0 where
 -- "admit 20, 13, 11, 21, ..; seat 20, 13, 11, 21, ..": what both begin with
 pub record NewcomerInOrder (b : Board) (t : ℕ) (table : List ℕ) (r : Result) : Type 0 where
   pub boardFirst : trueBoard b ≡ false → r .outcome ≡ refused fromState 20
-  pub thenType : trueBoard b ≡ true → isType b t ≡ false → r .outcome ≡ refused fromInput 13
-  pub thenTable : trueBoard b ≡ true → isType b t ≡ true → longEnough (b .system) table ≡ false → r .outcome ≡ refused fromInput 11
-  pub thenCeiling : trueBoard b ≡ true → isType b t ≡ true → longEnough (b .system) table ≡ true → belowCeiling b t ≡ false → r .outcome ≡ refused fromState 21
+  pub thenType : trueBoard b ≡ true → (IsType b t → ⊥) → r .outcome ≡ refused fromInput 13
+  pub thenTable : trueBoard b ≡ true → IsType b t → longEnough (b .system) table ≡ false → r .outcome ≡ refused fromInput 11
+  pub thenCeiling : trueBoard b ≡ true → IsType b t → longEnough (b .system) table ≡ true → (BelowCeiling b t → ⊥) → r .outcome ≡ refused fromState 21
 
 -- "admit 20, 13, 11, 21, 23 or 24": 23 is "no engine takes it, but a good assignment of all with the newcomer exists". `AdmitMeans` says when it is 24
 pub record AdmitInOrder (b : Board) (t : ℕ) (table : List ℕ) (r : Result) : Type 0 where
   pub newcomer : NewcomerInOrder b t table r
-  pub thenTight : trueBoard b ≡ true → longEnough (b .system) table ≡ true → belowCeiling b t ≡ true
-      → ((e : ℕ) → takesType b t e ≡ true → ⊥)
+  pub thenTight : trueBoard b ≡ true → longEnough (b .system) table ≡ true → BelowCeiling b t
+      → ((e : ℕ) → TakesType b t e → ⊥)
       → Room b t
       → r .outcome ≡ refused fromState 23
 
 -- "retire 20, 13, 14, 22"
 pub record RetireInOrder (b : Board) (t e : ℕ) (r : Result) : Type 0 where
   pub boardFirst : trueBoard b ≡ false → r .outcome ≡ refused fromState 20
-  pub thenType : trueBoard b ≡ true → isType b t ≡ false → r .outcome ≡ refused fromInput 13
-  pub thenEngine : trueBoard b ≡ true → isType b t ≡ true → isEngine b e ≡ false → r .outcome ≡ refused fromInput 14
-  pub thenHeld : trueBoard b ≡ true → isType b t ≡ true → isEngine b e ≡ true → holdsType b t e ≡ false → r .outcome ≡ refused fromState 22
+  pub thenType : trueBoard b ≡ true → (IsType b t → ⊥) → r .outcome ≡ refused fromInput 13
+  pub thenEngine : trueBoard b ≡ true → IsType b t → (IsEngine b e → ⊥) → r .outcome ≡ refused fromInput 14
+  pub thenHeld : trueBoard b ≡ true → IsType b t → IsEngine b e → (HoldsType b t e → ⊥) → r .outcome ≡ refused fromState 22
 
 -- "repack 20, 11"
 pub record RepackInOrder (b : Board) (table : List ℕ) (r : Result) : Type 0 where
@@ -143,4 +149,4 @@ pub record RepackInOrder (b : Board) (table : List ℕ) (r : Result) : Type 0 wh
 pub record Demand1 (b : Board) (table : List ℕ) (r : Result) : Type 0 where
   pub board : isAccepted (r .outcome) ≡ false → r .board ≡ b
   pub asLent : (s : Source) (n : ℕ) → r .outcome ≡ refused s n → (n ≡ 23 → ⊥) → (n ≡ 24 → ⊥) → r .table ≡ table
-  pub leftFilled : (s : Source) (n : ℕ) → r .outcome ≡ refused s n → (n ≡ 23 → r .table ≡ filled (b .system) table) × (n ≡ 24 → r .table ≡ filled (b .system) table)
+  pub leftFilled : (s : Source) (n : ℕ) → r .outcome ≡ refused s n → (n ≡ 23 → r .table ≡ filled (b .system) (enginesOf b) table) × (n ≡ 24 → r .table ≡ filled (b .system) (enginesOf b) table)

@@ -5,16 +5,17 @@ ghost use mathlib.Core.List.{[]};
 ghost use Rattle.system.specs.Layout.{readFile, readOutcome};
 ghost use Rattle.system.specs.Outcome.{outcomeOf};
 ghost use Rattle.table.specs.Table.{longEnough};
-ghost use Rattle.board.specs.Truth.{openedBoard, trueBoard};
+ghost use Rattle.board.specs.Boards.{openedBoard};
+ghost use Rattle.board.specs.Truth.{trueBoard};
 ghost use Rattle.board.specs.Calls.{admitOf, seatOf, retireOf, repackOf, gave, Does};
 ghost use Rattle.board.specs.Meaning.{Demand1, AdmitMeans, SeatMeans, RetireMeans, RepackMeans};
 use crate::Board;
-use crate::Check;
 use crate::Place;
 use crate::Turn;
 use crate::checks;
 use crate::state;
 use crate::work;
+use system::Check;
 
 // The fresh board of a system file, or the blank board where the file is refused.
 pub fn open_board(file: &[u8]) -> Turn

@@ -1,98 +1,122 @@
-// What a call is refused with before any work: document 01's orders under "From the state".
+// What a call is refused with before any work: one function for each number, and document 01's orders under "From the state" that string them.
 ghost use mathlib.Core.Path.{_≡_};
-ghost use mathlib.Core.Bool.{true, cond};
-ghost use mathlib.Core.List.{List};
-ghost use Prim.Native.Nat.{ℕ};
-ghost use lib.ListN.{length};
+ghost use mathlib.Core.Bool.{true};
+ghost use Rattle.system.specs.Outcome.{checkedOf};
 ghost use Rattle.board.specs.Truth.{trueBoard};
-ghost use Rattle.board.specs.Calls.{passes, knownType, knownEngine, atCeiling, checkNewcomer, checkRetire, checkRepack};
-ghost use Rattle.board.specs.Inner.{failsWith, checkedOf};
+ghost use Rattle.board.specs.Calls.{knownType, boardCheck, typeCheck, engineCheck, ceilingCheck, heldCheck, checkNewcomer, checkRetire, checkRepack};
+ghost use Rattle.board.specs.Inner.{OnEngine};
 use crate::Board;
-use crate::Check;
 use crate::state;
+use system::Check;
 use system::Refusal;
 use system::System;
 
-// t is a type number, 1 to k.
-fn known_type(y: System, t: usize) -> bool
-    ensures { λ r. ⌜ r ≡ knownType y t ⌝ }
+// 20: the board handed in is not true.
+fn board_check(b: Board) -> Check
+    ensures { λ r. ⌜ checkedOf r ≡ boardCheck b ⌝ }
 {
-    (1 <= t) & (t <= y.types)
+    if state::true_board(b) {
+        return Check::Passes;
+    }
+    Check::Fails(Refusal::State(20))
 }
 
-// e is an engine number, 1 to m.
-fn known_engine(y: System, e: usize) -> bool
-    ensures { λ r. ⌜ r ≡ knownEngine y e ⌝ }
+// 13: t is no type number, 1 to k.
+fn type_check(y: System, t: usize) -> Check
+    ensures { λ r. ⌜ checkedOf r ≡ typeCheck y t ⌝ }
 {
-    (1 <= e) & (e <= y.engines)
+    if (1 <= t) & (t <= y.typecount) {
+        return Check::Passes;
+    }
+    Check::Fails(Refusal::Input(13))
 }
 
-// As many of type t stand as its ceiling allows.
-fn at_ceiling(b: Board, t: usize) -> bool
+// 14: e is no engine number, 1 to m.
+fn engine_check(y: System, e: usize) -> Check
+    ensures { λ r. ⌜ checkedOf r ≡ engineCheck y e ⌝ }
+{
+    if (1 <= e) & (e <= y.engines) {
+        return Check::Passes;
+    }
+    Check::Fails(Refusal::Input(14))
+}
+
+// 21: as many of type t stand as its ceiling allows.
+fn ceiling_check(b: Board, t: usize) -> Check
     requires { ⌜ (trueBoard b ≡ true) × (knownType (b .system) t ≡ true) ⌝ }
-    ensures { λ r. ⌜ r ≡ atCeiling b t ⌝ }
+    ensures { λ r. ⌜ checkedOf r ≡ ceilingCheck b t ⌝ }
 {
     let i = t - 1;
     let y = b.system;
-    let tasks = y.tasks;
-    let task = tasks[i];
+    let types = y.types;
+    let task = types[i];
     let counts = state::standing_counts(b);
-    task.ceiling <= counts[i]
+    if counts[i] < task.ceiling {
+        return Check::Passes;
+    }
+    Check::Fails(Refusal::State(21))
 }
 
-// The last test of a call: it passes unless this one refuses it.
-fn passes_unless(failed: bool, why: Refusal) -> Check
-    ensures { λ r. ⌜ checkedOf r ≡ cond failed (failsWith why) passes ⌝ }
+// 22: engine e holds none of type t.
+fn held_check(b: Board, t: usize, e: usize) -> Check
+    requires { ⌜ OnEngine b e × (knownType (b .system) t ≡ true) ⌝ }
+    ensures { λ r. ⌜ checkedOf r ≡ heldCheck b t e ⌝ }
 {
-    if failed {
-        return Check::Fails(why);
+    let i = t - 1;
+    let counts = state::load_at(b, e);
+    if 1 <= counts[i] {
+        return Check::Passes;
     }
-    Check::Passes
+    Check::Fails(Refusal::State(22))
 }
 
 // Admit and seat: 20, 13, 11, 21, for a table of `room` entries.
 pub fn check_newcomer(b: Board, t: usize, room: usize) -> Check
-    ensures { λ r. ⌜ ((table : List ℕ) → length table ≡ room → checkedOf r ≡ checkNewcomer b t table) ⌝ }
+    ensures { λ r. ⌜ checkedOf r ≡ checkNewcomer b t room ⌝ }
 {
-    if !state::true_board(b) {
-        return Check::Fails(Refusal::State(20));
+    let board = board_check(b);
+    if let Check::Fails(why) = board {
+        return Check::Fails(why);
     }
     let y = b.system;
-    if !known_type(y, t) {
-        return Check::Fails(Refusal::Input(13));
+    let task = type_check(y, t);
+    if let Check::Fails(why) = task {
+        return Check::Fails(why);
     }
-    if !table::size::is_long_enough(y, room) {
-        return Check::Fails(Refusal::Input(11));
+    let table = table::table_check(y, room);
+    if let Check::Fails(why) = table {
+        return Check::Fails(why);
     }
-    passes_unless(at_ceiling(b, t), Refusal::State(21))
+    ceiling_check(b, t)
 }
 
 // Retire: 20, 13, 14, 22.
 pub fn check_retire(b: Board, t: usize, e: usize) -> Check
     ensures { λ r. ⌜ checkedOf r ≡ checkRetire b t e ⌝ }
 {
-    if !state::true_board(b) {
-        return Check::Fails(Refusal::State(20));
+    let board = board_check(b);
+    if let Check::Fails(why) = board {
+        return Check::Fails(why);
     }
     let y = b.system;
-    if !known_type(y, t) {
-        return Check::Fails(Refusal::Input(13));
+    let task = type_check(y, t);
+    if let Check::Fails(why) = task {
+        return Check::Fails(why);
     }
-    if !known_engine(y, e) {
-        return Check::Fails(Refusal::Input(14));
+    let engine = engine_check(y, e);
+    if let Check::Fails(why) = engine {
+        return Check::Fails(why);
     }
-    let counts = state::load_at(b, e);
-    let i = t - 1;
-    passes_unless(counts[i] == 0, Refusal::State(22))
+    held_check(b, t, e)
 }
 
 // Repack: 20, 11, for a table of `room` entries.
 pub fn check_repack(b: Board, room: usize) -> Check
-    ensures { λ r. ⌜ ((table : List ℕ) → length table ≡ room → checkedOf r ≡ checkRepack b table) ⌝ }
+    ensures { λ r. ⌜ checkedOf r ≡ checkRepack b room ⌝ }
 {
-    if !state::true_board(b) {
-        return Check::Fails(Refusal::State(20));
+    let board = board_check(b);
+    if let Check::Fails(why) = board {
+        return Check::Fails(why);
     }
-    let y = b.system;
-    passes_unless(!table::size::is_long_enough(y, room), Refusal::Input(11))
+    table::table_check(b.system, room)
 }

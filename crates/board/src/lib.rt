@@ -1,18 +1,25 @@
 // The live board: the truth test of a board handed in, opening one, and the four calls.
 use loads::EngineLoad;
 use system::Answer;
-use system::Refusal;
+use system::ENGINE_LIMIT;
 use system::System;
 
-pub mod calls;
+mod calls;
 mod checks;
-pub mod state;
+mod state;
 mod work;
+
+pub use calls::admit;
+pub use calls::open_board;
+pub use calls::repack;
+pub use calls::retire;
+pub use calls::seat;
+pub use state::true_board;
 
 // A board: the system, and each engine's load with its stored time and memory. Engine e is at index e - 1.
 pub struct Board {
     pub system: System,
-    pub loads: [EngineLoad; 16],
+    pub loads: [EngineLoad; ENGINE_LIMIT],
 }
 
 // What a call answers, with the board after it: the one handed in where the call is refused.
@@ -22,13 +29,7 @@ pub struct Turn {
 }
 
 // Where a newcomer can go: the number of an engine, or nowhere.
-pub enum Place {
+pub(crate) enum Place {
     Engine(usize),
     Nowhere,
-}
-
-// What a call is refused with before any work, or nothing.
-pub enum Check {
-    Passes,
-    Fails(Refusal),
 }

@@ -7,21 +7,22 @@ ghost use lib.ListN.{getD};
 ghost use Rattle.system.specs.Limits.{engineLimit};
 ghost use Rattle.system.specs.declared.TaskType.{TaskType};
 ghost use Rattle.loads.specs.Load.{plus, within};
-ghost use Rattle.board.specs.Truth.{trueEngine, zeroEngine, trueLoads, trueBoard, standingOf, standing, engineTrue, loadAt};
+ghost use Rattle.board.specs.Boards.{loadAt, standingOf, standing};
+ghost use Rattle.board.specs.Truth.{trueEngine, zeroEngine, trueLoads, trueBoard, engineTrue};
 use crate::Board;
 use loads::EngineLoad;
+use system::ENGINE_LIMIT;
 use system::System;
+use system::TYPE_LIMIT;
 use system::TaskType;
 
 // An engine's stored sums are those of its load, which fits.
 fn true_engine(y: System, l: EngineLoad) -> bool
     ensures { λ r. ⌜ r ≡ trueEngine y l ⌝ }
 {
-    let tasks = y.tasks;
     let counts = l.counts;
-    let time = loads::time_of(tasks, counts);
-    let memory = loads::memory_of(y.rule, tasks, counts);
-    (l.time as u64 == time) & (l.memory as u64 == memory) & loads::fits_engine(y, counts)
+    let sums = loads::sums_of(y, counts);
+    (l.time as u64 == sums.time) & (l.memory as u64 == sums.memory) & loads::fits_engine(y, counts)
 }
 
 // All 0: what an engine past m has.
@@ -33,11 +34,11 @@ fn zero_engine(l: EngineLoad) -> bool
 }
 
 // The first m engines are true, the others 0.
-fn true_loads(y: System, loads: [EngineLoad; 16]) -> bool
+fn true_loads(y: System, loads: [EngineLoad; ENGINE_LIMIT]) -> bool
     ensures { λ r. ⌜ r ≡ trueLoads y (y .engines) loads ⌝ }
 {
     let mut good = true;
-    for i in 0..16 {
+    for i in 0..ENGINE_LIMIT {
         let l = loads[i];
         good = good & true_at(y, i, l);
     }
@@ -55,24 +56,24 @@ fn true_at(y: System, i: usize, l: EngineLoad) -> bool
 }
 
 // A load added to a sum of at most 15 others.
-fn added(l: EngineLoad, sum: [u32; 6]) -> [u32; 6]
+fn added(l: EngineLoad, sum: [u32; TYPE_LIMIT]) -> [u32; TYPE_LIMIT]
     requires { ⌜ ((t : ℕ) → getD sum t 0 ≤ 1000000) ⌝ }
     ensures { λ r. ⌜ (r ≡ plus (l .counts) sum) × ((t : ℕ) → getD r t 0 ≤ getD sum t 0 + 65535) ⌝ }
 {
     let counts = l.counts;
     let mut next = sum;
-    for t in 0..6 {
+    for t in 0..TYPE_LIMIT {
         next[t] = (counts[t] as u32) + sum[t];
     }
     next
 }
 
 // What stands: the sum over the engines.
-fn total(loads: [EngineLoad; 16]) -> [u32; 6]
+fn total(loads: [EngineLoad; ENGINE_LIMIT]) -> [u32; TYPE_LIMIT]
     ensures { λ r. ⌜ r ≡ standingOf loads ⌝ }
 {
-    let mut sum: [u32; 6] = [0; 6];
-    let mut i = 16;
+    let mut sum: [u32; TYPE_LIMIT] = [0; TYPE_LIMIT];
+    let mut i = ENGINE_LIMIT;
     while 0 < i {
         i -= 1;
         let l = loads[i];
@@ -83,31 +84,31 @@ fn total(loads: [EngineLoad; 16]) -> [u32; 6]
 }
 
 // No total is above its type's ceiling.
-fn under_ceilings(sum: [u32; 6], tasks: [TaskType; 6]) -> bool
-    ensures { λ r. ⌜ r ≡ within sum (map (λ (t : TaskType). t .ceiling) tasks) ⌝ }
+fn under_ceilings(sum: [u32; TYPE_LIMIT], types: [TaskType; TYPE_LIMIT]) -> bool
+    ensures { λ r. ⌜ r ≡ within sum (map (λ (t : TaskType). t .ceiling) types) ⌝ }
 {
     let mut under = true;
-    for t in 0..6 {
-        let task = tasks[t];
+    for t in 0..TYPE_LIMIT {
+        let task = types[t];
         under = under & (sum[t] <= task.ceiling as u32);
     }
     under
 }
 
 // Totals that fit 16 bits, as counts.
-fn narrowed(sum: [u32; 6]) -> [u16; 6]
+fn narrowed(sum: [u32; TYPE_LIMIT]) -> [u16; TYPE_LIMIT]
     requires { ⌜ ((t : ℕ) → getD sum t 0 < 65536) ⌝ }
     ensures { λ r. ⌜ r ≡ sum ⌝ }
 {
-    let mut counts: [u16; 6] = [0; 6];
-    for t in 0..6 {
+    let mut counts: [u16; TYPE_LIMIT] = [0; TYPE_LIMIT];
+    for t in 0..TYPE_LIMIT {
         counts[t] = sum[t] as u16;
     }
     counts
 }
 
 // What stands on a true board, as a load.
-pub(crate) fn standing_counts(b: Board) -> [u16; 6]
+pub(crate) fn standing_counts(b: Board) -> [u16; TYPE_LIMIT]
     requires { ⌜ trueBoard b ≡ true ⌝ }
     ensures { λ r. ⌜ r ≡ standing b ⌝ }
 {
@@ -116,7 +117,7 @@ pub(crate) fn standing_counts(b: Board) -> [u16; 6]
 }
 
 // What engine e holds.
-pub(crate) fn load_at(b: Board, e: usize) -> [u16; 6]
+pub(crate) fn load_at(b: Board, e: usize) -> [u16; TYPE_LIMIT]
     requires { ⌜ (1 ≤ e) × (e ≤ engineLimit) ⌝ }
     ensures { λ r. ⌜ r ≡ loadAt b e ⌝ }
 {
@@ -131,8 +132,8 @@ pub fn true_board(b: Board) -> bool
     ensures { λ r. ⌜ r ≡ trueBoard b ⌝ }
 {
     let y = b.system;
-    let tasks = y.tasks;
+    let types = y.types;
     let loads = b.loads;
     let sum = total(loads);
-    system::keeps_limits(y) & true_loads(y, loads) & under_ceilings(sum, tasks)
+    system::keeps_limits(y) & true_loads(y, loads) & under_ceilings(sum, types)
 }

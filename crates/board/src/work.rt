@@ -2,20 +2,26 @@
 ghost use mathlib.Core.Path.{_≡_};
 ghost use mathlib.Core.Bool.{true};
 ghost use Prim.Native.Nat.{_-_, _≤_};
-ghost use Rattle.system.specs.Limits.{engineLimit, keepsLimits};
+ghost use lib.ListN.{length};
+ghost use Rattle.system.specs.Limits.{engineLimit};
 ghost use Rattle.system.specs.Values.{ceilingsOf};
 ghost use Rattle.loads.specs.Load.{fitsEngine, within, oneMore, oneLess};
 ghost use Rattle.table.specs.Table.{longEnough};
-ghost use Rattle.board.specs.Truth.{emptyBoard, loadAt, withLoad};
+ghost use Rattle.table.specs.Recovery.{listed};
+ghost use Rattle.board.specs.Boards.{emptyBoard, withLoad, enginesOf, loadAt};
+ghost use Rattle.board.specs.Truth.{trueBoard};
 ghost use Rattle.board.specs.Calls.{knownType, takes, withNewcomer, firstEngine, crowded, reseated, Does};
-ghost use Rattle.board.specs.Inner.{placeOf, CheckedNewcomer, OnEngine};
+ghost use Rattle.board.specs.Inner.{CheckedNewcomer, OnEngine};
 use crate::Board;
 use crate::Place;
 use crate::Turn;
 use crate::state;
 use system::Answer;
+use system::ENGINE_LIMIT;
 use system::Refusal;
 use system::System;
+use system::TYPE_LIMIT;
+use table::Engines;
 
 // A board on which nothing stands.
 pub fn empty_board(y: System) -> Board
@@ -23,8 +29,16 @@ pub fn empty_board(y: System) -> Board
 {
     Board {
         system: y,
-        loads: [loads::idle_engine(); 16],
+        loads: [loads::idle_engine(); ENGINE_LIMIT],
     }
+}
+
+// The engines that instances may be on, rising.
+fn engines_of(b: Board) -> Engines
+    requires { ⌜ trueBoard b ≡ true ⌝ }
+    ensures { λ r. ⌜ (r .count ≡ length (enginesOf b)) × (listed r ≡ enginesOf b) ⌝ }
+{
+    table::engines_to(b.system.engines)
 }
 
 // A refusal hands back the board as it was given.
@@ -38,7 +52,7 @@ pub fn refuse(b: Board, why: Refusal) -> Turn
 }
 
 // The board with this load on engine e, its sums computed anew.
-fn with_load(b: Board, e: usize, counts: [u16; 6]) -> Board
+fn with_load(b: Board, e: usize, counts: [u16; TYPE_LIMIT]) -> Board
     requires { ⌜ (1 ≤ e) × (e ≤ engineLimit) × (fitsEngine (b .system) counts ≡ true) ⌝ }
     ensures { λ r. ⌜ r ≡ withLoad b e counts ⌝ }
 {
@@ -50,7 +64,7 @@ fn with_load(b: Board, e: usize, counts: [u16; 6]) -> Board
 }
 
 // What engine e would hold with a newcomer of type t.
-fn load_with(b: Board, t: usize, e: usize) -> [u16; 6]
+fn load_with(b: Board, t: usize, e: usize) -> [u16; TYPE_LIMIT]
     requires { ⌜ CheckedNewcomer b t × OnEngine b e ⌝ }
     ensures { λ r. ⌜ r ≡ oneMore (t - 1) (loadAt b e) ⌝ }
 {
@@ -70,21 +84,21 @@ fn takes_it(b: Board, t: usize, e: usize) -> bool
 // The lowest-numbered engine that takes a newcomer of type t.
 pub fn first_engine(b: Board, t: usize) -> Place
     requires { ⌜ CheckedNewcomer b t ⌝ }
-    ensures { λ r. ⌜ r ≡ placeOf (b .system .engines) (firstEngine b t) ⌝ }
+    ensures { λ r. ⌜ r ≡ firstEngine b t ⌝ }
 {
-    let y = b.system;
-    let mut e: usize = 1;
-    while e <= y.engines {
+    let engines = engines_of(b);
+    let numbers = engines.numbers;
+    for i in 0..engines.count {
+        let e = numbers[i];
         if takes_it(b, t, e) {
             return Place::Engine(e);
         }
-        e += 1;
     }
     Place::Nowhere
 }
 
 // What stands with a newcomer of type t.
-pub fn with_newcomer(b: Board, t: usize) -> [u16; 6]
+pub fn with_newcomer(b: Board, t: usize) -> [u16; TYPE_LIMIT]
     requires { ⌜ CheckedNewcomer b t ⌝ }
     ensures { λ r. ⌜ r ≡ withNewcomer b t ⌝ }
 {
@@ -105,7 +119,7 @@ pub fn join(b: Board, t: usize, e: usize) -> Turn
 }
 
 // What engine e would hold without one of its instances of type t.
-fn load_without(b: Board, t: usize, e: usize) -> [u16; 6]
+fn load_without(b: Board, t: usize, e: usize) -> [u16; TYPE_LIMIT]
     requires { ⌜ OnEngine b e × (knownType (b .system) t ≡ true) ⌝ }
     ensures { λ r. ⌜ r ≡ oneLess (t - 1) (loadAt b e) ⌝ }
 {
@@ -126,12 +140,13 @@ pub fn leave(b: Board, t: usize, e: usize) -> Turn
 }
 
 // The whole board becomes the recovery of a load within the ceilings; 24 where there is none.
-pub fn reseat(b: Board, counts: [u16; 6], table: &mut [u16]) -> Turn
-    requires { ⌜ (keepsLimits (b .system) ≡ true) × (longEnough (b .system) (now table) ≡ true) × (within counts (ceilingsOf (b .system)) ≡ true) ⌝ }
+pub fn reseat(b: Board, counts: [u16; TYPE_LIMIT], table: &mut [u16]) -> Turn
+    requires { ⌜ (trueBoard b ≡ true) × (longEnough (b .system) (now table) ≡ true) × (within counts (ceilingsOf (b .system)) ≡ true) ⌝ }
     ensures { λ r. ⌜ Does (reseated b counts (now (table .entry))) r (now (table .exit)) ⌝ }
 {
     let y = b.system;
-    let found = table::place(table, y, counts);
+    let engines = engines_of(b);
+    let found = table::place(table, y, engines, counts);
     if !found.placed {
         return refuse(b, Refusal::State(24));
     }
@@ -152,7 +167,8 @@ pub fn no_engine(b: Board, t: usize, table: &mut [u16]) -> Turn
 {
     let y = b.system;
     let counts = with_newcomer(b, t);
-    let found = table::place(table, y, counts);
+    let engines = engines_of(b);
+    let found = table::place(table, y, engines, counts);
     if found.placed {
         return refuse(b, Refusal::State(23));
     }

@@ -1,5 +1,8 @@
 // The bytes of a system file, made from a system; and the refusals of a file of at most two types, judged field by field at fixed places.
 ghost use Prim.Native.Nat.{_<_};
+use buffer::put_byte;
+use buffer::put_four;
+use buffer::put_two;
 use system::System;
 use system::TaskType;
 
@@ -9,51 +12,29 @@ pub struct File {
     pub size: usize,
 }
 
-// Numbers of one, two and four bytes at a place of the file, most significant byte first.
-fn put_one(bytes: &mut [u8; 128], at: usize, v: u32) {
-    if at < 128 {
-        bytes[at] = (v % 256) as u8;
-    }
-}
-
-fn put_two(bytes: &mut [u8; 128], at: usize, v: u32) {
-    if at < 127 {
-        put_one(bytes, at, v / 256);
-        put_one(bytes, at + 1, v);
-    }
-}
-
-fn put_four(bytes: &mut [u8; 128], at: usize, v: u32) {
-    if at < 125 {
-        put_two(bytes, at, v / 65536);
-        put_two(bytes, at + 2, v);
-    }
-}
-
 // The field of the type at index t, where the system has it.
 fn put_type(bytes: &mut [u8; 128], y: System, t: usize) {
     if 6 <= t {
         return;
     }
-    if y.types <= t {
+    if y.typecount <= t {
         return;
     }
-    let task = y.tasks[t];
-    let at = 13 + 13 * t;
-    put_one(bytes, at, 2);
-    put_two(bytes, at + 1, 10);
-    put_four(bytes, at + 3, task.time);
-    put_four(bytes, at + 7, task.memory);
-    put_two(bytes, at + 11, task.ceiling as u32);
+    let task = y.types[t];
+    let tagged = put_byte(bytes, 13 + 13 * t, 2);
+    let sized = put_two(bytes, tagged, 10);
+    let timed = put_four(bytes, sized, task.time);
+    let stored = put_four(bytes, timed, task.memory);
+    put_two(bytes, stored, task.ceiling);
 }
 
 fn put_platform(bytes: &mut [u8; 128], y: System) {
-    put_one(bytes, 0, 1);
-    put_two(bytes, 1, 10);
-    put_one(bytes, 3, (y.engines % 256) as u32);
-    put_one(bytes, 4, y.rule as u32);
-    put_four(bytes, 5, y.time);
-    put_four(bytes, 9, y.memory);
+    let tagged = put_byte(bytes, 0, 1);
+    let sized = put_two(bytes, tagged, 10);
+    let counted = put_byte(bytes, sized, (y.engines % 256) as u8);
+    let ruled = put_byte(bytes, counted, y.rule);
+    let timed = put_four(bytes, ruled, y.timecap);
+    put_four(bytes, timed, y.memorycap);
 }
 
 // The file of a system of at most six types.
@@ -68,7 +49,7 @@ pub fn file_of(y: System) -> File {
     put_type(&mut bytes, y, 5);
     File {
         bytes: bytes,
-        size: 13 + 13 * (y.types % 7),
+        size: 13 + 13 * (y.typecount % 7),
     }
 }
 

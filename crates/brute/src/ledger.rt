@@ -5,11 +5,12 @@ use crate::search;
 use loads::EngineLoad;
 use std::num::wrapping_add_usize;
 use std::num::wrapping_sub_usize;
+use system::ENGINE_LIMIT;
 use system::System;
 
 pub struct Ledger {
     pub system: System,
-    pub loads: [EngineLoad; 16],
+    pub loads: [EngineLoad; ENGINE_LIMIT],
 }
 
 // What a call is answered, and the ledger after it.
@@ -28,7 +29,7 @@ pub struct Call {
 pub fn fresh(y: System) -> Ledger {
     Ledger {
         system: y,
-        loads: [recovery::idle(); 16],
+        loads: [recovery::idle(); ENGINE_LIMIT],
     }
 }
 
@@ -101,7 +102,7 @@ fn known(number: usize, last: usize) -> bool {
 // What a newcomer is refused with before it is looked for an engine: 13, 11, 21, in this order; 0 for nothing.
 fn newcomer_refusal(l: Ledger, task: usize, long: bool) -> usize {
     let y = l.system;
-    if !known(task, y.types) {
+    if !known(task, y.typecount) {
         return 113;
     }
     if !long {
@@ -118,7 +119,7 @@ fn newcomer_refusal(l: Ledger, task: usize, long: bool) -> usize {
 // The index of the first engine whose load with the newcomer fits, 16 where there is none.
 fn first_engine(l: Ledger, t: usize) -> usize {
     let y = l.system;
-    for e in 0..16 {
+    for e in 0..ENGINE_LIMIT {
         if e < y.engines {
             if search::fits_one(y, one_more(load_at(l, e), t)) {
                 return e;
@@ -175,7 +176,7 @@ fn seat(l: Ledger, task: usize, long: bool) -> Entry {
 
 fn retire(l: Ledger, task: usize, engine: usize) -> Entry {
     let y = l.system;
-    if !known(task, y.types) {
+    if !known(task, y.typecount) {
         return refused(l, 113);
     }
     if !known(engine, y.engines) {

@@ -4,13 +4,15 @@ use crate::search;
 use crate::search::Odometer;
 use loads::EngineLoad;
 use std::num::wrapping_add_usize;
+use system::ENGINE_LIMIT;
 use system::System;
+use system::TYPE_LIMIT;
 
 // Whether a good assignment exists, how many engines the recovery uses, and what each holds.
 pub struct Recovery {
     pub feasible: bool,
     pub used: usize,
-    pub loads: [EngineLoad; 16],
+    pub loads: [EngineLoad; ENGINE_LIMIT],
 }
 
 fn narrow(count: usize) -> u16 {
@@ -75,15 +77,15 @@ fn predecessor(y: System, load: [usize; 8], rows: usize) -> [usize; 8] {
 }
 
 // n(1) to n(6).
-pub fn ceilings_of(y: System) -> [u16; 6] {
-    let tasks = y.tasks;
+pub fn ceilings_of(y: System) -> [u16; TYPE_LIMIT] {
+    let types = y.types;
     [
-        tasks[0].ceiling,
-        tasks[1].ceiling,
-        tasks[2].ceiling,
-        tasks[3].ceiling,
-        tasks[4].ceiling,
-        tasks[5].ceiling,
+        types[0].ceiling,
+        types[1].ceiling,
+        types[2].ceiling,
+        types[3].ceiling,
+        types[4].ceiling,
+        types[5].ceiling,
     ]
 }
 
@@ -122,7 +124,7 @@ pub fn columns_of(y: System) -> usize {
 pub fn entries_of(y: System) -> usize {
     let columns = columns_of(y);
     let mut entries: usize = columns;
-    for row in 0..16 {
+    for row in 0..ENGINE_LIMIT {
         if row < y.engines {
             entries = wrapping_add_usize(entries, columns);
         }
@@ -175,11 +177,11 @@ pub fn right_cells(y: System, table: [u16; 512]) -> bool {
 }
 
 // The instances of the type at index t on all engines.
-pub fn instances(loads: [EngineLoad; 16], t: usize) -> usize
+pub fn instances(loads: [EngineLoad; ENGINE_LIMIT], t: usize) -> usize
     requires { ⌜ t < 6 ⌝ }
 {
     let mut sum: usize = 0;
-    for e in 0..16 {
+    for e in 0..ENGINE_LIMIT {
         let l = loads[e];
         sum = wrapping_add_usize(sum, search::wide(l.counts[t]));
     }
@@ -187,7 +189,7 @@ pub fn instances(loads: [EngineLoad; 16], t: usize) -> usize
 }
 
 // A load as six counts.
-pub fn counts_of(load: [usize; 8]) -> [u16; 6] {
+pub fn counts_of(load: [usize; 8]) -> [u16; TYPE_LIMIT] {
     [
         narrow(load[0]),
         narrow(load[1]),
@@ -212,7 +214,7 @@ pub fn idle() -> EngineLoad {
     EngineLoad {
         time: 0,
         memory: 0,
-        counts: [0; 6],
+        counts: [0; TYPE_LIMIT],
     }
 }
 
@@ -224,10 +226,10 @@ fn rows_of(used: usize) -> usize
 }
 
 // From the lowest row that says yes down to row 1: its engine gets the load less that of the lowest column before it.
-pub fn recovered(y: System, counts: [u16; 6]) -> Recovery {
+pub fn recovered(y: System, counts: [u16; TYPE_LIMIT]) -> Recovery {
     let used = search::fewest(y, counts);
     let mut load = search::digits_of(counts);
-    let mut loads = [idle(); 16];
+    let mut loads = [idle(); ENGINE_LIMIT];
     let mut row = rows_of(used);
     while 0 < row {
         row -= 1;
@@ -242,7 +244,7 @@ pub fn recovered(y: System, counts: [u16; 6]) -> Recovery {
     }
 }
 
-fn same_counts(a: [u16; 6], b: [u16; 6]) -> bool {
+fn same_counts(a: [u16; TYPE_LIMIT], b: [u16; TYPE_LIMIT]) -> bool {
     (a[0] == b[0])
         & (a[1] == b[1])
         & (a[2] == b[2])
@@ -258,9 +260,9 @@ pub fn same_load(a: EngineLoad, b: EngineLoad) -> bool {
 }
 
 // The engines hold the same, with the same stored sums.
-pub fn same_loads(a: [EngineLoad; 16], b: [EngineLoad; 16]) -> bool {
+pub fn same_loads(a: [EngineLoad; ENGINE_LIMIT], b: [EngineLoad; ENGINE_LIMIT]) -> bool {
     let mut same = true;
-    for e in 0..16 {
+    for e in 0..ENGINE_LIMIT {
         let x = a[e];
         let y = b[e];
         same = same & same_load(x, y);

@@ -5,6 +5,7 @@ use std::num::wrapping_add_usize;
 use system::Answer;
 use system::Refusal;
 use system::System;
+use system::TYPE_LIMIT;
 use system::TaskType;
 
 // An answer as one number: 0 accepted; 100 and more refused from the input, 200 and more from the state, with the refusal's number;
@@ -81,13 +82,13 @@ pub fn say_row(name: &[u8], row: [usize; 12], shown: usize) {
 }
 
 // What an engine holds: its time, memory and the counts of the first types.
-pub fn say_load(l: EngineLoad, types: usize) {
+pub fn say_load(l: EngineLoad, typecount: usize) {
     say(b" |");
     say_also(l.time as usize);
     say_also(l.memory as usize);
     let counts = l.counts;
-    for t in 0..6 {
-        if t < types {
+    for t in 0..TYPE_LIMIT {
+        if t < typecount {
             say_also(search::wide(counts[t]));
         }
     }
@@ -106,11 +107,11 @@ pub fn say_system(name: &[u8], y: System) {
     say(name);
     say_also(y.engines);
     say_also(y.rule as usize);
-    say_also(y.time as usize);
-    say_also(y.memory as usize);
-    for t in 0..6 {
-        let task = y.tasks[t];
-        if t < y.types {
+    say_also(y.timecap as usize);
+    say_also(y.memorycap as usize);
+    for t in 0..TYPE_LIMIT {
+        let task = y.types[t];
+        if t < y.typecount {
             say_task(task);
         }
     }

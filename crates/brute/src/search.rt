@@ -3,6 +3,7 @@ ghost use Prim.Native.Nat.{_≤_, _<_};
 use std::num::wrapping_add_u64;
 use std::num::wrapping_add_usize;
 use system::System;
+use system::TYPE_LIMIT;
 use system::TaskType;
 
 // No good assignment exists.
@@ -32,7 +33,7 @@ pub fn wide(count: u16) -> usize
 }
 
 // Six counts as eight digits, the last two 0.
-pub fn digits_of(counts: [u16; 6]) -> [usize; 8] {
+pub fn digits_of(counts: [u16; TYPE_LIMIT]) -> [usize; 8] {
     [
         wide(counts[0]),
         wide(counts[1]),
@@ -68,7 +69,7 @@ pub fn counted_up(digits: [usize; 8], bases: [usize; 8]) -> Odometer {
 // The type, counted from 0, of single instance j, where those of type 1 come first: 6 where there are fewer.
 fn kind_of(load: [usize; 8], j: usize) -> usize {
     let mut passed: usize = 0;
-    for t in 0..6 {
+    for t in 0..TYPE_LIMIT {
         passed = wrapping_add_usize(passed, load[t]);
         if j < passed {
             return t;
@@ -99,7 +100,7 @@ fn placed(y: System, h: Held, kind: usize, e: usize) -> Held {
     if 4 <= e {
         return h;
     }
-    let task = y.tasks[kind];
+    let task = y.types[kind];
     let at = e * 6 + kind;
     let mut next = h;
     next.time[e] = wrapping_add_u64(h.time[e], task.time as u64);
@@ -127,7 +128,7 @@ fn holding(y: System, kinds: [usize; 8], engines: [usize; 8]) -> Held {
 }
 
 fn engine_fits(y: System, time: u64, memory: u64) -> bool {
-    (time <= y.time as u64) & (memory <= y.memory as u64)
+    (time <= y.timecap as u64) & (memory <= y.memorycap as u64)
 }
 
 fn good(y: System, h: Held) -> bool {
@@ -203,7 +204,7 @@ pub fn fewest_on(y: System, load: [usize; 8], engines: usize) -> usize {
 }
 
 // The fewest used engines of a good assignment of these instances to the system's engines.
-pub fn fewest(y: System, counts: [u16; 6]) -> usize {
+pub fn fewest(y: System, counts: [u16; TYPE_LIMIT]) -> usize {
     fewest_on(y, digits_of(counts), y.engines)
 }
 

@@ -2,6 +2,7 @@
 use crate::systems;
 use std::num::wrapping_add_usize;
 use system::System;
+use system::TYPE_LIMIT;
 
 // A number drawn, and the seed that the next one comes from.
 pub struct Drawn {
@@ -72,12 +73,12 @@ fn with_drawn_type(d: DrawnSystem, most: usize, large: bool) -> DrawnSystem {
 }
 
 // A system of up to `engines` engines and this many types of at most `most` instances each.
-pub fn drawn_system(seed: u64, engines: usize, types: usize, most: usize) -> DrawnSystem {
+pub fn drawn_system(seed: u64, engines: usize, typecount: usize, most: usize) -> DrawnSystem {
     let scale = draw(seed, 2);
     let large = scale.value == 1;
     let mut d = drawn_platform(scale.seed, engines, large);
-    for t in 0..6 {
-        if t < types {
+    for t in 0..TYPE_LIMIT {
+        if t < typecount {
             let next = with_drawn_type(d, most, large);
             d = next;
         }

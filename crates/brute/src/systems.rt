@@ -1,5 +1,6 @@
 // Systems made part by part, document 01's systems A and B, and whether two systems are the same.
 use system::System;
+use system::TYPE_LIMIT;
 use system::TaskType;
 
 // A system with no type yet: m, rule, U and S.
@@ -7,22 +8,22 @@ pub fn platform_of(engines: usize, rule: u8, time: u32, memory: u32) -> System {
     let mut y = system::blank_system();
     y.engines = engines;
     y.rule = rule;
-    y.time = time;
-    y.memory = memory;
+    y.timecap = time;
+    y.memorycap = memory;
     y
 }
 
 // The system with one type more: u, s and n. As it is, where it has six.
 pub fn with_type(y: System, time: u32, memory: u32, ceiling: u16) -> System {
     let mut z = y;
-    let k = y.types;
+    let k = y.typecount;
     if k < 6 {
-        z.tasks[k] = TaskType {
+        z.types[k] = TaskType {
             time,
             memory,
             ceiling,
         };
-        z.types = k + 1;
+        z.typecount = k + 1;
     }
     z
 }
@@ -43,11 +44,11 @@ fn same_task(a: TaskType, b: TaskType) -> bool {
 }
 
 pub fn same_system(a: System, b: System) -> bool {
-    let mut same = (a.engines == b.engines) & (a.rule == b.rule) & (a.types == b.types);
-    same = same & (a.time == b.time) & (a.memory == b.memory);
-    for t in 0..6 {
-        let x = a.tasks[t];
-        let y = b.tasks[t];
+    let mut same = (a.engines == b.engines) & (a.rule == b.rule) & (a.typecount == b.typecount);
+    same = same & (a.timecap == b.timecap) & (a.memorycap == b.memorycap);
+    for t in 0..TYPE_LIMIT {
+        let x = a.types[t];
+        let y = b.types[t];
         same = same & same_task(x, y);
     }
     same

@@ -1,20 +1,20 @@
 -- W1 to W12 hold of the definitions: by computation, one theorem over the table.
 use mathlib.Core.Path.{refl}
-use Rattle.system.specs.Limits.{columnsOf, tasksKeep, keepsLimits}
+use Rattle.system.specs.Limits.{columnsOf, typesKeep, keepsLimits}
 use Rattle.system.specs.Layout.{ruleOf, platformFrom, typeFrom, ruledHead, headOf, bodyOf, ruledField, fieldOf, endOf, fieldsFrom, readFile}
-use Rattle.loads.specs.Load.{timeOf, memoryOf, fitsEngine, holdsNone, within, plus, less}
+use Rattle.loads.specs.Load.{sumOver, fitsEngine, holdsNone, within, plus, less}
 use Rattle.loads.specs.Column.{columnFrom, loadOf}
 use Rattle.partition.specs.Assignment.{countOn, among, every, anyOf, good, numbersFrom, eachBefore, placesOf, assignmentsOf, someGood}
-use Rattle.partition.specs.Shares.{sumOf}
+use Rattle.partition.specs.Shares.{sumOf, rowOn}
 use Rattle.partition.specs.Cell.{lowest, precedes, cell, lowestRow, recover, recovery}
 use Rattle.table.specs.Table.{upTo, filledTo}
 use Rattle.planner.specs.Plan.{verdictOf}
 use Rattle.board.specs.Truth.{trueLoads, trueBoard}
-use Rattle.board.specs.Calls.{firstEngine, checkNewcomer, admitted, admitOf, reseated, seatOf, checkRetire, retireOf}
-use Rattle.ledger.specs.Ledger.{admitEntry, seatEntry, retireEntry, repackEntry, step, ledgerAfter, ledgerAnswers}
+use Rattle.board.specs.Calls.{checkNewcomer, firstOf, admitted, admitOf, reseated, seatOf, checkRetire, retireOf}
+use Rattle.ledger.specs.Ledger.{passing, countedOn, admitEntry, seatEntry, retireEntry, repackEntry, step, ledgerAfter, ledgerAnswers}
 use Rattle.ledger.specs.Demand3.{boardAfter, boardAnswers}
 use Rattle.cases.specs.Cases.{yesOf, cases, AllHold}
 
 pub shown : AllHold cases
-unfolding columnsOf tasksKeep keepsLimits ruleOf platformFrom typeFrom ruledHead headOf bodyOf ruledField fieldOf endOf fieldsFrom readFile timeOf memoryOf fitsEngine holdsNone within plus less columnFrom loadOf countOn among every anyOf good numbersFrom eachBefore placesOf assignmentsOf someGood lowest precedes cell lowestRow recover recovery upTo filledTo verdictOf trueLoads trueBoard firstEngine checkNewcomer admitted admitOf reseated seatOf checkRetire retireOf sumOf admitEntry seatEntry retireEntry repackEntry step ledgerAfter ledgerAnswers boardAfter boardAnswers yesOf cases
+unfolding columnsOf typesKeep keepsLimits ruleOf platformFrom typeFrom ruledHead headOf bodyOf ruledField fieldOf endOf fieldsFrom readFile sumOver fitsEngine holdsNone within plus less columnFrom loadOf countOn among every anyOf good numbersFrom eachBefore placesOf assignmentsOf someGood lowest precedes cell lowestRow recover recovery upTo filledTo verdictOf trueLoads trueBoard firstOf checkNewcomer admitted admitOf reseated seatOf checkRetire retireOf sumOf rowOn passing countedOn admitEntry seatEntry retireEntry repackEntry step ledgerAfter ledgerAnswers boardAfter boardAnswers yesOf cases
 shown = refl

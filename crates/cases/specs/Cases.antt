@@ -9,12 +9,12 @@ use Rattle.system.specs.Limits.{columns}
 use Rattle.system.specs.Layout.{readFile, readSystem}
 use Rattle.system.specs.Outcome.{Outcome, accepted, refused, fromInput, fromState}
 use Rattle.loads.specs.declared.EngineLoad.{EngineLoad}
-use Rattle.partition.specs.Assignment.{numbersFrom}
+use Rattle.partition.specs.Assignment.{numbersFrom, enginesTo}
 use Rattle.partition.specs.Cell.{saysYes}
 use Rattle.partition.specs.ForSystem.{cellFor}
 use Rattle.table.specs.Table.{filled}
 use Rattle.planner.specs.Plan.{Verdict, verdictOf, planOutcome, planLoads}
-use Rattle.board.specs.Truth.{emptyBoard}
+use Rattle.board.specs.Boards.{emptyBoard}
 use Rattle.ledger.specs.Ledger.{Call, admit, seat, retire, freshLedger, ledgerAfter, ledgerAnswers}
 use Rattle.ledger.specs.Demand3.{Request, boardAfter, boardAnswers}
 
@@ -66,7 +66,7 @@ yesColumns y i = yesOf (λ (c : ℕ). saysYes (cellFor y i c)) (numbersFrom 0 (c
 
 -- the entry of row i, column c in the filled table
 abbrev pub entryAt : System → ℕ → ℕ → ℕ
-entryAt y i c = getD (filled y lent) (i * columns y + c) 0
+entryAt y i c = getD (filled y (enginesTo (y .engines)) lent) (i * columns y + c) 0
 
 -- engine by engine: time, memory and the counts of types 1 and 2
 abbrev pub lineOf : EngineLoad → List ℕ

@@ -18,7 +18,7 @@ use Rattle.partition.proofs.Lists.{every-parts, getD-padded}
 use Rattle.partition.proofs.Standing.{Valid, total, total-empty, valid-empty, valid-placed}
 use Rattle.table.specs.Table.{longEnough}
 use Rattle.board.specs.declared.Board.{Board}
-use Rattle.board.specs.Truth.{emptyBoard, standing}
+use Rattle.board.specs.Boards.{emptyBoard, enginesOf, standing}
 use Rattle.board.proofs.Truth.{boardOn, standing-on, engine-on}
 use Rattle.ledger.specs.Ledger.{Ledger, ledgerWith, countsAt, ledgerAfter, ledgerAnswers}
 use Rattle.ledger.specs.Demand3.{Request, answerOn, boardAfter, boardAnswers, callsOf, lendsTable, longTables, addsType, retiresType, acceptedOf, CallKept, Demand3}
@@ -116,8 +116,8 @@ pub demand3 : (file : List ℕ) (y : System) (rs : List Request) → readFile fi
 demand3 file y rs opens long = record {
   engines = λ e h k. ap (λ (a : Board). getD (a .loads) (e - 1) idleEngine) final ∙ engine-on y (r .rows) (e - 1) ∙ ap (λ (a : Ledger). engineWith y (countsAt a e)) (sym (r .ledger));
   placed =
-      subst (λ (a : Board). Placed y (standing a) (a .loads)) (sym final)
-      (subst (λ (x : List ℕ). Placed y x (boardOn y (r .rows) .loads)) (sym (standing-on y (r .rows))) (valid-placed (r .valid) (engineLimit - y .engines)));
+      subst (λ (a : Board). Placed y (enginesOf a) (standing a) (a .loads)) (sym final)
+      (subst (λ (x : List ℕ). Placed y (enginesOf (boardOn y (r .rows))) x (boardOn y (r .rows) .loads)) (sym (standing-on y (r .rows))) (valid-placed (r .valid) (engineLimit - y .engines)));
   answers = ap (λ (a : Board). boardAnswers a rs) start ∙ r .answers;
   stand =
       λ t h k.

@@ -2,12 +2,13 @@
 use Prim.Native.Nat.{ℕ, _+_, _-_, _≤_, _<_}
 use mathlib.Core.Path.{_≡_, refl, sym, ap, subst, _∙_}
 use mathlib.Core.List.{List, [], _∷_}
-use mathlib.Core.Bool.{Bool, true, false, cond, _&&_, and-false, and-true}
+use mathlib.Core.Bool.{Bool, true, false, cond, _&&_, and-false, and-true, false≢true}
+use mathlib.Core.Logic.{⊎-elim}
 use native.Mathlib.Nat.{add-zero}
 use native.Mathlib.Omega.{arith}
-use borrow.Author.Tests.{leb-true, leb-false, le-leb, lt-leb, eqb-true, eqb-false, eq-eqb, ne-eqb}
+use borrow.Author.Tests.{leb-true, leb-false, le-leb, lt-leb, ltb-true, ltb-false, eqb-true, eqb-false, eq-eqb, ne-eqb}
 use lib.ListN.{getD, set}
-use lib.Dec.{leb, eqb}
+use lib.Dec.{ltb, eqb}
 use Rattle.system.specs.declared.System.{System}
 use Rattle.system.specs.Values.{ceilingsOf}
 use Rattle.system.specs.Limits.{keepsLimits, typeLimit}
@@ -16,19 +17,22 @@ use Rattle.system.proofs.Laws.{Limits, limits-of}
 use Rattle.loads.specs.Load.{oneLess}
 use Rattle.loads.proofs.Order.{and-parts}
 use Rattle.loads.proofs.Change.{getD-oneMore, getD-oneLess}
+use Rattle.partition.specs.Assignment.{among, every}
 use Rattle.partition.specs.Shares.{usedLoads}
 use Rattle.partition.specs.ForSystem.{placeable, recoveredFor, OnFewest}
+use Rattle.partition.proofs.Lists.{not-both, or-cases, among-here, among-more, among-tested}
 use Rattle.partition.proofs.ForSystem.{someGood-placeable}
 use Rattle.partition.proofs.Standing.{Valid, total, length-total, count-le-sum, total-joined, valid-joined, total-left, valid-left, total-recovered, valid-recovered}
 use Rattle.table.specs.Table.{longEnough, filled}
 use Rattle.board.specs.declared.Board.{Board}
-use Rattle.board.specs.Truth.{countsOf, standing}
+use Rattle.board.specs.Boards.{countsOf, standing}
 use Rattle.board.specs.Calls.{Result, result, knownType}
 use Rattle.board.specs.Meaning.{Packed}
 use Rattle.board.proofs.Truth.{boardOn, board-true}
-use Rattle.board.proofs.Views.{joinedAt, withOne, countIn, leftAt, firstIn, Newcomer, TakesFirst, AdmitView, SeatView, RetireView, known-engine, length-withOne, withOne-within, admit-view, seat-view, retire-view, total-placeable, repack-view}
+use Rattle.board.proofs.Places.{rising, engines-distinct, engines-known, engines-rising}
+use Rattle.board.proofs.Views.{underIn, joinedAt, takesIn, withOne, countIn, leftAt, Newcomer, AdmitView, SeatView, RetireView, known-type, known-engine, first-index, length-withOne, withOne-within, admit-view, seat-view, retire-view, total-placeable, repack-view}
 use Rattle.board.proofs.Means.{admit-means, seat-means, retire-means, repack-means}
-use Rattle.ledger.specs.Ledger.{Call, admit, seat, retire, repack, Ledger, ledgerWith, stands, exists, Entry, entry, admitEntry, seatEntry, retireEntry, repackEntry, step}
+use Rattle.ledger.specs.Ledger.{Call, admit, seat, retire, repack, Ledger, ledgerWith, engines, exists, isFull, passing, Entry, entry, countedOn, admitEntry, seatEntry, retireEntry, repackEntry, step}
 use Rattle.ledger.specs.Demand3.{callOn, lendsTable, addsType, retiresType, CallKept}
 
 -- what one call does to the board and the ledger of the loads xs
@@ -41,6 +45,37 @@ pub record Step (y : System) (xs : List (List ℕ)) (c : Call) (table : List ℕ
   pub stand : (t : ℕ) → 1 ≤ t
       → getD (total rows) (t - 1) 0 + cond (retiresType t c && isAccepted (callOn (boardOn y xs) c table .outcome)) 1 0
       ≡ getD (total xs) (t - 1) 0 + cond (addsType t c && isAccepted (callOn (boardOn y xs) c table .outcome)) 1 0
+
+-- the lowest of some rising numbers that passes is the first of those that pass
+first-passing : (p : ℕ → Bool) (es : List ℕ) (e : ℕ) → rising es ≡ true → among es e ≡ true → p e ≡ true → ((d : ℕ) → among es d ≡ true → p d ≡ true → e ≤ d)
+    → (later : List ℕ) × (passing p es ≡ e ∷ later)
+unfolding rising among passing
+first-passing p [] e r h k low = absurd (false≢true h)
+first-passing p (c ∷ es) e r h k low = go (p c) refl (first-passing p es e (above .1))
+  where
+    above : (every (ltb c) es ≡ true) × (rising es ≡ true)
+    above = and-parts (every (ltb c) es) (rising es) r
+
+    most : among es e ≡ true → c ≤ e
+    most q = let l = ltb-true c e (among-tested (ltb c) es e (above .0) q) in omega arith
+
+    go : (q : Bool) → p c ≡ q → (among es e ≡ true → p e ≡ true → ((d : ℕ) → among es d ≡ true → p d ≡ true → e ≤ d) → (later : List ℕ) × (passing p es ≡ e ∷ later))
+        → (later : List ℕ) × (cond q (c ∷ passing p es) (passing p es) ≡ e ∷ later)
+    go true q rest =
+        let same : c ≡ e = ⊎-elim (λ s. eqb-true c e s) (λ s. omega (arith, most s, low c (among-here c es) q)) (or-cases (eqb c e) (among es e) h) in
+        (passing p es, ap (λ (z : ℕ). z ∷ passing p es) same)
+    go false q rest =
+        rest (⊎-elim (λ s. absurd (not-both k (subst (λ (z : ℕ). p z ≡ false) (eqb-true c e s) q))) (λ s. s) (or-cases (eqb c e) (among es e) h)) k
+        (λ d m. low d (among-more c d es m))
+
+none-passing : (p : ℕ → Bool) (es : List ℕ) → ((d : ℕ) → among es d ≡ true → p d ≡ true → ⊥) → passing p es ≡ []
+unfolding passing
+none-passing p [] h = refl
+none-passing p (c ∷ es) h = go (p c) refl (none-passing p es (λ d m. h d (among-more c d es m)))
+  where
+    go : (q : Bool) → p c ≡ q → passing p es ≡ [] → cond q (c ∷ passing p es) (passing p es) ≡ []
+    go true q rest = absurd (h c (among-here c es) q)
+    go false q rest = rest
 
 -- type numbers and their indexes
 same-number : (t u : ℕ) → 1 ≤ t → 1 ≤ u → eqb (t - 1) (u - 1) ≡ eqb t u
@@ -87,47 +122,46 @@ module _ (y : System) (xs : List (List ℕ)) (keeps : keepsLimits y ≡ true) (v
 
   -- intermediate: the numbers of a newcomer
 
-  known-type : (t : ℕ) → knownType y t ≡ true → (1 ≤ t) × (t ≤ y .types)
-  known-type t h =
-      let p = and-parts (leb 1 t) (leb t (y .types)) h in
-      (leb-true 1 t (p .0), leb-true t (y .types) (p .1))
-
   one-more : (t : ℕ) (rows : List (List ℕ)) → knownType y t ≡ true → total rows ≡ withOne xs t
       → (u : ℕ) → 1 ≤ u → getD (total rows) (u - 1) 0 + 0 ≡ getD (total xs) (u - 1) 0 + cond (eqb t u) 1 0
   one-more t rows k e u h =
-      let p = known-type t k in
+      let p = known-type y xs keeps v t k in
       add-zero (getD (total rows) (u - 1) 0)
       ∙ ap (λ (x : List ℕ). getD x (u - 1) 0) e
-      ∙ getD-oneMore (t - 1) (u - 1) (total xs) (omega (arith, p .0, p .1, limits .types, length-total v))
+      ∙ getD-oneMore (t - 1) (u - 1) (total xs) (omega (arith, p .0, p .1, limits .typecount, length-total v))
       ∙ ap (λ (q : Bool). getD (total xs) (u - 1) 0 + cond q 1 0) (same-number t u (p .0) h)
 
-  exists-one : (t : ℕ) → Newcomer y xs t → exists l (withOne xs t) ≡ placeable y (withOne xs t)
-  exists-one t n = someGood-placeable y limits (withOne xs t) (length-withOne y xs keeps v t) (withOne-within y xs keeps v t n)
+  -- 21 is said where not fewer than n(t) stand
+  not-full : (t : ℕ) → Newcomer y xs t → isFull l t ≡ false
+  not-full t n = let n-t = getD (ceilingsOf y) (t - 1) 0 in lt-leb n-t (getD (total xs) (t - 1) 0) (ltb-true (getD (total xs) (t - 1) 0) n-t (n .below))
+
+  is-full : (t : ℕ) → underIn y xs t ≡ false → isFull l t ≡ true
+  is-full t h = let n-t = getD (ceilingsOf y) (t - 1) 0 in le-leb n-t (getD (total xs) (t - 1) 0) (ltb-false (getD (total xs) (t - 1) 0) n-t h)
+
+  exists-one : (t : ℕ) → Newcomer y xs t → exists l (withOne xs t) ≡ placeable y (engines l) (withOne xs t)
+  exists-one t n = someGood-placeable y limits (engines l) (engines-distinct b) (withOne xs t) (length-withOne y xs keeps v t) (withOne-within y xs keeps v t n)
 
   -- main: admit
 
   admit-step : (t : ℕ) (table : List ℕ) → longEnough y table ≡ true → Step y xs (admit t) table
-  unfolding step admitEntry
+  unfolding step admitEntry countedOn
   admit-step t table long = by-view (admit-view y xs keeps v t table long)
     where
       by-view : AdmitView y xs t table (callOn b (admit t) table) → Step y xs (admit t) table
       by-view (AdmitView.unknown k s) = refused-step (admit t) table fromInput 13 table s (rw k)
-      by-view (AdmitView.full k f s) = refused-step (admit t) table fromState 21 table s (rw (k, f))
+      by-view (AdmitView.full k f s) = refused-step (admit t) table fromState 21 table s (rw (k, is-full t f))
       by-view (AdmitView.joins e n f s) =
           accepted-step (admit t) table (e ∷ []) (set xs (e - 1) (joinedAt xs t e)) table
-          (valid-joined y xs v (e - 1) (t - 1) (index e f) (leb-false (getD (ceilingsOf y) (t - 1) 0) (getD (total xs) (t - 1) 0) (n .notFull)) (f .takes .fit))
+          (valid-joined y xs v (e - 1) (t - 1) (first-index y xs keeps v t e f) (ltb-true (getD (total xs) (t - 1) 0) (getD (ceilingsOf y) (t - 1) 0) (n .below)) (f .passes))
           s
-          (rw (n .known, n .notFull, f .first, le-leb e (y .engines) (f .takes .most)))
-          (one-more t (set xs (e - 1) (joinedAt xs t e)) (n .known) (total-joined y xs v (e - 1) (t - 1) (index e f)))
-        where
-          index : (d : ℕ) → TakesFirst y xs t d → d - 1 < y .engines
-          index d g = omega (arith, g .takes .least, g .takes .most)
+          (rw (n .known, not-full t n, first-passing (takesIn y xs t) (engines l) e (engines-rising b) (f .engine) (f .passes) (f .lowest) .1))
+          (one-more t (set xs (e - 1) (joinedAt xs t e)) (n .known) (total-joined y xs v (e - 1) (t - 1) (first-index y xs keeps v t e f)))
       by-view (AdmitView.tight n f can s) =
-          refused-step (admit t) table fromState 23 (filled y table) s
-          (rw (n .known, n .notFull, lt-leb (firstIn y xs t) (y .engines) (f .past), exists-one t n, can))
+          refused-step (admit t) table fromState 23 (filled y (engines l) table) s
+          (rw (n .known, not-full t n, none-passing (takesIn y xs t) (engines l) (f .nowhere), exists-one t n, can))
       by-view (AdmitView.noRoom n f cannot s) =
-          refused-step (admit t) table fromState 24 (filled y table) s
-          (rw (n .known, n .notFull, lt-leb (firstIn y xs t) (y .engines) (f .past), exists-one t n, cannot))
+          refused-step (admit t) table fromState 24 (filled y (engines l) table) s
+          (rw (n .known, not-full t n, none-passing (takesIn y xs t) (engines l) (f .nowhere), exists-one t n, cannot))
 
   -- main: seat
 
@@ -137,17 +171,17 @@ module _ (y : System) (xs : List (List ℕ)) (keeps : keepsLimits y ≡ true) (v
     where
       by-view : SeatView y xs t table (callOn b (seat t) table) → Step y xs (seat t) table
       by-view (SeatView.unknown k s) = refused-step (seat t) table fromInput 13 table s (rw k)
-      by-view (SeatView.full k f s) = refused-step (seat t) table fromState 21 table s (rw (k, f))
+      by-view (SeatView.full k f s) = refused-step (seat t) table fromState 21 table s (rw (k, is-full t f))
       by-view (SeatView.seats n can s) =
           let six = length-withOne y xs keeps v t in
           let below = withOne-within y xs keeps v t n in
-          accepted-step (seat t) table [] (recoveredFor (y .engines) y (withOne xs t)) (filled y table)
-          (valid-recovered y limits (withOne xs t) six below can)
+          accepted-step (seat t) table [] (recoveredFor (y .engines) y (engines l) (withOne xs t)) (filled y (engines l) table)
+          (valid-recovered y limits (engines l) (engines-distinct b) (engines-known b) (withOne xs t) six below can)
           s
-          (rw (n .known, n .notFull, exists-one t n, can))
-          (one-more t (recoveredFor (y .engines) y (withOne xs t)) (n .known) (total-recovered y limits (withOne xs t) six below can))
+          (rw (n .known, not-full t n, exists-one t n, can))
+          (one-more t (recoveredFor (y .engines) y (engines l) (withOne xs t)) (n .known) (total-recovered y limits (engines l) (engines-distinct b) (engines-known b) (withOne xs t) six below can))
       by-view (SeatView.noRoom n cannot s) =
-          refused-step (seat t) table fromState 24 (filled y table) s (rw (n .known, n .notFull, exists-one t n, cannot))
+          refused-step (seat t) table fromState 24 (filled y (engines l) table) s (rw (n .known, not-full t n, exists-one t n, cannot))
 
   -- main: retire
 
@@ -158,18 +192,22 @@ module _ (y : System) (xs : List (List ℕ)) (keeps : keepsLimits y ≡ true) (v
       by-view : RetireView y xs t table (callOn b (retire t e) table) e → Step y xs (retire t e) table
       by-view (RetireView.unknown k s) = refused-step (retire t e) table fromInput 13 table s (rw k)
       by-view (RetireView.noEngine k d s) = refused-step (retire t e) table fromInput 14 table s (rw (k, d))
-      by-view (RetireView.noneThere k d z s) = refused-step (retire t e) table fromState 22 table s (rw (k, d, eq-eqb (countIn xs t e) 0 z))
-      by-view (RetireView.leaves k d held s) =
+      by-view (RetireView.noneThere k d none s) =
+          refused-step (retire t e) table fromState 22 table s (rw (k, d, eq-eqb (countIn xs t e) 0 (let z = leb-false 1 (countIn xs t e) none in omega arith)))
+      by-view (RetireView.leaves k d some s) =
           accepted-step (retire t e) table [] (set xs (e - 1) (leftAt xs t e)) table
           (valid-left y xs v (e - 1) (t - 1) index held)
           s
-          (rw (k, d, ne-eqb (countIn xs t e) 0 (λ z. omega arith)))
+          (rw (k, d, ne-eqb (countIn xs t e) 0 (λ z. omega (arith, held))))
           (λ u h.
           ap (λ (x : List ℕ). getD x (u - 1) 0 + cond (eqb t u) 1 0) (total-left y xs v (e - 1) (t - 1) index held)
-          ∙ ap (λ (q : Bool). getD (oneLess (t - 1) (total xs)) (u - 1) 0 + cond q 1 0) (sym (same-number t u (known-type t k .0) h))
+          ∙ ap (λ (q : Bool). getD (oneLess (t - 1) (total xs)) (u - 1) 0 + cond q 1 0) (sym (same-number t u (known-type y xs keeps v t k .0) h))
           ∙ getD-oneLess (t - 1) (u - 1) (total xs) (omega (arith, held, count-le-sum typeLimit xs (e - 1) (t - 1) (v .sized) (omega (arith, index, v .rows))))
           ∙ sym (add-zero (getD (total xs) (u - 1) 0)))
         where
+          held : 1 ≤ countIn xs t e
+          held = leb-true 1 (countIn xs t e) some
+
           index : e - 1 < y .engines
           index = let at = known-engine y xs keeps v e d in omega (arith, at .0, at .1)
 
@@ -179,11 +217,11 @@ module _ (y : System) (xs : List (List ℕ)) (keeps : keepsLimits y ≡ true) (v
   unfolding step repackEntry
   repack-step table long =
       let can = total-placeable y xs keeps v in
-      accepted-step repack table [] (recoveredFor (y .engines) y (total xs)) (filled y table)
-      (valid-recovered y limits (total xs) (length-total v) (v .ceiling) can)
+      accepted-step repack table [] (recoveredFor (y .engines) y (engines l) (total xs)) (filled y (engines l) table)
+      (valid-recovered y limits (engines l) (engines-distinct b) (engines-known b) (total xs) (length-total v) (v .ceiling) can)
       (repack-view y xs keeps v table long)
       refl
-      (λ u h. ap (λ (x : List ℕ). getD x (u - 1) 0 + 0) (total-recovered y limits (total xs) (length-total v) (v .ceiling) can))
+      (λ u h. ap (λ (x : List ℕ). getD x (u - 1) 0 + 0) (total-recovered y limits (engines l) (engines-distinct b) (engines-known b) (total xs) (length-total v) (v .ceiling) can))
 
   -- main: every call
 
@@ -194,8 +232,8 @@ module _ (y : System) (xs : List (List ℕ)) (keeps : keepsLimits y ≡ true) (v
   step-of repack table long = repack-step table (long refl)
 
   -- what demand 3 says of the call, on the board that it is given
-  packed-fewest : (x : List ℕ) (after : Board) → Packed b x after → OnFewest y (standing after) (after .loads) (usedLoads (countsOf (after .loads)))
-  packed-fewest x after p = subst (λ (z : List ℕ). OnFewest y z (after .loads) (usedLoads (countsOf (after .loads)))) (sym (p .stands)) (p .fewest)
+  packed-fewest : (x : List ℕ) (after : Board) → Packed b x after → OnFewest y (engines l) (standing after) (after .loads) (usedLoads (countsOf (after .loads)))
+  packed-fewest x after p = subst (λ (z : List ℕ). OnFewest y (engines l) z (after .loads) (usedLoads (countsOf (after .loads)))) (sym (p .stands)) (p .fewest)
 
   pub kept-of : (c : Call) (table : List ℕ) → (lendsTable c ≡ true → longEnough y table ≡ true) → CallKept b c (callOn b c table)
   kept-of (admit t) table long =

@@ -14,9 +14,9 @@ use Rattle.partition.specs.Shares.{usedLoads}
 use Rattle.partition.specs.ForSystem.{Placed, OnFewest}
 use Rattle.table.specs.Table.{longEnough}
 use Rattle.board.specs.declared.Board.{Board}
-use Rattle.board.specs.Truth.{emptyBoard, countsOf, standing}
+use Rattle.board.specs.Boards.{emptyBoard, enginesOf, countsOf, standing}
 use Rattle.board.specs.Calls.{Result, admitOf, seatOf, retireOf, repackOf}
-use Rattle.board.specs.Meaning.{holdsType, belowCeiling, takesType, Room}
+use Rattle.board.specs.Meaning.{HoldsType, BelowCeiling, TakesType, Room}
 use Rattle.ledger.specs.Ledger.{Call, admit, seat, retire, repack, countsAt, freshLedger, ledgerAfter, ledgerAnswers}
 
 -- a call with the table that is lent to it; a retire takes none, and its table is not looked at
@@ -79,22 +79,22 @@ acceptedOf kind b (r ∷ rs) =
 -- what demand 3 says of one call, of the board b that it was given and its result r
 abbrev pub CallKept : Board → Call → Result → Type 0
 CallKept b (admit t) r =
-    belowCeiling b t ≡ true → ((isAccepted (r .outcome) ≡ true) ↔ ((e : ℕ) × (takesType b t e ≡ true))) × ((r .outcome ≡ refused fromState 24) ↔ (Room b t → ⊥))
+    BelowCeiling b t → ((isAccepted (r .outcome) ≡ true) ↔ ((e : ℕ) × TakesType b t e)) × ((r .outcome ≡ refused fromState 24) ↔ (Room b t → ⊥))
 CallKept b (seat t) r =
-    (belowCeiling b t ≡ true → ((isAccepted (r .outcome) ≡ true) ↔ Room b t) × ((r .outcome ≡ refused fromState 24) ↔ (Room b t → ⊥)))
-    × (isAccepted (r .outcome) ≡ true → OnFewest (b .system) (standing (r .board)) (r .board .loads) (usedLoads (countsOf (r .board .loads))))
-CallKept b (retire t e) r = (isAccepted (r .outcome) ≡ true) ↔ (holdsType b t e ≡ true)
+    (BelowCeiling b t → ((isAccepted (r .outcome) ≡ true) ↔ Room b t) × ((r .outcome ≡ refused fromState 24) ↔ (Room b t → ⊥)))
+    × (isAccepted (r .outcome) ≡ true → OnFewest (b .system) (enginesOf b) (standing (r .board)) (r .board .loads) (usedLoads (countsOf (r .board .loads))))
+CallKept b (retire t e) r = (isAccepted (r .outcome) ≡ true) ↔ HoldsType b t e
 CallKept b repack r =
-    (isAccepted (r .outcome) ≡ true) × OnFewest (b .system) (standing (r .board)) (r .board .loads) (usedLoads (countsOf (r .board .loads)))
+    (isAccepted (r .outcome) ≡ true) × OnFewest (b .system) (enginesOf b) (standing (r .board)) (r .board .loads) (usedLoads (countsOf (r .board .loads)))
 
 pub record Demand3 (y : System) (rs : List Request) : Type 0 where
   -- every engine holds what the ledger has there, and its stored time and memory are theirs
   pub engines : (e : ℕ) → 1 ≤ e → e ≤ y .engines → getD (boardAfter (emptyBoard y) rs .loads) (e - 1) idleEngine ≡ engineWith y (countsAt (ledgerAfter (freshLedger y) (callsOf rs)) e)
   -- and that is a good assignment of what stands
-  pub placed : Placed y (standing (boardAfter (emptyBoard y) rs)) (boardAfter (emptyBoard y) rs .loads)
+  pub placed : Placed y (enginesOf (boardAfter (emptyBoard y) rs)) (standing (boardAfter (emptyBoard y) rs)) (boardAfter (emptyBoard y) rs .loads)
   -- every call was answered as the ledger answers it
   pub answers : boardAnswers (emptyBoard y) rs ≡ ledgerAnswers (freshLedger y) (callsOf rs)
   -- of each type there stand its accepted admits and seats less its accepted retires
-  pub stand : (t : ℕ) → 1 ≤ t → t ≤ y .types → getD (standing (boardAfter (emptyBoard y) rs)) (t - 1) 0 + acceptedOf (retiresType t) (emptyBoard y) rs ≡ acceptedOf (addsType t) (emptyBoard y) rs
+  pub stand : (t : ℕ) → 1 ≤ t → t ≤ y .typecount → getD (standing (boardAfter (emptyBoard y) rs)) (t - 1) 0 + acceptedOf (retiresType t) (emptyBoard y) rs ≡ acceptedOf (addsType t) (emptyBoard y) rs
   -- and each call, on the board that it was given
   pub calls : (before after : List Request) (r : Request) → rs ≡ before ++ r ∷ after → CallKept (boardAfter (emptyBoard y) before) (r .call) (answerOn (boardAfter (emptyBoard y) before) r)

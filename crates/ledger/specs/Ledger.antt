@@ -1,5 +1,5 @@
 -- Document 01's "Ledger": kept from the calls alone. It knows systems, loads, assignments and cells, and nothing of the board or the table.
-use Prim.Native.Nat.{ℕ, suc, _-_}
+use Prim.Native.Nat.{ℕ, _-_}
 use mathlib.Core.List.{List, [], _∷_}
 use mathlib.Core.Bool.{Bool, cond, not, _&&_}
 use lib.ListN.{getD, set, replicate}
@@ -11,7 +11,6 @@ use Rattle.system.specs.Outcome.{Outcome, accepted, refused, fromInput, fromSta
 use Rattle.loads.specs.Load.{fitsEngine, oneMore, oneLess, emptyLoad}
 use Rattle.partition.specs.Assignment.{enginesTo, someGood}
 use Rattle.partition.specs.Shares.{sumOf}
-use Rattle.partition.specs.Cell.{lowest}
 use Rattle.partition.specs.ForSystem.{recoveredFor}
 
 -- a call, as the ledger hears of it: its kind, with its type number and engine number where it has them
@@ -44,13 +43,17 @@ countsAt l e = getD (l .counts) (e - 1) emptyLoad
 abbrev pub withCounts : Ledger → ℕ → List ℕ → Ledger
 withCounts l e x = ledgerWith (l .system) (set (l .counts) (e - 1) x)
 
+-- the engines that its instances may be on: 1 to m
+abbrev pub engines : Ledger → List ℕ
+engines l = enginesTo (l .system .engines)
+
 -- a good assignment of x exists, by trying all assignments
 abbrev pub exists : Ledger → List ℕ → Bool
-exists l x = someGood (λ (e : ℕ). fitsEngine (l .system)) (enginesTo (l .system .engines)) x
+exists l x = someGood (λ (e : ℕ). fitsEngine (l .system)) (engines l) x
 
 -- the recovery of x by the cells
 abbrev pub recovered : Ledger → List ℕ → Ledger
-recovered l x = ledgerWith (l .system) (recoveredFor (l .system .engines) (l .system) x)
+recovered l x = ledgerWith (l .system) (recoveredFor (l .system .engines) (l .system) (engines l) x)
 
 -- what the ledger answers to a call, and the ledger after it
 pub record Entry : Type 0 where
@@ -61,7 +64,7 @@ abbrev pub entry : Outcome → Ledger → Entry
 entry o l = record { answer = o; ledger = l }
 
 abbrev pub isType : Ledger → ℕ → Bool
-isType l t = leb 1 t && leb t (l .system .types)
+isType l t = leb 1 t && leb t (l .system .typecount)
 
 abbrev pub isEngine : Ledger → ℕ → Bool
 isEngine l e = leb 1 e && leb e (l .system .engines)
@@ -70,17 +73,25 @@ isEngine l e = leb 1 e && leb e (l .system .engines)
 abbrev pub isFull : Ledger → ℕ → Bool
 isFull l t = leb (getD (ceilingsOf (l .system)) (t - 1) 0) (getD (stands l) (t - 1) 0)
 
--- the lowest-numbered engine whose load with one more t fits; m + 1 if there is none
-abbrev pub lowestFit : Ledger → ℕ → ℕ
-lowestFit l t = lowest (λ (e : ℕ). fitsEngine (l .system) (oneMore (t - 1) (countsAt l e))) (suc (l .system .engines)) (l .system .engines) 1
+-- those of a list that pass, in order
+unfoldable pub passing : (ℕ → Bool) → List ℕ → List ℕ
+passing p [] = []
+passing p (e ∷ es) = cond (p e) (e ∷ passing p es) (passing p es)
+
+-- the engines whose load with one more t fits, the lowest-numbered first
+abbrev pub takers : Ledger → ℕ → List ℕ
+takers l t = passing (λ (e : ℕ). fitsEngine (l .system) (oneMore (t - 1) (countsAt l e))) (engines l)
+
+-- the newcomer is counted on the first of these; where there is none, 23 or 24
+unfoldable pub countedOn : Ledger → ℕ → List ℕ → Entry
+countedOn l t (e ∷ later) = entry (accepted (e ∷ [])) (withCounts l e (oneMore (t - 1) (countsAt l e)))
+countedOn l t [] = cond (exists l (oneMore (t - 1) (stands l))) (entry (refused fromState 23) l) (entry (refused fromState 24) l)
 
 unfoldable pub admitEntry : Ledger → ℕ → Entry
 admitEntry l t =
     cond (not (isType l t)) (entry (refused fromInput 13) l)
     (cond (isFull l t) (entry (refused fromState 21) l)
-    (cond (leb (lowestFit l t) (l .system .engines))
-    (entry (accepted (lowestFit l t ∷ [])) (withCounts l (lowestFit l t) (oneMore (t - 1) (countsAt l (lowestFit l t)))))
-    (cond (exists l (oneMore (t - 1) (stands l))) (entry (refused fromState 23) l) (entry (refused fromState 24) l))))
+    (countedOn l t (takers l t)))
 
 unfoldable pub seatEntry : Ledger → ℕ → Entry
 seatEntry l t =

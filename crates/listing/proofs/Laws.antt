@@ -1,58 +1,24 @@
--- Laws of the definitions of a listing: bytes put one after another, decimal digits, and lines.
+-- Laws of the definitions of a listing: decimal digits, and lines.
 use Prim.Native.Nat.{ℕ, zero, suc, _+_, _-_, _/_, _%_, _^_, _≤_, _<_, min}
-use mathlib.Core.Path.{_≡_, refl, sym, ap, ap₂, _∙_}
+use mathlib.Core.Path.{_≡_, refl, sym, ap, _∙_}
 use mathlib.Core.Bool.{Bool, true, false}
 use mathlib.Core.List.{List, [], _∷_, _++_, append-assoc, append-nil, map, map-append}
-use native.Mathlib.Nat.{add-zero, zero-add, add-assoc, le-refl, le-of-lt, min-eq-left, min-eq-right, mod-eq-of-lt, pow-suc, pow-le-pow-right, one-le-pow}
+use native.Mathlib.Nat.{add-zero, le-refl, le-of-lt, min-eq-left, min-eq-right, mod-eq-of-lt, pow-suc, pow-le-pow-right, one-le-pow}
 use native.Mathlib.Omega.{arith}
 use native.Mathlib.Numerals.{add-one, sub-one}
-use lib.ListN.{length, getD, take, drop, set, length-append, take-append-drop}
-use lib.Seq.{take-at, drop-at, drop-drop, set-split, paste, take-suc, take-all, take-length, length-take-le}
-use lib.Dec.{leb, lit<, lit≤}
+use lib.ListN.{length, getD, take}
+use lib.Seq.{take-suc, take-all, take-length}
+use lib.Dec.{leb, lit<}
 use borrow.Author.Tests.{lt-ltb, le-ltb, leb-true, leb-false}
-use Rattle.system.specs.Limits.{engineLimit}
-use Rattle.system.specs.Layout.{Reading, longestField, longestFile}
+use Rattle.system.specs.Layout.{Reading}
 use Rattle.system.specs.Outcome.{outcomeOf}
-use Rattle.system.proofs.Prefix.{read-take}
 use Rattle.loads.specs.declared.EngineLoad.{EngineLoad}
 use Rattle.planner.specs.declared.Plan.{Plan}
-use Rattle.planner.specs.Plan.{recordsFrom, recordsOf, verdictOf, Plans}
+use Rattle.planner.specs.Plan.{recordsFrom, recordsOf, verdictOf}
+use Rattle.planner.specs.Demands.{PlanPromises}
 use Rattle.io.specs.Digits.{glyph, digits, Fewest}
-use Rattle.listing.specs.Listing.{engineWord, utilWord, memWord, typesWord, space, lineEnd, digit, decimalFrom, decimal, parted, line, engineLine, recordLine, recordLines, listingOf, verdictListing, fileListing}
-use Rattle.listing.specs.Written.{put, Puts, Written}
-
--- bytes put one after another
-
--- b put where a ended: the two put together
-pub put-put : (a b : List ℕ) (at : ℕ) (old : List ℕ) → at ≤ length old → put b (at + length a) (put a at old) ≡ put (a ++ b) at old
-put-put a b at old h =
-    let head : length (take at old ++ a) ≡ at + length a = length-append (take at old) a ∙ ap (λ (n : ℕ). n + length a) (length-take-le at old h) in
-    let kept : take (at + length a) (put a at old) ≡ take at old ++ a = ap (take (at + length a)) (sym (append-assoc (take at old) a _)) ∙ take-at (take at old ++ a) _ (at + length a) head in
-    let rest : drop (at + length a) (put a at old) ≡ drop (at + length a) old = ap (drop (at + length a)) (sym (append-assoc (take at old) a _)) ∙ drop-at (take at old ++ a) _ (at + length a) head in
-    let past : drop (at + length a + length b) (put a at old) ≡ drop (at + length (a ++ b)) old =
-    sym (drop-drop (length b) (at + length a) (put a at old))
-    ∙ ap (drop (length b)) rest
-    ∙ drop-drop (length b) (at + length a) old
-    ∙ ap (λ (n : ℕ). drop n old) (add-assoc at (length a) (length b) ∙ ap (λ (n : ℕ). at + n) (sym (length-append a b))) in
-    ap₂ (λ (x y : List ℕ). x ++ (b ++ y)) kept past ∙ simp append-assoc
-
-pub puts-then : {a b : List ℕ} {at p q : ℕ} {old mid new : List ℕ} → at ≤ length old → Puts a at old mid p → Puts b p mid new q → Puts (a ++ b) at old new q
-puts-then {a = a} {b = b} {at = at} {p = p} {q = q} {old = old} {mid = mid} {new = new} h x y = record {
-  left = y .left ∙ ap₂ (put b) (x .next) (x .left) ∙ put-put a b at old h;
-  next = y .next ∙ ap (λ (n : ℕ). n + length b) (x .next) ∙ simp length-append (omega arith);
-}
-
--- one byte stored
-pub puts-byte : (b at : ℕ) (old : List ℕ) → at < length old → Puts (b ∷ []) at old (set old at b) (at + 1)
-puts-byte b at old h = record { left = rw (add-one, set-split old at b); next = refl }
-
--- nothing put
-pub puts-none : (at : ℕ) (old : List ℕ) → Puts [] at old old at
-puts-none at old = record { left = sym (simp (add-zero, take-append-drop)); next = sym (add-zero at) }
-
--- a whole word copied
-pub puts-copy : (word old : List ℕ) (at n : ℕ) → n ≡ length word → Puts word at old (paste old at word n) (at + length word)
-puts-copy word old at n e = record { left = rw (e, take-length word, append-assoc); next = refl }
+use Rattle.listing.specs.Listing.{engineWord, utilWord, memWord, typesWord, space, lineEnd, digit, decimalFrom, decimal, parted, line, engineLine, recordLine, recordLines, listingOf, verdictListing}
+use Rattle.listing.specs.Room.{numberRoom}
 
 -- decimal digits
 
@@ -86,14 +52,14 @@ pub decimal-digits : (r n : ℕ) → Fewest 10 1 n r → digits 10 r n ≡ decim
 decimal-digits r n h = decimalFrom-digits r n n h (le-refl n)
 
 -- a number of 64 bits has at most 20 digits
-pub decimal-short : (r n : ℕ) → Fewest 10 1 n r → n < 2 ^ 64 → r ≤ 20
-decimal-short r n (some, below, above) h = go (leb r 20) refl
+pub decimal-short : (r n : ℕ) → Fewest 10 1 n r → n < 2 ^ 64 → r ≤ numberRoom
+decimal-short r n (some, below, above) h = go (leb r numberRoom) refl
   where
-    go : (b : Bool) → leb r 20 ≡ b → r ≤ 20
-    go true e = leb-true r 20 e
+    go : (b : Bool) → leb r numberRoom ≡ b → r ≤ numberRoom
+    go true e = leb-true r numberRoom e
     go false e =
-        let long : 20 < r = leb-false r 20 e in
-        let more : 10 ^ 20 ≤ 10 ^ (r - 1) = pow-le-pow-right (lit< tt) {i = 20} {j = r - 1} (omega arith) in
+        let long : numberRoom < r = leb-false r numberRoom e in
+        let more : 10 ^ numberRoom ≤ 10 ^ (r - 1) = pow-le-pow-right (lit< tt) {i = numberRoom} {j = r - 1} (omega arith) in
         let large : 10 ^ (r - 1) ≤ n = above (omega arith) in
         absurd (omega arith)
 
@@ -163,25 +129,7 @@ pub line-parts : (word : List ℕ) (n : ℕ) → word ++ (space ∷ decimal n) +
 unfolding parted
 line-parts word n = simp (append-assoc, append-nil)
 
--- what stands at the start of the buffer
-pub written : {bytes old new : List ℕ} {r : ℕ} → r ≤ length old → length new ≡ length old → Puts bytes 0 old new r → Written bytes old new r
-written {bytes = bytes} {old = old} {new = new} {r = r} h e p =
-    let inside : r ≤ length new = omega arith in
-    record {
-      left = p .left ∙ ap (λ (n : ℕ). bytes ++ drop n old) (zero-add (length bytes));
-      count = p .next ∙ zero-add (length bytes);
-      within = (inside, sym (length-take-le r new inside));
-    }
-
 -- the listing of what a plan promises
-pub listing-planned : {x : Reading} {table : List ℕ} {room : ℕ} {p : Plan} {after : List ℕ} → Plans x table room p after
-    → listingOf (outcomeOf (p .answer)) (p .used) (p .types) (p .loads) ≡ verdictListing (verdictOf x table room)
-listing-planned h = rw (h .answer, h .used, h .types, h .loads)
-
--- a cut that leaves the longest file and one field more has the listing of the whole file
-pub listing-take : (n : ℕ) (file table : List ℕ) → longestFile + longestField ≤ n → fileListing (take n file) table ≡ fileListing file table
-listing-take n file table wide = ap (λ (x : Reading). verdictListing (verdictOf x table engineLimit)) (read-take n file wide)
-
--- so the 128 bytes that program `plan` reads are enough
-pub listing-prefix : (file table : List ℕ) → fileListing (take 128 file) table ≡ fileListing file table
-listing-prefix file table = listing-take 128 file table (lit≤ tt)
+pub listing-planned : {x : Reading} {table : List ℕ} {room : ℕ} {p : Plan} {after : List ℕ} → PlanPromises x table room p after
+    → listingOf (outcomeOf (p .answer)) (p .used) (p .typecount) (p .loads) ≡ verdictListing (verdictOf x table room)
+listing-planned h = rw (h .answers, h .uses, h .counts, h .places)

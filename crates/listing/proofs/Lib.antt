@@ -3,3 +3,4 @@ pub mod Laws
 pub mod Examples
 pub mod Numbers
 pub mod Demands
+pub mod Text

@@ -1,4 +1,5 @@
 -- The definitions of crate `listing`, in reading order.
 pub mod Listing
-pub mod Written
+pub mod Room
 pub mod Demands
+pub mod Text

@@ -1,4 +1,5 @@
--- Laws of time, memory and fit: of the empty load, of a smaller load, and of one instance more or less.
+-- Laws of time, memory and fit: of the empty load, of a smaller load, of two loads together, and of one instance more or less.
+-- Each is proved once of the sum over the types; time and memory are instances of it.
 use Prim.Native.Nat.{ℕ, zero, suc, _+_, _-_, _*_, _≤_, _<_, zero-le}
 use mathlib.Core.Path.{_≡_, refl, ap}
 use mathlib.Core.List.{List, [], _∷_}
@@ -13,10 +14,81 @@ use Rattle.system.specs.declared.TaskType.{TaskType}
 use Rattle.system.specs.declared.System.{System}
 use Rattle.system.specs.Values.{noTask}
 use Rattle.system.specs.Limits.{typeLimit}
-use Rattle.loads.specs.Load.{timeOf, memoryAt, memoryOf, fitsEngine, emptyLoad, within, plus, oneMore, oneLess, engineWith, idleEngine}
+use Rattle.loads.specs.Load.{sumOver, timeAt, timeOf, memoryAt, memoryOf, fitsEngine, emptyLoad, within, plus, oneMore, oneLess, engineWith, idleEngine}
 use Rattle.loads.proofs.Order.{and-parts, and-both, within-refl}
 
--- intermediate: the memory of one type
+-- intermediate: lists of counts
+
+within-set-below : (x : List ℕ) (i v : ℕ) → v ≤ getD x i 0 → within (set x i v) x ≡ true
+unfolding within
+within-set-below [] i v h = refl
+within-set-below (x ∷ xs) zero v h = and-both (leb v x) _ (le-leb v x h) (within-refl xs)
+within-set-below (x ∷ xs) (suc i) v h = and-both (leb x x) _ (le-leb x x (le-refl x)) (within-set-below xs i v h)
+
+-- a type that has an instance is one of the list's
+pub held-in : (x : List ℕ) (i : ℕ) → 1 ≤ getD x i 0 → i < length x
+held-in x i h = lt-of-not-le (λ (past : length x ≤ i). omega (arith, List·getD-eq-default x 0 past))
+
+-- main: the sum over the types
+
+module _ (each : TaskType → ℕ → ℕ) where
+  -- no instance takes nothing
+  pub sum-empty : ((t : TaskType) → each t 0 ≡ 0) → (ts : List TaskType) (n : ℕ) → sumOver each ts (replicate n 0) ≡ 0
+  unfolding sumOver
+  sum-empty e [] n = refl
+  sum-empty e (t ∷ ts) zero = refl
+  sum-empty e (t ∷ ts) (suc n) = rw (e t, sum-empty e ts n)
+
+  -- more instances take no less
+  pub sum-within : ((t : TaskType) (x z : ℕ) → x ≤ z → each t x ≤ each t z) →
+      (ts : List TaskType) (x z : List ℕ) → within x z ≡ true → sumOver each ts x ≤ sumOver each ts z
+  unfolding sumOver within
+  sum-within e [] x z h = zero-le
+  sum-within e (t ∷ ts) [] z h = zero-le
+  sum-within e (t ∷ ts) (x ∷ xs) [] h = absurd (false≢true h)
+  sum-within e (t ∷ ts) (x ∷ xs) (z ∷ zs) h =
+      let b = and-parts (leb x z) (within xs zs) h in
+      add-le-add (e t x z (leb-true x z (b .0))) (sum-within e ts xs zs (b .1))
+
+  -- each instance takes the same
+  pub sum-plus : ((t : TaskType) (x z : ℕ) → each t (x + z) ≡ each t x + each t z) →
+      (ts : List TaskType) (x z : List ℕ) → length x ≡ length z → sumOver each ts (plus x z) ≡ sumOver each ts x + sumOver each ts z
+  unfolding sumOver plus
+  sum-plus e [] x z h = refl
+  sum-plus e (t ∷ ts) [] [] h = refl
+  sum-plus e (t ∷ ts) [] (z ∷ zs) h = absurd (omega arith)
+  sum-plus e (t ∷ ts) (x ∷ xs) [] h = absurd (omega arith)
+  sum-plus e (t ∷ ts) (x ∷ xs) (z ∷ zs) h = omega (arith, e t x z, sum-plus e ts xs zs (suc-inj h))
+
+  -- one count replaced; past the types nothing is taken
+  pub sum-set : ((x : ℕ) → each noTask x ≡ 0) → (ts : List TaskType) (x : List ℕ) (i v : ℕ) → i < length x →
+      sumOver each ts (set x i v) + each (getD ts i noTask) (getD x i 0) ≡ sumOver each ts x + each (getD ts i noTask) v
+  unfolding sumOver
+  sum-set e [] x i v h = rw (e (getD x i 0), e v)
+  sum-set e (t ∷ ts) [] i v h = absurd (not-suc-le-zero h)
+  sum-set e (t ∷ ts) (x ∷ xs) zero v h = omega arith
+  sum-set e (t ∷ ts) (x ∷ xs) (suc i) v h = omega (arith, sum-set e ts xs i v (le-of-suc-le-suc h))
+
+  -- one instance more brings what its type takes more, one instance less takes it away
+  module _ (past : (x : ℕ) → each noTask x ≡ 0) (ts : List TaskType) (x : List ℕ) (i : ℕ) (share : ℕ) where
+    pub sum-one-more : i < length x → each (getD ts i noTask) (getD x i 0 + 1) ≡ each (getD ts i noTask) (getD x i 0) + share →
+        sumOver each ts (oneMore i x) ≡ sumOver each ts x + share
+    sum-one-more h e = omega (arith, sum-set past ts x i (getD x i 0 + 1) h, e)
+
+    pub sum-one-less : 1 ≤ getD x i 0 → each (getD ts i noTask) (getD x i 0 - 1) + share ≡ each (getD ts i noTask) (getD x i 0) →
+        sumOver each ts (oneLess i x) + share ≡ sumOver each ts x
+    sum-one-less h e = omega (arith, sum-set past ts x i (getD x i 0 - 1) (held-in x i h), e)
+
+-- intermediate: the time of one type, and its memory
+
+timeAt-noTask : (x : ℕ) → timeAt noTask x ≡ 0
+timeAt-noTask x = mul-zero x
+
+one-more-times : (n u : ℕ) → (n + 1) * u ≡ n * u + u
+one-more-times n u = omega (arith, add-mul n 1 u)
+
+one-less-times : (n u : ℕ) → 1 ≤ n → (n - 1) * u + u ≡ n * u
+one-less-times n u h = omega (arith, add-mul (n - 1) 1 u, ap (λ (k : ℕ). k * u) (sub-add-cancel h))
 
 -- each instance has a copy of the code
 abbrev ownCopies : ℕ → Bool
@@ -46,116 +118,62 @@ memoryAt-le rule t x z h = go (ownCopies rule) (eqb x 0) (eqb z 0) refl refl
     go false false true p q = absurd (eqb-false x 0 p (omega (arith, eqb-true z 0 q)))
     go false false false p q = le-refl (t .memory)
 
+shared-some : (t : TaskType) (x : ℕ) → 1 ≤ x → memoryAt 1 t x ≡ t .memory
+shared-some t x h = ap (λ (b : Bool). cond b 0 (t .memory)) (ne-eqb x 0 (λ e. omega arith))
+
+shared-none : (t : TaskType) (x : ℕ) → x ≡ 0 → memoryAt 1 t x ≡ 0
+shared-none t x e = ap (λ (b : Bool). cond b 0 (t .memory)) (eq-eqb x 0 e)
+
 -- main: fit is a bound on time and one on memory
 
 module _ (y : System) (x : List ℕ) where
-  pub fits-of : timeOf (y .tasks) x ≤ y .time → memoryOf (y .rule) (y .tasks) x ≤ y .memory → fitsEngine y x ≡ true
+  pub fits-of : timeOf (y .types) x ≤ y .timecap → memoryOf (y .rule) (y .types) x ≤ y .memorycap → fitsEngine y x ≡ true
   unfolding fitsEngine
-  fits-of h k = and-both (leb (timeOf (y .tasks) x) (y .time)) _ (le-leb _ _ h) (le-leb _ _ k)
+  fits-of h k = and-both (leb (timeOf (y .types) x) (y .timecap)) _ (le-leb _ _ h) (le-leb _ _ k)
 
-  pub fits-time : fitsEngine y x ≡ true → timeOf (y .tasks) x ≤ y .time
+  pub fits-time : fitsEngine y x ≡ true → timeOf (y .types) x ≤ y .timecap
   unfolding fitsEngine
-  fits-time h = leb-true _ _ (and-parts (leb (timeOf (y .tasks) x) (y .time)) _ h .0)
+  fits-time h = leb-true _ _ (and-parts (leb (timeOf (y .types) x) (y .timecap)) _ h .0)
 
-  pub fits-memory : fitsEngine y x ≡ true → memoryOf (y .rule) (y .tasks) x ≤ y .memory
+  pub fits-memory : fitsEngine y x ≡ true → memoryOf (y .rule) (y .types) x ≤ y .memorycap
   unfolding fitsEngine
-  fits-memory h = leb-true _ _ (and-parts (leb (timeOf (y .tasks) x) (y .time)) _ h .1)
+  fits-memory h = leb-true _ _ (and-parts (leb (timeOf (y .types) x) (y .timecap)) _ h .1)
 
 -- main: the empty load
 
 pub time-empty : (ts : List TaskType) (n : ℕ) → timeOf ts (replicate n 0) ≡ 0
-unfolding timeOf
-time-empty [] n = refl
-time-empty (t ∷ ts) zero = refl
-time-empty (t ∷ ts) (suc n) = rw (zero-mul, time-empty ts n)
+time-empty = sum-empty timeAt (λ t. zero-mul (t .time))
 
 pub memory-empty : (rule : ℕ) (ts : List TaskType) (n : ℕ) → memoryOf rule ts (replicate n 0) ≡ 0
-unfolding memoryOf
-memory-empty rule [] n = refl
-memory-empty rule (t ∷ ts) zero = refl
-memory-empty rule (t ∷ ts) (suc n) = rw (memoryAt-none rule t, memory-empty rule ts n)
+memory-empty rule = sum-empty (memoryAt rule) (memoryAt-none rule)
 
 pub zeros-fit : (y : System) (n : ℕ) → fitsEngine y (replicate n 0) ≡ true
-zeros-fit y n = fits-of y (replicate n 0) (rw (time-empty (y .tasks) n) zero-le) (rw (memory-empty (y .rule) (y .tasks) n) zero-le)
+zeros-fit y n = fits-of y (replicate n 0) (rw (time-empty (y .types) n) zero-le) (rw (memory-empty (y .rule) (y .types) n) zero-le)
 
 pub empty-fits : (y : System) → fitsEngine y emptyLoad ≡ true
 empty-fits y = zeros-fit y typeLimit
 
 pub engineWith-idle : (y : System) → engineWith y emptyLoad ≡ idleEngine
-engineWith-idle y = λ i. record { time = time-empty (y .tasks) typeLimit i; memory = memory-empty (y .rule) (y .tasks) typeLimit i; counts = emptyLoad }
+engineWith-idle y = λ i. record { time = time-empty (y .types) typeLimit i; memory = memory-empty (y .rule) (y .types) typeLimit i; counts = emptyLoad }
 
 -- main: a smaller load
 
 pub time-within : (ts : List TaskType) (x z : List ℕ) → within x z ≡ true → timeOf ts x ≤ timeOf ts z
-unfolding timeOf within
-time-within [] x z h = zero-le
-time-within (t ∷ ts) [] z h = zero-le
-time-within (t ∷ ts) (x ∷ xs) [] h = absurd (false≢true h)
-time-within (t ∷ ts) (x ∷ xs) (z ∷ zs) h =
-    let b = and-parts (leb x z) (within xs zs) h in
-    add-le-add (mul-le-mul-right (t .time) (leb-true x z (b .0))) (time-within ts xs zs (b .1))
+time-within = sum-within timeAt (λ t x z h. mul-le-mul-right (t .time) h)
 
 pub memory-within : (rule : ℕ) (ts : List TaskType) (x z : List ℕ) → within x z ≡ true → memoryOf rule ts x ≤ memoryOf rule ts z
-unfolding memoryOf within
-memory-within rule [] x z h = zero-le
-memory-within rule (t ∷ ts) [] z h = zero-le
-memory-within rule (t ∷ ts) (x ∷ xs) [] h = absurd (false≢true h)
-memory-within rule (t ∷ ts) (x ∷ xs) (z ∷ zs) h =
-    let b = and-parts (leb x z) (within xs zs) h in
-    add-le-add (memoryAt-le rule t x z (leb-true x z (b .0))) (memory-within rule ts xs zs (b .1))
+memory-within rule = sum-within (memoryAt rule) (memoryAt-le rule)
 
 pub fits-within : (y : System) (x z : List ℕ) → within x z ≡ true → fitsEngine y z ≡ true → fitsEngine y x ≡ true
 fits-within y x z h f =
     fits-of y x
-    (le-trans (time-within (y .tasks) x z h) (fits-time y z f))
-    (le-trans (memory-within (y .rule) (y .tasks) x z h) (fits-memory y z f))
+    (le-trans (time-within (y .types) x z h) (fits-time y z f))
+    (le-trans (memory-within (y .rule) (y .types) x z h) (fits-memory y z f))
 
 -- main: the two loads together
 
 pub time-plus : (ts : List TaskType) (x z : List ℕ) → length x ≡ length z → timeOf ts (plus x z) ≡ timeOf ts x + timeOf ts z
-unfolding timeOf plus
-time-plus [] x z h = refl
-time-plus (t ∷ ts) [] [] h = refl
-time-plus (t ∷ ts) [] (z ∷ zs) h = absurd (omega arith)
-time-plus (t ∷ ts) (x ∷ xs) [] h = absurd (omega arith)
-time-plus (t ∷ ts) (x ∷ xs) (z ∷ zs) h = omega (arith, add-mul x z (t .time), time-plus ts xs zs (suc-inj h))
-
--- intermediate: one count replaced
-
-time-set : (ts : List TaskType) (x : List ℕ) (i v : ℕ) → i < length x →
-    timeOf ts (set x i v) + getD x i 0 * getD ts i noTask .time ≡ timeOf ts x + v * getD ts i noTask .time
-unfolding timeOf
-time-set [] x i v h = rw (mul-zero, mul-zero)
-time-set (t ∷ ts) [] i v h = absurd (not-suc-le-zero h)
-time-set (t ∷ ts) (x ∷ xs) zero v h = omega arith
-time-set (t ∷ ts) (x ∷ xs) (suc i) v h = omega (arith, time-set ts xs i v (le-of-suc-le-suc h))
-
-memory-set : (rule : ℕ) (ts : List TaskType) (x : List ℕ) (i v : ℕ) → i < length x →
-    memoryOf rule ts (set x i v) + memoryAt rule (getD ts i noTask) (getD x i 0) ≡ memoryOf rule ts x + memoryAt rule (getD ts i noTask) v
-unfolding memoryOf
-memory-set rule [] x i v h = rw (memoryAt-noTask rule (getD x i 0), memoryAt-noTask rule v)
-memory-set rule (t ∷ ts) [] i v h = absurd (not-suc-le-zero h)
-memory-set rule (t ∷ ts) (x ∷ xs) zero v h = omega arith
-memory-set rule (t ∷ ts) (x ∷ xs) (suc i) v h = omega (arith, memory-set rule ts xs i v (le-of-suc-le-suc h))
-
-within-set-below : (x : List ℕ) (i v : ℕ) → v ≤ getD x i 0 → within (set x i v) x ≡ true
-unfolding within
-within-set-below [] i v h = refl
-within-set-below (x ∷ xs) zero v h = and-both (leb v x) _ (le-leb v x h) (within-refl xs)
-within-set-below (x ∷ xs) (suc i) v h = and-both (leb x x) _ (le-leb x x (le-refl x)) (within-set-below xs i v h)
-
--- a type that has an instance is one of the list's
-pub held-in : (x : List ℕ) (i : ℕ) → 1 ≤ getD x i 0 → i < length x
-held-in x i h = lt-of-not-le (λ (past : length x ≤ i). omega (arith, List·getD-eq-default x 0 past))
-
-one-less-times : (n u : ℕ) → 1 ≤ n → (n - 1) * u + u ≡ n * u
-one-less-times n u h = omega (arith, add-mul (n - 1) 1 u, ap (λ (k : ℕ). k * u) (sub-add-cancel h))
-
-shared-some : (t : TaskType) (x : ℕ) → 1 ≤ x → memoryAt 1 t x ≡ t .memory
-shared-some t x h = rw (ne-eqb x 0 (λ e. omega arith))
-
-shared-none : (t : TaskType) (x : ℕ) → x ≡ 0 → memoryAt 1 t x ≡ 0
-shared-none t x e = rw (eq-eqb x 0 e)
+time-plus = sum-plus timeAt (λ t x z. add-mul x z (t .time))
 
 -- main: one instance more, one instance less
 
@@ -167,37 +185,39 @@ pub fits-one-less : (y : System) (i : ℕ) (x : List ℕ) → fitsEngine y x ≡
 fits-one-less y i x f = fits-within y (oneLess i x) x (within-oneLess i x) f
 
 module _ (ts : List TaskType) (x : List ℕ) (i : ℕ) where
+  abbrev t : TaskType
+  t = getD ts i noTask
+
+  abbrev n : ℕ
+  n = getD x i 0
+
   pub time-one-more : i < length x → timeOf ts (oneMore i x) ≡ timeOf ts x + getD ts i noTask .time
-  time-one-more h = omega (arith, time-set ts x i (getD x i 0 + 1) h, add-mul (getD x i 0) 1 (getD ts i noTask .time))
+  time-one-more h = sum-one-more timeAt timeAt-noTask ts x i (t .time) h (one-more-times n (t .time))
 
   pub time-one-less : 1 ≤ getD x i 0 → timeOf ts (oneLess i x) + getD ts i noTask .time ≡ timeOf ts x
-  time-one-less h = omega (arith, time-set ts x i (getD x i 0 - 1) (held-in x i h), one-less-times (getD x i 0) (getD ts i noTask .time) h)
+  time-one-less h = sum-one-less timeAt timeAt-noTask ts x i (t .time) h (one-less-times n (t .time) h)
 
   -- rule 0, own copies: each instance has its s
   pub memory-one-more-own : i < length x → memoryOf 0 ts (oneMore i x) ≡ memoryOf 0 ts x + getD ts i noTask .memory
-  memory-one-more-own h = omega (arith, memory-set 0 ts x i (getD x i 0 + 1) h, add-mul (getD x i 0) 1 (getD ts i noTask .memory))
+  memory-one-more-own h = sum-one-more (memoryAt 0) (memoryAt-noTask 0) ts x i (t .memory) h (one-more-times n (t .memory))
 
   pub memory-one-less-own : 1 ≤ getD x i 0 → memoryOf 0 ts (oneLess i x) + getD ts i noTask .memory ≡ memoryOf 0 ts x
-  memory-one-less-own h =
-      omega (arith, memory-set 0 ts x i (getD x i 0 - 1) (held-in x i h), one-less-times (getD x i 0) (getD ts i noTask .memory) h)
+  memory-one-less-own h = sum-one-less (memoryAt 0) (memoryAt-noTask 0) ts x i (t .memory) h (one-less-times n (t .memory) h)
 
   -- rule 1, shared code: only the first instance of a type brings its s, only the last takes it away
   pub memory-one-more-shared-first : i < length x → getD x i 0 ≡ 0 → memoryOf 1 ts (oneMore i x) ≡ memoryOf 1 ts x + getD ts i noTask .memory
   memory-one-more-shared-first h e =
-      let t = getD ts i noTask in
-      omega (arith, memory-set 1 ts x i (getD x i 0 + 1) h, shared-none t (getD x i 0) e, shared-some t (getD x i 0 + 1) (omega arith))
+      sum-one-more (memoryAt 1) (memoryAt-noTask 1) ts x i (t .memory) h (omega (arith, shared-none t n e, shared-some t (n + 1) (omega arith)))
 
   pub memory-one-more-shared-kept : 1 ≤ getD x i 0 → memoryOf 1 ts (oneMore i x) ≡ memoryOf 1 ts x
   memory-one-more-shared-kept h =
-      let t = getD ts i noTask in
-      omega (arith, memory-set 1 ts x i (getD x i 0 + 1) (held-in x i h), shared-some t (getD x i 0) h, shared-some t (getD x i 0 + 1) (omega arith))
+      omega (arith, sum-one-more (memoryAt 1) (memoryAt-noTask 1) ts x i 0 (held-in x i h) (omega (arith, shared-some t n h, shared-some t (n + 1) (omega arith))))
 
   pub memory-one-less-shared-kept : 2 ≤ getD x i 0 → memoryOf 1 ts (oneLess i x) ≡ memoryOf 1 ts x
   memory-one-less-shared-kept h =
-      let t = getD ts i noTask in
-      omega (arith, memory-set 1 ts x i (getD x i 0 - 1) (held-in x i (omega arith)), shared-some t (getD x i 0) (omega arith), shared-some t (getD x i 0 - 1) (omega arith))
+      omega (arith, sum-one-less (memoryAt 1) (memoryAt-noTask 1) ts x i 0 (omega arith) (omega (arith, shared-some t n (omega arith), shared-some t (n - 1) (omega arith))))
 
   pub memory-one-less-shared-freed : getD x i 0 ≡ 1 → memoryOf 1 ts (oneLess i x) + getD ts i noTask .memory ≡ memoryOf 1 ts x
   memory-one-less-shared-freed e =
-      let t = getD ts i noTask in
-      omega (arith, memory-set 1 ts x i (getD x i 0 - 1) (held-in x i (omega arith)), shared-some t (getD x i 0) (omega arith), shared-none t (getD x i 0 - 1) (omega arith))
+      sum-one-less (memoryAt 1) (memoryAt-noTask 1) ts x i (t .memory) (omega arith)
+      (omega (arith, shared-some t n (omega arith), shared-none t (n - 1) (omega arith)))

@@ -10,7 +10,7 @@ use lib.Dec.{eqb}
 use Rattle.system.specs.declared.TaskType.{TaskType}
 use Rattle.system.specs.Values.{noTask}
 use Rattle.system.specs.Limits.{columnsOf}
-use Rattle.loads.specs.Load.{timeOf, memoryAt, memoryOf, holdsNone, less}
+use Rattle.loads.specs.Load.{sumOver, holdsNone, less}
 use Rattle.loads.specs.Column.{columnFrom, loadOf}
 
 -- of an array in a struct whose elements are structs, `search (needs, length-mapped)` finds the length
@@ -23,14 +23,10 @@ ceilings ts = map (λ (t : TaskType). t .ceiling) ts
 
 -- the sums over types and counts
 module _ (ts : List TaskType) (xs : List ℕ) (i : ℕ) (ht : i < length ts) (hx : i < length xs) where
-  pub time-turn : timeOf (drop i ts) (drop i xs) ≡ getD xs i 0 * getD ts i noTask .time + timeOf (drop (i + 1) ts) (drop (i + 1) xs)
-  unfolding timeOf
-  time-turn = rw (add-one i, drop-cons ts i noTask, drop-cons xs i 0)
-
-  pub memory-turn : (rule : ℕ) →
-      memoryOf rule (drop i ts) (drop i xs) ≡ memoryAt rule (getD ts i noTask) (getD xs i 0) + memoryOf rule (drop (i + 1) ts) (drop (i + 1) xs)
-  unfolding memoryOf
-  memory-turn rule = rw (add-one i, drop-cons ts i noTask, drop-cons xs i 0)
+  pub sum-turn : (each : TaskType → ℕ → ℕ) →
+      sumOver each (drop i ts) (drop i xs) ≡ each (getD ts i noTask) (getD xs i 0) + sumOver each (drop (i + 1) ts) (drop (i + 1) xs)
+  unfolding sumOver
+  sum-turn each = rw (add-one i, drop-cons ts i noTask, drop-cons xs i 0)
 
   pub column-turn : (stride : ℕ) →
       columnFrom stride (ceilings (drop i ts)) (drop i xs)
@@ -39,13 +35,9 @@ module _ (ts : List TaskType) (xs : List ℕ) (i : ℕ) (ht : i < length ts) (hx
   column-turn stride = rw (add-one i, drop-cons ts i noTask, drop-cons xs i 0)
 
 module _ (ts : List TaskType) (xs : List ℕ) (i : ℕ) (h : length ts ≤ i) where
-  pub time-end : timeOf (drop i ts) xs ≡ 0
-  unfolding timeOf
-  time-end = rw (drop-of-length-le ts {i = i})
-
-  pub memory-end : (rule : ℕ) → memoryOf rule (drop i ts) xs ≡ 0
-  unfolding memoryOf
-  memory-end rule = rw (drop-of-length-le ts {i = i})
+  pub sum-end : (each : TaskType → ℕ → ℕ) → sumOver each (drop i ts) xs ≡ 0
+  unfolding sumOver
+  sum-end each = rw (drop-of-length-le ts {i = i})
 
   pub column-end : (stride : ℕ) → columnFrom stride (ceilings (drop i ts)) xs ≡ 0
   unfolding columnFrom

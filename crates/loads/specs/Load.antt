@@ -8,25 +8,35 @@ use Rattle.system.specs.declared.TaskType.{TaskType}
 use Rattle.system.specs.declared.System.{System}
 use Rattle.system.specs.Limits.{typeLimit}
 use Rattle.loads.specs.declared.EngineLoad.{EngineLoad}
+use Rattle.loads.specs.declared.Sums.{Sums}
+
+-- what `each` says of a type and of the number of its instances, summed over the types
+unfoldable pub sumOver : (TaskType → ℕ → ℕ) → List TaskType → List ℕ → ℕ
+sumOver each [] xs = 0
+sumOver each (t ∷ ts) [] = 0
+sumOver each (t ∷ ts) (x ∷ xs) = each t x + sumOver each ts xs
 
 -- "Its time is the sum of count × u(t)"
-unfoldable pub timeOf : List TaskType → List ℕ → ℕ
-timeOf [] xs = 0
-timeOf (t ∷ ts) [] = 0
-timeOf (t ∷ ts) (x ∷ xs) = x * t .time + timeOf ts xs
+abbrev pub timeAt : TaskType → ℕ → ℕ
+timeAt t x = x * t .time
+
+abbrev pub timeOf : List TaskType → List ℕ → ℕ
+timeOf ts xs = sumOver timeAt ts xs
 
 -- the memory that x instances of one type take on an engine: x copies of the code under rule 0, one copy for all under rule 1
 abbrev pub memoryAt : ℕ → TaskType → ℕ → ℕ
 memoryAt rule t x = cond (eqb rule 0) (x * t .memory) (cond (eqb x 0) 0 (t .memory))
 
-unfoldable pub memoryOf : ℕ → List TaskType → List ℕ → ℕ
-memoryOf rule [] xs = 0
-memoryOf rule (t ∷ ts) [] = 0
-memoryOf rule (t ∷ ts) (x ∷ xs) = memoryAt rule t x + memoryOf rule ts xs
+abbrev pub memoryOf : ℕ → List TaskType → List ℕ → ℕ
+memoryOf rule ts xs = sumOver (memoryAt rule) ts xs
+
+-- both sums of a load, always computed anew from its counts
+abbrev pub sumsOf : System → List ℕ → Sums
+sumsOf y x = record { time = timeOf (y .types) x; memory = memoryOf (y .rule) (y .types) x }
 
 -- document 01's "fits": time at most U and memory at most S
 unfoldable pub fitsEngine : System → List ℕ → Bool
-fitsEngine y x = leb (timeOf (y .tasks) x) (y .time) && leb (memoryOf (y .rule) (y .tasks) x) (y .memory)
+fitsEngine y x = leb (timeOf (y .types) x) (y .timecap) && leb (memoryOf (y .rule) (y .types) x) (y .memorycap)
 
 -- no instance at all
 unfoldable pub holdsNone : List ℕ → Bool
@@ -61,9 +71,9 @@ oneMore i x = set x i (getD x i 0 + 1)
 abbrev pub oneLess : ℕ → List ℕ → List ℕ
 oneLess i x = set x i (getD x i 0 - 1)
 
--- an engine that holds the load x, with its time and memory always computed anew from the counts
+-- an engine that holds the load x, with its sums
 abbrev pub engineWith : System → List ℕ → EngineLoad
-engineWith y x = record { time = timeOf (y .tasks) x; memory = memoryOf (y .rule) (y .tasks) x; counts = x }
+engineWith y x = record { time = timeOf (y .types) x; memory = memoryOf (y .rule) (y .types) x; counts = x }
 
 abbrev pub idleEngine : EngineLoad
 idleEngine = record { time = 0; memory = 0; counts = emptyLoad }

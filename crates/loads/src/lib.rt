@@ -4,17 +4,24 @@ ghost use Prim.Native.Nat.{_+_, _-_, _*_, _%_, _^_, _≤_, _<_};
 ghost use mathlib.Core.Bool.{true};
 ghost use lib.ListN.{getD};
 ghost use Rattle.system.specs.Values.{ceilingsOf};
-ghost use Rattle.system.specs.Limits.{columns, columnLimit};
-ghost use Rattle.loads.specs.Load.{timeOf, memoryAt, memoryOf, fitsEngine, holdsNone, less, oneMore, oneLess, engineWith, idleEngine};
+ghost use Rattle.system.specs.Limits.{typeLimit, columns, columnLimit};
+ghost use Rattle.loads.specs.Load.{memoryAt, sumsOf, fitsEngine, holdsNone, less, oneMore, oneLess, engineWith, idleEngine};
 ghost use Rattle.loads.specs.Column.{columnOf, loadOf};
 use system::System;
+use system::TYPE_LIMIT;
 use system::TaskType;
 
 // What one engine holds: the number of instances of each type, with their time and memory.
 pub struct EngineLoad {
     pub time: u32,
     pub memory: u32,
-    pub counts: [u16; 6],
+    pub counts: [u16; TYPE_LIMIT],
+}
+
+// The time and the memory of a load, before anybody asked whether it fits.
+pub struct Sums {
+    pub time: u64,
+    pub memory: u64,
 }
 
 // What `count` instances cost at `each`. Six such products are far below 2^64.
@@ -22,19 +29,6 @@ fn cost(count: u16, each: u32) -> u64
     ensures { λ r. ⌜ (r ≡ count * each) × (r ≤ 2 ^ 48) ⌝ }
 {
     (count as u64) * (each as u64)
-}
-
-// The time of a load.
-pub fn time_of(tasks: [TaskType; 6], counts: [u16; 6]) -> u64
-    ensures { λ r. ⌜ r ≡ timeOf tasks counts ⌝ }
-{
-    let mut sum: u64 = 0;
-    for i in 0..6 {
-        let task = tasks[i];
-        let count = counts[i];
-        sum += cost(count, task.time);
-    }
-    sum
 }
 
 // What `count` instances of one type take of an engine's memory.
@@ -50,40 +44,42 @@ fn memory_at(rule: u8, task: TaskType, count: u16) -> u64
     task.memory as u64
 }
 
-// The memory of a load.
-pub fn memory_of(rule: u8, tasks: [TaskType; 6], counts: [u16; 6]) -> u64
-    ensures { λ r. ⌜ r ≡ memoryOf rule tasks counts ⌝ }
+// Both sums of a load, over its types.
+pub fn sums_of(y: System, counts: [u16; TYPE_LIMIT]) -> Sums
+    ensures { λ r. ⌜ r ≡ sumsOf y counts ⌝ }
 {
-    let mut sum: u64 = 0;
-    for i in 0..6 {
-        let task = tasks[i];
+    let types = y.types;
+    let mut time: u64 = 0;
+    let mut memory: u64 = 0;
+    for i in 0..TYPE_LIMIT {
+        let task = types[i];
         let count = counts[i];
-        sum += memory_at(rule, task, count);
+        time += cost(count, task.time);
+        memory += memory_at(y.rule, task, count);
     }
-    sum
+    Sums {
+        time: time,
+        memory: memory,
+    }
 }
 
 // Whether a load fits an engine of the system.
-pub fn fits_engine(y: System, counts: [u16; 6]) -> bool
+pub fn fits_engine(y: System, counts: [u16; TYPE_LIMIT]) -> bool
     ensures { λ r. ⌜ r ≡ fitsEngine y counts ⌝ }
 {
-    let tasks = y.tasks;
-    let time = time_of(tasks, counts);
-    let memory = memory_of(y.rule, tasks, counts);
-    (time <= y.time as u64) & (memory <= y.memory as u64)
+    let sums = sums_of(y, counts);
+    (sums.time <= y.timecap as u64) & (sums.memory <= y.memorycap as u64)
 }
 
 // The engine that holds a load, its sums computed anew.
-pub fn engine_with(y: System, counts: [u16; 6]) -> EngineLoad
+pub fn engine_with(y: System, counts: [u16; TYPE_LIMIT]) -> EngineLoad
     requires { ⌜ fitsEngine y counts ≡ true ⌝ }
     ensures { λ r. ⌜ r ≡ engineWith y counts ⌝ }
 {
-    let tasks = y.tasks;
-    let time = time_of(tasks, counts);
-    let memory = memory_of(y.rule, tasks, counts);
+    let sums = sums_of(y, counts);
     EngineLoad {
-        time: time as u32,
-        memory: memory as u32,
+        time: sums.time as u32,
+        memory: sums.memory as u32,
         counts: counts,
     }
 }
@@ -95,16 +91,16 @@ pub fn idle_engine() -> EngineLoad
     EngineLoad {
         time: 0,
         memory: 0,
-        counts: [0; 6],
+        counts: [0; TYPE_LIMIT],
     }
 }
 
 // Whether a load has no instance at all.
-pub fn holds_none(counts: [u16; 6]) -> bool
+pub fn holds_none(counts: [u16; TYPE_LIMIT]) -> bool
     ensures { λ r. ⌜ r ≡ holdsNone counts ⌝ }
 {
     let mut none = true;
-    for i in 0..6 {
+    for i in 0..TYPE_LIMIT {
         none = none & (counts[i] == 0);
     }
     none
@@ -118,19 +114,19 @@ fn difference(a: u16, b: u16) -> u16
 }
 
 // The load x less the load y.
-pub fn minus(x: [u16; 6], y: [u16; 6]) -> [u16; 6]
+pub fn minus(x: [u16; TYPE_LIMIT], y: [u16; TYPE_LIMIT]) -> [u16; TYPE_LIMIT]
     ensures { λ r. ⌜ r ≡ less x y ⌝ }
 {
-    let mut left: [u16; 6] = [0; 6];
-    for i in 0..6 {
+    let mut left: [u16; TYPE_LIMIT] = [0; TYPE_LIMIT];
+    for i in 0..TYPE_LIMIT {
         left[i] = difference(x[i], y[i]);
     }
     left
 }
 
-// The load with one instance more of the type at index i.
-pub fn one_more(counts: [u16; 6], i: usize) -> [u16; 6]
-    requires { ⌜ (i < 6) × (getD counts i 0 < 65535) ⌝ }
+// The load with one instance more of the type at index i. 65535 is the largest number of a u16: a count there has no next one.
+pub fn one_more(counts: [u16; TYPE_LIMIT], i: usize) -> [u16; TYPE_LIMIT]
+    requires { ⌜ (i < typeLimit) × (getD counts i 0 < 65535) ⌝ }
     ensures { λ r. ⌜ r ≡ oneMore i counts ⌝ }
 {
     let mut next = counts;
@@ -139,8 +135,8 @@ pub fn one_more(counts: [u16; 6], i: usize) -> [u16; 6]
 }
 
 // The load with one instance less of the type at index i: as it is, where there is none.
-pub fn one_less(counts: [u16; 6], i: usize) -> [u16; 6]
-    requires { ⌜ i < 6 ⌝ }
+pub fn one_less(counts: [u16; TYPE_LIMIT], i: usize) -> [u16; TYPE_LIMIT]
+    requires { ⌜ i < typeLimit ⌝ }
     ensures { λ r. ⌜ r ≡ oneLess i counts ⌝ }
 {
     let mut next = counts;
@@ -157,7 +153,7 @@ fn base(ceiling: u16) -> usize
 
 // A count as a number of columns.
 fn wide(count: u16) -> usize
-    ensures { λ r. ⌜ (r ≡ count) × (r < 65536) ⌝ }
+    ensures { λ r. ⌜ (r ≡ count) × (r < 2 ^ 16) ⌝ }
 {
     count as usize
 }
@@ -170,15 +166,15 @@ fn digit(column: usize, ceiling: u16) -> u16
 }
 
 // The column that stands for a load.
-pub fn column_of(y: System, counts: [u16; 6]) -> usize
+pub fn column_of(y: System, counts: [u16; TYPE_LIMIT]) -> usize
     requires { ⌜ columns y ≤ columnLimit ⌝ }
     ensures { λ r. ⌜ r ≡ columnOf (ceilingsOf y) counts ⌝ }
 {
-    let tasks = y.tasks;
+    let types = y.types;
     let mut stride: usize = 1;
     let mut column: usize = 0;
-    for i in 0..6 {
-        let task = tasks[i];
+    for i in 0..TYPE_LIMIT {
+        let task = types[i];
         column += wide(counts[i]) * stride;
         stride = stride * base(task.ceiling);
     }
@@ -186,14 +182,14 @@ pub fn column_of(y: System, counts: [u16; 6]) -> usize
 }
 
 // The load that a column stands for.
-pub fn load_of(y: System, column: usize) -> [u16; 6]
+pub fn load_of(y: System, column: usize) -> [u16; TYPE_LIMIT]
     ensures { λ r. ⌜ r ≡ loadOf (ceilingsOf y) column ⌝ }
 {
-    let tasks = y.tasks;
-    let mut counts: [u16; 6] = [0; 6];
+    let types = y.types;
+    let mut counts: [u16; TYPE_LIMIT] = [0; TYPE_LIMIT];
     let mut rest = column;
-    for i in 0..6 {
-        let task = tasks[i];
+    for i in 0..TYPE_LIMIT {
+        let task = types[i];
         counts[i] = digit(rest, task.ceiling);
         rest = rest / base(task.ceiling);
     }

@@ -2,6 +2,7 @@
 pub mod Lists
 pub mod Lowest
 pub mod Shares
+pub mod Engines
 pub mod Cells
 pub mod Rows
 pub mod Recovery
@@ -10,3 +11,4 @@ pub mod OwnWords
 pub mod Theorems
 pub mod ForSystem
 pub mod Standing
+pub mod Plain

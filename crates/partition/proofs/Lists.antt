@@ -4,7 +4,7 @@ use mathlib.Core.Path.{_≡_, refl, sym, ap, subst, _∙_}
 use mathlib.Core.List.{List, [], _∷_, _++_, map}
 use mathlib.Core.Bool.{Bool, true, false, not, _&&_, _||_, true≢false, false≢true}
 use mathlib.Core.Logic.{_⊎_, inl, inr, ⊎-elim, _↔_}
-use native.Mathlib.Nat.{add-zero, le-of-suc-le-suc, eq-or-lt-of-le}
+use native.Mathlib.Nat.{add-zero, add-suc, suc-add, le-of-suc-le-suc, eq-or-lt-of-le}
 use native.Mathlib.Omega.{arith}
 use borrow.Author.Tests.{eqb-true, eq-eqb, ne-eqb, not-true, leb-true, leb-false}
 use lib.ListN.{length, getD, replicate}
@@ -204,3 +204,32 @@ getD-padded [] (suc n) zero d = refl
 getD-padded [] (suc n) (suc j) d = getD-padded [] n j d
 getD-padded (x ∷ l) n zero d = refl
 getD-padded (x ∷ l) n (suc j) d = getD-padded l n j d
+
+-- one number, one engine more
+numbersFrom-last : (a n : ℕ) → numbersFrom a (suc n) ≡ numbersFrom a n ++ ((a + n) ∷ [])
+unfolding numbersFrom
+numbersFrom-last a zero = rw (add-zero a)
+numbersFrom-last a (suc n) = ap (λ (l : List ℕ). a ∷ l) (numbersFrom-last (suc a) n ∙ ap (λ (z : ℕ). numbersFrom (suc a) n ++ (z ∷ [])) (suc-add a n ∙ sym (add-suc a n)))
+
+pub enginesTo-last : (m : ℕ) → enginesTo (suc m) ≡ enginesTo m ++ (suc m ∷ [])
+enginesTo-last m = numbersFrom-last 1 m ∙ ap (λ (z : ℕ). enginesTo m ++ (z ∷ [])) (omega arith)
+
+-- inside a list it does not matter what stands past it
+pub getD-inside : {A : Type 0} (l : List A) (i : ℕ) (d e : A) → i < length l → getD l i d ≡ getD l i e
+getD-inside [] i d e h = absurd (omega arith)
+getD-inside (x ∷ l) zero d e h = refl
+getD-inside (x ∷ l) (suc i) d e h = getD-inside l i d e (le-of-suc-le-suc h)
+
+-- a test of every engine of a list, engine by engine
+pub among-tested : (p : ℕ → Bool) (es : List ℕ) (e : ℕ) → every p es ≡ true → among es e ≡ true → p e ≡ true
+unfolding among
+among-tested p [] e h k = absurd (false≢true k)
+among-tested p (d ∷ es) e h k =
+    let b = every-parts p d es h in
+    ⊎-elim (λ q. subst (λ (z : ℕ). p z ≡ true) (eqb-true d e q) (b .0)) (λ q. among-tested p es e (b .1) q) (or-cases (eqb d e) (among es e) k)
+
+pub tested-among : (p : ℕ → Bool) (es : List ℕ) → ((e : ℕ) → among es e ≡ true → p e ≡ true) → every p es ≡ true
+unfolding every among
+tested-among p [] h = refl
+tested-among p (d ∷ es) h =
+    and-both (p d) (every p es) (h d (or-left (eqb d d) (among es d) (eq-eqb d d refl))) (tested-among p es (λ e k. h e (or-right (eqb d e) (among es e) k)))

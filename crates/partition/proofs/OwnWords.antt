@@ -6,21 +6,22 @@ use mathlib.Core.Bool.{Bool, true, false, cond, _||_}
 use mathlib.Core.Logic.{_↔_}
 use native.Mathlib.Nat.{zero-mul, suc-mul, zero-add, add-comm}
 use native.Mathlib.Omega.{arith}
-use borrow.Author.Tests.{leb-true, le-leb, eqb-true, eqb-false}
+use borrow.Author.Tests.{eqb-true, eqb-false}
 use lib.ListN.{getD}
-use lib.Dec.{eqb, leb, eqb·suc-zero}
+use lib.Dec.{eqb, eqb·suc-zero}
 use Rattle.system.specs.declared.TaskType.{TaskType}
 use Rattle.system.specs.declared.System.{System}
-use Rattle.loads.specs.Load.{timeOf, memoryOf, fitsEngine}
-use Rattle.loads.proofs.Order.{and-parts, and-both}
-use Rattle.partition.specs.Assignment.{Assignment, countOn, loadOn, among, every, good, enginesTo}
-use Rattle.partition.specs.OwnWords.{overInstances, timeOn, memoryOn, sharedMemoryOn, placeOf, Definition1}
+use Rattle.loads.specs.Load.{sumOver, timeAt, timeOf, memoryAt, memoryOf, fitsEngine}
+use Rattle.loads.proofs.Order.{and-both}
+use Rattle.loads.proofs.Laws.{fits-of, fits-time, fits-memory}
+use Rattle.partition.specs.Assignment.{Assignment, countOn, loadOn, among, every, good}
+use Rattle.partition.specs.OwnWords.{overInstances, sumOn, timeOn, memoryOn, sharedMemoryOn, placeOf, Definition1}
 use Rattle.partition.proofs.Shares.{good-parts}
-use Rattle.partition.proofs.Lists.{every-getD, every-of-getD, every-enginesTo, among-enginesTo}
+use Rattle.partition.proofs.Lists.{every-getD, every-of-getD, among-tested, tested-among}
 
 -- intermediate: one type on one engine
 
-overInstances-count : (e each : ℕ) (places : List ℕ) → overInstances e each places ≡ countOn e places * each
+pub overInstances-count : (e each : ℕ) (places : List ℕ) → overInstances e each places ≡ countOn e places * each
 unfolding overInstances countOn
 overInstances-count e each [] = sym (zero-mul each)
 overInstances-count e each (place ∷ places) = rw (overInstances-count e each places) (go (eqb place e))
@@ -34,88 +35,71 @@ unfolding among countOn
 shared-count e each [] = refl
 shared-count e each (place ∷ places) = go (eqb place e) (shared-count e each places)
   where
-    go : (b : Bool) → cond (among places e) each 0 ≡ cond (eqb (countOn e places) 0) 0 each → cond (b || among places e) each 0 ≡ cond (eqb (cond b (suc (countOn e places)) (countOn e places)) 0) 0 each
+    go : (b : Bool) → cond (among places e) each 0 ≡ cond (eqb (countOn e places) 0) 0 each →
+        cond (b || among places e) each 0 ≡ cond (eqb (cond b (suc (countOn e places)) (countOn e places)) 0) 0 each
     go true h = rw (eqb·suc-zero (countOn e places))
     go false h = h
 
 -- main: the sums over instances are time and memory of the load
 
+-- the two sums agree where they agree on each type
+module _ (e : ℕ) (on : TaskType → List ℕ → ℕ) (each : TaskType → ℕ → ℕ) (same : (t : TaskType) (places : List ℕ) → on t places ≡ each t (countOn e places)) where
+  sumOn-sumOver : (types : List TaskType) (χ : Assignment) → sumOn on types χ ≡ sumOver each types (loadOn e χ)
+  unfolding sumOn sumOver
+  sumOn-sumOver [] χ = refl
+  sumOn-sumOver (t ∷ types) [] = refl
+  sumOn-sumOver (t ∷ types) (places ∷ χ) = ap₂ _+_ (same t places) (sumOn-sumOver types χ)
+
 pub timeOn-timeOf : (e : ℕ) (types : List TaskType) (χ : Assignment) → timeOn e types χ ≡ timeOf types (loadOn e χ)
-unfolding timeOn timeOf
-timeOn-timeOf e [] χ = refl
-timeOn-timeOf e (t ∷ types) [] = refl
-timeOn-timeOf e (t ∷ types) (places ∷ χ) = ap₂ _+_ (overInstances-count e (t .time) places) (timeOn-timeOf e types χ)
+timeOn-timeOf e = sumOn-sumOver e (λ t places. overInstances e (t .time) places) timeAt (λ t. overInstances-count e (t .time))
 
 pub memoryOn-memoryOf : (e : ℕ) (types : List TaskType) (χ : Assignment) → memoryOn e types χ ≡ memoryOf 0 types (loadOn e χ)
-unfolding memoryOn memoryOf
-memoryOn-memoryOf e [] χ = refl
-memoryOn-memoryOf e (t ∷ types) [] = refl
-memoryOn-memoryOf e (t ∷ types) (places ∷ χ) = ap₂ _+_ (overInstances-count e (t .memory) places) (memoryOn-memoryOf e types χ)
+memoryOn-memoryOf e = sumOn-sumOver e (λ t places. overInstances e (t .memory) places) (memoryAt 0) (λ t. overInstances-count e (t .memory))
 
 pub sharedMemoryOn-memoryOf : (e : ℕ) (types : List TaskType) (χ : Assignment) → sharedMemoryOn e types χ ≡ memoryOf 1 types (loadOn e χ)
-unfolding sharedMemoryOn memoryOf
-sharedMemoryOn-memoryOf e [] χ = refl
-sharedMemoryOn-memoryOf e (t ∷ types) [] = refl
-sharedMemoryOn-memoryOf e (t ∷ types) (places ∷ χ) = ap₂ _+_ (shared-count e (t .memory) places) (sharedMemoryOn-memoryOf e types χ)
+sharedMemoryOn-memoryOf e = sumOn-sumOver e (λ t places. cond (among places e) (t .memory) 0) (memoryAt 1) (λ t. shared-count e (t .memory))
 
 -- main: good says Definition 1
 
-module _ (y : System) (χ : Assignment) where
-  m : ℕ
-  m = y .engines
-
+-- where `E` says which engines the list es has
+module _ (y : System) (χ : Assignment) (es : List ℕ) (E : ℕ → Type 0) (says : (e : ℕ) → (among es e ≡ true) ↔ E e) where
   fine : ℕ → Bool
   fine e = fitsEngine y (loadOn e χ)
 
-  fine-parts : (e : ℕ) → fine e ≡ true → (timeOf (y .tasks) (loadOn e χ) ≤ y .time) × (memoryOf (y .rule) (y .tasks) (loadOn e χ) ≤ y .memory)
-  unfolding fine fitsEngine
-  fine-parts e h =
-      let t = timeOf (y .tasks) (loadOn e χ) in
-      let s = memoryOf (y .rule) (y .tasks) (loadOn e χ) in
-      let b = and-parts (leb t (y .time)) (leb s (y .memory)) h in
-      (leb-true t (y .time) (b .0), leb-true s (y .memory) (b .1))
-
-  fine-both : (e : ℕ) → timeOf (y .tasks) (loadOn e χ) ≤ y .time → memoryOf (y .rule) (y .tasks) (loadOn e χ) ≤ y .memory → fine e ≡ true
-  unfolding fine fitsEngine
-  fine-both e h k =
-      let t = timeOf (y .tasks) (loadOn e χ) in
-      let s = memoryOf (y .rule) (y .tasks) (loadOn e χ) in
-      and-both (leb t (y .time)) (leb s (y .memory)) (le-leb t (y .time) h) (le-leb s (y .memory) k)
-
-  good-keeps : good (λ (e : ℕ). fitsEngine y) (enginesTo (y .engines)) χ ≡ true → Definition1 y χ
-  unfolding good fine m
+  good-keeps : good (λ (e : ℕ). fitsEngine y) es χ ≡ true → Definition1 y E χ
+  unfolding good fine
   good-keeps h = record {
-    placed = λ t j i k. among-enginesTo m (placeOf χ t j) .0 (every-getD (among (enginesTo m)) (getD χ t []) 0 j (every-getD (every (among (enginesTo m))) χ [] t (b .0) i) k);
-    time = λ e l u. rw (timeOn-timeOf e (y .tasks) χ) (fine-parts e (each e l u) .0);
-    ownCopies = λ q e l u. rw (memoryOn-memoryOf e (y .tasks) χ, ← q) (fine-parts e (each e l u) .1);
-    sharedCode = λ q e l u. rw (sharedMemoryOn-memoryOf e (y .tasks) χ, ← q) (fine-parts e (each e l u) .1);
+    placed = λ t j i k. says (placeOf χ t j) .0 (every-getD (among es) (getD χ t []) 0 j (every-getD (every (among es)) χ [] t (b .0) i) k);
+    time = λ e at. rw (timeOn-timeOf e (y .types) χ) (fits-time y (loadOn e χ) (each e at));
+    ownCopies = λ q e at. rw (memoryOn-memoryOf e (y .types) χ, ← q) (fits-memory y (loadOn e χ) (each e at));
+    sharedCode = λ q e at. rw (sharedMemoryOn-memoryOf e (y .types) χ, ← q) (fits-memory y (loadOn e χ) (each e at));
   }
     where
-      b : (every (every (among (enginesTo m))) χ ≡ true) × (every fine (enginesTo m) ≡ true)
-      b = good-parts (λ (e : ℕ). fitsEngine y) (enginesTo m) χ h
+      b : (every (every (among es)) χ ≡ true) × (every fine es ≡ true)
+      b = good-parts (λ (e : ℕ). fitsEngine y) es χ h
 
-      each : (e : ℕ) → 1 ≤ e → e ≤ m → fine e ≡ true
-      each = every-enginesTo fine m .0 (b .1)
+      each : (e : ℕ) → E e → fine e ≡ true
+      each e at = among-tested fine es e (b .1) (says e .1 at)
 
-  keeps-good : y .rule ≤ 1 → Definition1 y χ → good (λ (e : ℕ). fitsEngine y) (enginesTo (y .engines)) χ ≡ true
-  unfolding good fine m
-  keeps-good r d = and-both (every (every (among (enginesTo m))) χ) (every fine (enginesTo m)) placed (every-enginesTo fine m .1 each)
+  keeps-good : y .rule ≤ 1 → Definition1 y E χ → good (λ (e : ℕ). fitsEngine y) es χ ≡ true
+  unfolding good fine
+  keeps-good r d = and-both (every (every (among es)) χ) (every fine es) placed (tested-among fine es (λ e k. each e (says e .0 k)))
     where
-      placed : every (every (among (enginesTo m))) χ ≡ true
+      placed : every (every (among es)) χ ≡ true
       placed =
-          every-of-getD (every (among (enginesTo m))) χ []
-          (λ t i. every-of-getD (among (enginesTo m)) (getD χ t []) 0 (λ j k. among-enginesTo m (placeOf χ t j) .1 (d .placed t j i k)))
+          every-of-getD (every (among es)) χ []
+          (λ t i. every-of-getD (among es) (getD χ t []) 0 (λ j k. says (placeOf χ t j) .1 (d .placed t j i k)))
 
-      memory : (b : Bool) → eqb (y .rule) 0 ≡ b → (e : ℕ) → 1 ≤ e → e ≤ m → memoryOf (y .rule) (y .tasks) (loadOn e χ) ≤ y .memory
-      memory true q e l u =
+      memory : (b : Bool) → eqb (y .rule) 0 ≡ b → (e : ℕ) → E e → memoryOf (y .rule) (y .types) (loadOn e χ) ≤ y .memorycap
+      memory true q e at =
           let zero′ = eqb-true (y .rule) 0 q in
-          rw (zero′, ← (memoryOn-memoryOf e (y .tasks) χ)) (d .ownCopies zero′ e l u)
-      memory false q e l u =
+          rw (zero′, ← (memoryOn-memoryOf e (y .types) χ)) (d .ownCopies zero′ e at)
+      memory false q e at =
           let one′ : y .rule ≡ 1 = omega (arith, eqb-false (y .rule) 0 q) in
-          rw (one′, ← (sharedMemoryOn-memoryOf e (y .tasks) χ)) (d .sharedCode one′ e l u)
+          rw (one′, ← (sharedMemoryOn-memoryOf e (y .types) χ)) (d .sharedCode one′ e at)
 
-      each : (e : ℕ) → 1 ≤ e → e ≤ m → fine e ≡ true
-      each e l u = fine-both e (rw (← (timeOn-timeOf e (y .tasks) χ)) (d .time e l u)) (memory (eqb (y .rule) 0) refl e l u)
+      each : (e : ℕ) → E e → fine e ≡ true
+      each e at = fits-of y (loadOn e χ) (rw (← (timeOn-timeOf e (y .types) χ)) (d .time e at)) (memory (eqb (y .rule) 0) refl e at)
 
-  pub good-is-definition1 : y .rule ≤ 1 → (good (λ (e : ℕ). fitsEngine y) (enginesTo (y .engines)) χ ≡ true) ↔ Definition1 y χ
+  pub good-is-definition1 : y .rule ≤ 1 → (good (λ (e : ℕ). fitsEngine y) es χ ≡ true) ↔ Definition1 y E χ
   good-is-definition1 r = (good-keeps, keeps-good r)

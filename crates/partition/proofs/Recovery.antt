@@ -1,21 +1,21 @@
--- Recovery: from the lowest yes row i it gives i loads that fit, each with an instance, which sum to the column's load; past them the engines are empty.
+-- Recovery: from the lowest yes row i it gives i loads that fit, each with an instance, which sum to the column's load; put on as many engines they are a good assignment.
 use Prim.Native.Nat.{ℕ, zero, suc, _+_, _-_, _≤_, _<_}
 use mathlib.Core.Path.{_≡_, refl, sym, ap, subst, _∙_}
-use mathlib.Core.List.{List, [], _∷_, _++_, append-assoc}
+use mathlib.Core.List.{List, [], _∷_, _++_}
 use mathlib.Core.Bool.{Bool, true, not}
 use native.Mathlib.Nat.{add-zero}
 use native.Mathlib.Omega.{arith}
-use lib.ListN.{length, replicate, getD, length-replicate, replicate-append-replicate, List·getD-eq-default}
+use lib.ListN.{length, replicate, length-replicate, length-append, length-map}
 use Rattle.system.specs.Limits.{columnsOf}
 use Rattle.loads.specs.Load.{holdsNone, plus}
 use Rattle.loads.specs.Column.{loadOf}
 use Rattle.loads.proofs.Order.{plus-zero, holdsNone-zero}
 use Rattle.loads.proofs.Column.{length-loadOf}
-use Rattle.partition.specs.Assignment.{every, loadOn, enginesTo}
+use Rattle.partition.specs.Assignment.{every, loadOn}
 use Rattle.partition.specs.Cell.{noColumn, lowestRow, recover, recovery}
-use Rattle.partition.specs.Shares.{sumOf, usedLoads, Shares, Carried, Recovered}
-use Rattle.partition.proofs.Lists.{length-enginesTo, distinct-enginesTo, getD-padded}
-use Rattle.partition.proofs.Shares.{shares-carried, carried-at}
+use Rattle.partition.specs.Shares.{sumOf, usedLoads, distinct, loadsOn, rowOn, Shares, Carried, Recovered}
+use Rattle.partition.proofs.Shares.{shares-carried, good-parts}
+use Rattle.partition.proofs.Engines.{rowOn-padded, rowOn-loadsOn}
 use Rattle.partition.proofs.Cells.{no-shares, one-share, recover-shares, length-recover, recover-append}
 use Rattle.partition.proofs.Rows.{usedLoads-le, all-used, lowestRow-yes, fewest-loads}
 
@@ -47,100 +47,78 @@ sumOf-padded k (suc n) [] = ap (plus (replicate k 0)) (sumOf-padded k n []) ∙ 
 -- main: how many loads there are
 
 module _ (fits : List ℕ → Bool) (ns : List ℕ) (m c : ℕ) where
-  pub recovered-count : length (recover fits ns (lowestRow fits ns m c) c []) ≡ lowestRow fits ns m c
-  recovered-count = length-recover fits ns (lowestRow fits ns m c) c [] ∙ add-zero (lowestRow fits ns m c)
-
-  pub recovery-padded : (all : ℕ) → recovery fits ns all m c ≡ recover fits ns (lowestRow fits ns m c) c [] ++ replicate (all - lowestRow fits ns m c) (replicate (length ns) 0)
+  pub length-recovery : length (recovery fits ns m c) ≡ lowestRow fits ns m c
   unfolding recovery
-  recovery-padded all = recover-append fits ns (lowestRow fits ns m c) c (replicate (all - lowestRow fits ns m c) (replicate (length ns) 0))
-
-  pub length-recovery : (all : ℕ) → lowestRow fits ns m c ≤ all → length (recovery fits ns all m c) ≡ all
-  unfolding recovery
-  length-recovery all h =
-      let idle : List ℕ = replicate (length ns) 0 in
-      let rest = all - lowestRow fits ns m c in
-      length-recover fits ns (lowestRow fits ns m c) c (replicate rest idle) ∙ rw (length-replicate rest idle) (omega arith)
-
-  -- engines past the lowest yes row hold nothing
-  pub recovery-past : (all j : ℕ) → lowestRow fits ns m c ≤ j → getD (recovery fits ns all m c) j (replicate (length ns) 0) ≡ replicate (length ns) 0
-  recovery-past all j h =
-      let idle : List ℕ = replicate (length ns) 0 in
-      let loads = recover fits ns (lowestRow fits ns m c) c [] in
-      rw (recovery-padded all) (getD-padded loads (all - lowestRow fits ns m c) j idle ∙ List·getD-eq-default loads idle (omega (arith, recovered-count)))
-
-  -- with more engines there are more empty ones
-  pub recovery-more : (n all : ℕ) → lowestRow fits ns m c ≤ n → n ≤ all → recovery fits ns all m c ≡ recovery fits ns n m c ++ replicate (all - n) (replicate (length ns) 0)
-  recovery-more n all h k =
-      let idle : List ℕ = replicate (length ns) 0 in
-      let i = lowestRow fits ns m c in
-      let loads = recover fits ns i c [] in
-      let count : all - i ≡ (n - i) + (all - n) = omega arith in
-      recovery-padded all
-      ∙ ap (λ (z : ℕ). loads ++ replicate z idle) count
-      ∙ ap (λ (l : List (List ℕ)). loads ++ l) (sym (replicate-append-replicate (n - i) (all - n) idle))
-      ∙ sym (append-assoc loads (replicate (n - i) idle) (replicate (all - n) idle))
-      ∙ ap (λ (l : List (List ℕ)). l ++ replicate (all - n) idle) (sym (recovery-padded n))
+  length-recovery = length-recover fits ns (lowestRow fits ns m c) c [] ∙ add-zero (lowestRow fits ns m c)
 
 module _ (fits : List ℕ → Bool) (ns : List ℕ) (room : columnsOf ns ≤ noColumn) (m c : ℕ) (small : c < columnsOf ns) (found : lowestRow fits ns m c ≤ m) where
   same-load : plus (loadOf ns c) (replicate (length ns) 0) ≡ loadOf ns c
   same-load = rw (← (length-loadOf ns c)) (plus-zero (loadOf ns c))
 
-  -- main: the loads of the engines up to the lowest yes row
+  -- main: the loads of the rows up to the lowest yes row
 
-  pub recovered-shares : Shares fits (length ns) (recover fits ns (lowestRow fits ns m c) c []) (loadOf ns c)
-  recovered-shares =
+  pub recovery-shares : Shares fits (length ns) (recovery fits ns m c) (loadOf ns c)
+  unfolding recovery
+  recovery-shares =
       subst (Shares fits (length ns) (recover fits ns (lowestRow fits ns m c) c [])) same-load
       (recover-shares fits ns (lowestRow fits ns m c) c [] (replicate (length ns) 0) (lowestRow-yes fits ns m c found) (no-shares fits (length ns)))
 
-  pub recovered-uses : usedLoads (recover fits ns (lowestRow fits ns m c) c []) ≡ lowestRow fits ns m c
-  recovered-uses =
-      let loads = recover fits ns (lowestRow fits ns m c) c [] in
-      omega (arith, fewest-loads fits ns room m c small loads recovered-shares, usedLoads-le loads, recovered-count fits ns m c)
+  pub recovery-uses : usedLoads (recovery fits ns m c) ≡ lowestRow fits ns m c
+  recovery-uses =
+      let loads = recovery fits ns m c in
+      omega (arith, fewest-loads fits ns room m c small loads recovery-shares, usedLoads-le loads, length-recovery fits ns m c)
 
   -- each of them holds an instance
-  pub recovered-used : every (λ (x : List ℕ). not (holdsNone x)) (recover fits ns (lowestRow fits ns m c) c []) ≡ true
-  recovered-used = all-used (recover fits ns (lowestRow fits ns m c) c []) (omega (arith, recovered-uses, recovered-count fits ns m c))
+  pub recovery-used : every (λ (x : List ℕ). not (holdsNone x)) (recovery fits ns m c) ≡ true
+  recovery-used = all-used (recovery fits ns m c) (omega (arith, recovery-uses, length-recovery fits ns m c))
 
-  -- main: the loads of all engines
-
-  pub recovery-uses : (all : ℕ) → usedLoads (recovery fits ns all m c) ≡ lowestRow fits ns m c
-  recovery-uses all = rw (recovery-padded fits ns m c all, usedLoads-padded (recover fits ns (lowestRow fits ns m c) c []) (all - lowestRow fits ns m c) (length ns)) recovered-uses
-
-  pub recovery-shares : fits (replicate (length ns) 0) ≡ true → (all : ℕ) → Shares fits (length ns) (recovery fits ns all m c) (loadOf ns c)
+  -- with empty rows behind them they are as many as one likes
+  padded-shares : fits (replicate (length ns) 0) ≡ true → (n : ℕ) → Shares fits (length ns) (recovery fits ns m c ++ replicate n (replicate (length ns) 0)) (loadOf ns c)
   unfolding recovery
-  recovery-shares emptyFits all =
-      let later : List (List ℕ) = replicate (all - lowestRow fits ns m c) (replicate (length ns) 0) in
-      subst (Shares fits (length ns) (recover fits ns (lowestRow fits ns m c) c later)) same-load
-      (recover-shares fits ns (lowestRow fits ns m c) c later (replicate (length ns) 0) (lowestRow-yes fits ns m c found) (empty-shares fits (length ns) (all - lowestRow fits ns m c) emptyFits))
+  padded-shares emptyFits n =
+      let later : List (List ℕ) = replicate n (replicate (length ns) 0) in
+      let i = lowestRow fits ns m c in
+      subst (λ (l : List (List ℕ)). Shares fits (length ns) l (loadOf ns c)) (recover-append fits ns i c later)
+      (subst (Shares fits (length ns) (recover fits ns i c later)) same-load
+      (recover-shares fits ns i c later (replicate (length ns) 0) (lowestRow-yes fits ns m c found) (empty-shares fits (length ns) n emptyFits)))
 
-  -- main: a good assignment that recovery stands for, on the engines 1 to n
+-- main: a good assignment that recovery stands for, row i on the i-th of the engines es
 
-  pub recovered : fits (replicate (length ns) 0) ≡ true → (n all : ℕ) → lowestRow fits ns m c ≤ n → Recovered fits ns n all m c
-  recovered emptyFits n all h = record {
+module _ (fits : List ℕ → Bool) (ns : List ℕ) (room : columnsOf ns ≤ noColumn) (es : List ℕ) (c : ℕ) (small : c < columnsOf ns) (found : lowestRow fits ns (length es) c ≤ length es) where
+  pub recovered : fits (replicate (length ns) 0) ≡ true → distinct es ≡ true → Recovered fits ns es c
+  recovered emptyFits d = record {
     mapping = carried .mapping;
     assigns = carried .assigns;
     isGood = carried .isGood;
-    holds = λ j. at j ∙ getD-recovery n j ∙ sym (getD-recovery all j);
-    uses = carried .uses ∙ recovery-uses n;
+    holds = at;
+    uses = carried .uses ∙ usedLoads-padded rows rest (length ns) ∙ recovery-uses fits ns room (length es) c small found;
   }
     where
       idle : List ℕ
       idle = replicate (length ns) 0
 
+      rows : List (List ℕ)
+      rows = recovery fits ns (length es) c
+
+      rest : ℕ
+      rest = length es - lowestRow fits ns (length es) c
+
       loads : List (List ℕ)
-      loads = recovery fits ns n m c
+      loads = rows ++ replicate rest idle
 
-      count : length loads ≡ n
-      count = length-recovery fits ns m c n h
+      count : length loads ≡ length es
+      count = length-append rows (replicate rest idle) ∙ rw (length-recovery fits ns (length es) c, length-replicate rest idle) (omega arith)
 
-      shares : Shares fits (length ns) loads (loadOf ns c)
-      shares = recovery-shares emptyFits n
+      carried : Carried (λ (e : ℕ). fits) es loads (loadOf ns c)
+      carried =
+          shares-carried fits (length ns) es loads (loadOf ns c) d count (padded-shares fits ns room (length es) c small found emptyFits rest)
 
-      carried : Carried (λ (e : ℕ). fits) (enginesTo n) loads (loadOf ns c)
-      carried = shares-carried fits (length ns) (enginesTo n) loads (loadOf ns c) (distinct-enginesTo n) (count ∙ sym (length-enginesTo n)) shares
+      types : length (carried .mapping) ≡ length ns
+      types = sym (length-map (carried .mapping) length) ∙ ap length (carried .assigns) ∙ length-loadOf ns c
 
-      getD-recovery : (b j : ℕ) → getD (recovery fits ns b m c) j idle ≡ getD (recover fits ns (lowestRow fits ns m c) c []) j idle
-      getD-recovery b j = rw (recovery-padded fits ns m c b) (getD-padded (recover fits ns (lowestRow fits ns m c) c []) (b - lowestRow fits ns m c) j idle)
-
-      at : (j : ℕ) → loadOn (suc j) (carried .mapping) ≡ getD loads j idle
-      at j = subst (λ (z : ℕ). loadOn (suc j) (carried .mapping) ≡ getD loads j (replicate z 0)) (length-loadOf ns c) (carried-at (λ (e : ℕ). fits) n loads (loadOf ns c) carried j)
+      at : (e : ℕ) → loadOn e (carried .mapping) ≡ rowOn idle es rows e
+      at e =
+          sym (rowOn-loadsOn es (carried .mapping) e (good-parts (λ (d : ℕ). fits) es (carried .mapping) (carried .isGood) .0))
+          ∙ ap (λ (k : ℕ). rowOn (replicate k 0) es (loadsOn es (carried .mapping)) e) types
+          ∙ ap (λ (l : List (List ℕ)). rowOn idle es l e) (carried .holds)
+          ∙ rowOn-padded idle rest es rows e

@@ -17,13 +17,13 @@ use Rattle.loads.specs.Load.{fitsEngine, engineWith, idleEngine, emptyLoad, wit
 use Rattle.loads.proofs.Order.{and-both, within-trans}
 use Rattle.loads.proofs.Laws.{empty-fits, engineWith-idle, within-oneLess, fits-one-less}
 use Rattle.loads.proofs.Change.{getD-plus, length-oneMore, length-oneLess, oneMore-plus, oneLess-plus, plus-oneMore, plus-oneLess, oneMore-within}
-use Rattle.partition.specs.Assignment.{every}
-use Rattle.partition.specs.Shares.{sumOf, Shares}
-use Rattle.partition.specs.ForSystem.{FeasibleFor, placeable, recoveredFor, Placed}
+use Rattle.partition.specs.Assignment.{among, every, enginesTo}
+use Rattle.partition.specs.Shares.{sumOf, distinct, Shares}
+use Rattle.partition.specs.ForSystem.{FeasibleOn, placeable, recoveredFor, Placed}
 use Rattle.partition.proofs.Lists.{every-parts, every-getD, every-replicate}
 use Rattle.partition.proofs.Cells.{length-sumOf}
 use Rattle.partition.proofs.Recovery.{sumOf-padded}
-use Rattle.partition.proofs.ForSystem.{length-ceilings, row-found, recoveredFor-shares, length-recoveredFor, shares-placed, placed-feasible}
+use Rattle.partition.proofs.ForSystem.{length-ceilings, recoveredFor-shares, length-recoveredFor, shares-placed, placed-feasible}
 
 -- intermediate: one load of a list changed
 
@@ -108,11 +108,11 @@ engine-in y xs i = ap (getD (map (engineWith y) xs) i) (sym (engineWith-idle y))
 -- main: a good assignment
 
 -- also with empty engines past them
-pub valid-placed : {y : System} {xs : List (List ℕ)} → Valid y xs → (n : ℕ) → Placed y (total xs) (map (engineWith y) (xs ++ replicate n emptyLoad))
+pub valid-placed : {y : System} {xs : List (List ℕ)} → Valid y xs → (n : ℕ) → Placed y (enginesTo (y .engines)) (total xs) (map (engineWith y) (xs ++ replicate n emptyLoad))
 valid-placed {y} {xs} v n =
-    shares-placed y xs n (total xs) (v .rows) (length-total v) (record { sized = v .sized; allFit = v .allFit; sums = refl })
+    shares-placed y (y .engines) xs n (total xs) (v .rows) (length-total v) (record { sized = v .sized; allFit = v .allFit; sums = refl })
 
-pub valid-feasible : {y : System} {xs : List (List ℕ)} → Valid y xs → FeasibleFor y (total xs)
+pub valid-feasible : {y : System} {xs : List (List ℕ)} → Valid y xs → FeasibleOn y (enginesTo (y .engines)) (total xs)
 valid-feasible v = placed-feasible (valid-placed v 0)
 
 -- main: the fresh state
@@ -170,16 +170,17 @@ module _ (y : System) (xs : List (List ℕ)) (v : Valid y xs) (i j : ℕ) (h : i
 
 -- main: a recovery
 
-module _ (y : System) (limits : Limits y) (x : List ℕ) (six : length x ≡ typeLimit) (below : within x (ceilingsOf y) ≡ true) (can : placeable y x ≡ true) where
-  shares : Shares (fitsEngine y) typeLimit (recoveredFor (y .engines) y x) x
-  shares = recoveredFor-shares y limits x six below can (y .engines)
+module _ (y : System) (limits : Limits y) (es : List ℕ) (apart : distinct es ≡ true) (known : every (among (enginesTo (y .engines))) es ≡ true)
+    (x : List ℕ) (six : length x ≡ typeLimit) (below : within x (ceilingsOf y) ≡ true) (can : placeable y es x ≡ true) where
+  shares : Shares (fitsEngine y) typeLimit (recoveredFor (y .engines) y es x) x
+  shares = recoveredFor-shares y limits es apart x six below can (y .engines) known
 
-  pub total-recovered : total (recoveredFor (y .engines) y x) ≡ x
+  pub total-recovered : total (recoveredFor (y .engines) y es x) ≡ x
   total-recovered = shares .sums
 
-  pub valid-recovered : Valid y (recoveredFor (y .engines) y x)
+  pub valid-recovered : Valid y (recoveredFor (y .engines) y es x)
   valid-recovered = record {
-    rows = length-recoveredFor y limits x six below can (y .engines) (row-found y limits x six below can);
+    rows = length-recoveredFor y limits es apart x six below can (y .engines);
     sized = shares .sized;
     allFit = shares .allFit;
     ceiling = rw total-recovered below;

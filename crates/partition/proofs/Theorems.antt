@@ -13,13 +13,13 @@ use Rattle.loads.specs.Column.{loadOf}
 use Rattle.loads.proofs.Order.{plus-zero}
 use Rattle.loads.proofs.Column.{length-loadOf}
 use Rattle.partition.specs.Assignment.{Assignment, loadOn, assigned, every, good, Feasible, usedOf, enginesTo}
-use Rattle.partition.specs.Cell.{saysYes, cell, lowestRow, recover}
+use Rattle.partition.specs.Cell.{saysYes, cell, lowestRow, recover, recovery}
 use Rattle.partition.specs.Shares.{distinct, loadsOn, Shares, Carried, Recovered, Assumed}
 use Rattle.partition.proofs.Lists.{length-enginesTo, distinct-enginesTo}
 use Rattle.partition.proofs.Shares.{good-shares, shares-carried, usedOf-loadsOn}
 use Rattle.partition.proofs.Cells.{no-shares, recover-shares, length-recover, shares-cell}
 use Rattle.partition.proofs.Rows.{usedLoads-le, fewest-loads}
-use Rattle.partition.proofs.Recovery.{recovered-count, recovered-shares, recovered-used, recovered}
+use Rattle.partition.proofs.Recovery.{length-recovery, recovery-shares, recovery-used, recovered}
 
 -- intermediate
 
@@ -62,25 +62,25 @@ module _ (fits : List ℕ → Bool) (ns : List ℕ) (ground : Assumed fits ns) w
       rw (usedOf-loadsOn es χ) (fewest-loads fits ns (ground .room) m c small (loadsOn es χ) (good-loads es χ c d h a))
 
   -- recovery from the lowest yes row i gives i loads that fit and sum to the column's load, each with an instance
-  pub recovery-loads : (m c : ℕ) → c < columnsOf ns → lowestRow fits ns m c ≤ m → (length (recover fits ns (lowestRow fits ns m c) c []) ≡ lowestRow fits ns m c) × Shares fits (length ns) (recover fits ns (lowestRow fits ns m c) c []) (loadOf ns c) × (every (λ (x : List ℕ). not (holdsNone x)) (recover fits ns (lowestRow fits ns m c) c []) ≡ true)
+  pub recovery-loads : (m c : ℕ) → c < columnsOf ns → lowestRow fits ns m c ≤ m → (length (recovery fits ns m c) ≡ lowestRow fits ns m c) × Shares fits (length ns) (recovery fits ns m c) (loadOf ns c) × (every (λ (x : List ℕ). not (holdsNone x)) (recovery fits ns m c) ≡ true)
   recovery-loads m c small found =
-      (recovered-count fits ns m c, recovered-shares fits ns (ground .room) m c small found, recovered-used fits ns (ground .room) m c small found)
+      (length-recovery fits ns m c, recovery-shares fits ns (ground .room) m c small found, recovery-used fits ns (ground .room) m c small found)
 
-  -- that recovery, padded with empty engines, is a good assignment to the engines 1 to n
-  pub recovery-good : (n all m c : ℕ) → c < columnsOf ns → lowestRow fits ns m c ≤ m → lowestRow fits ns m c ≤ n → Recovered fits ns n all m c
-  recovery-good n all m c small found h = recovered fits ns (ground .room) m c small found (ground .emptyFits) n all h
+  -- that recovery, row i on the i-th of the engines es, is a good assignment to these
+  pub recovery-good : (es : List ℕ) (c : ℕ) → distinct es ≡ true → c < columnsOf ns → lowestRow fits ns (length es) c ≤ length es → Recovered fits ns es c
+  recovery-good es c d small found = recovered fits ns (ground .room) es c small found (ground .emptyFits) d
 
-  -- some row up to m says yes exactly when the load can be partitioned among the engines 1 to m
-  pub feasible-iff-row : (m c : ℕ) → c < columnsOf ns → Feasible (λ (e : ℕ). fits) (enginesTo m) (loadOf ns c) ↔ (lowestRow fits ns m c ≤ m)
-  feasible-iff-row m c small = (there, back)
+  -- some row up to the number of engines says yes exactly when the load can be partitioned among them
+  pub feasible-iff-row : (es : List ℕ) (c : ℕ) → distinct es ≡ true → c < columnsOf ns → Feasible (λ (e : ℕ). fits) es (loadOf ns c) ↔ (lowestRow fits ns (length es) c ≤ length es)
+  feasible-iff-row es c d small = (there, back)
     where
-      there : Feasible (λ (e : ℕ). fits) (enginesTo m) (loadOf ns c) → lowestRow fits ns m c ≤ m
+      there : Feasible (λ (e : ℕ). fits) es (loadOf ns c) → lowestRow fits ns (length es) c ≤ length es
       there f =
-          omega (arith, fewest m c (enginesTo m) (f .mapping) small (distinct-enginesTo m) (f .isGood) (f .assigns), usedOf-le (enginesTo m) (f .mapping), length-enginesTo m)
+          omega (arith, fewest (length es) c es (f .mapping) small d (f .isGood) (f .assigns), usedOf-le es (f .mapping))
 
-      back : lowestRow fits ns m c ≤ m → Feasible (λ (e : ℕ). fits) (enginesTo m) (loadOf ns c)
+      back : lowestRow fits ns (length es) c ≤ length es → Feasible (λ (e : ℕ). fits) es (loadOf ns c)
       back h =
-          let r = recovery-good m m m c small h h in
+          let r = recovery-good es c d small h in
           record { mapping = r .mapping; assigns = r .assigns; isGood = r .isGood }
 
 -- main: loads by engine are a good assignment

@@ -1,8 +1,7 @@
 -- The rows of document 01's "Table" as cells, the lowest yes row and the recovery, over any test `fits` of a load and the ceilings ns.
-use Prim.Native.Nat.{ℕ, zero, suc, _-_}
-use mathlib.Core.List.{List, _∷_}
+use Prim.Native.Nat.{ℕ, zero, suc}
+use mathlib.Core.List.{List, [], _∷_}
 use mathlib.Core.Bool.{Bool, not, cond, _&&_}
-use lib.ListN.{length, replicate}
 use lib.Dec.{eqb}
 use Rattle.loads.specs.Load.{within, less}
 use Rattle.loads.specs.Column.{loadOf}
@@ -38,16 +37,14 @@ cell fits ns (suc i) c = lowest (precedes fits ns (cell fits ns i) c) noColumn (
 unfoldable pub lowestRow : (List ℕ → Bool) → List ℕ → ℕ → ℕ → ℕ
 lowestRow fits ns m c = lowest (λ (i : ℕ). saysYes (cell fits ns i c)) (suc m) (suc m) 0
 
--- document 01's recovery: engine i gets the load less that of the cell's column, the rest is found the same way from row i - 1 at that column.
--- `later` are the loads of the engines past i
+-- document 01's recovery: row i gets the load less that of the cell's column, the rest is found the same way from row i - 1 at that column.
+-- `later` are the loads of the rows past i
 unfoldable pub recover : (List ℕ → Bool) → List ℕ → ℕ → ℕ → List (List ℕ) → List (List ℕ)
 recover fits ns zero c later = later
 recover fits ns (suc i) c later =
     let p = cell fits ns (suc i) c in
     recover fits ns i p (less (loadOf ns c) (loadOf ns p) ∷ later)
 
--- the loads of engines 1 to `all` recovered from the lowest yes row of the rows 0 to m; engines past that row hold nothing
-unfoldable pub recovery : (List ℕ → Bool) → List ℕ → ℕ → ℕ → ℕ → List (List ℕ)
-recovery fits ns all m c =
-    let i = lowestRow fits ns m c in
-    recover fits ns i c (replicate (all - i) (replicate (length ns) 0))
+-- the recovery of column c, row by row: the load of row i is the i-th, up to the lowest of the rows 0 to m that says yes
+unfoldable pub recovery : (List ℕ → Bool) → List ℕ → ℕ → ℕ → List (List ℕ)
+recovery fits ns m c = recover fits ns (lowestRow fits ns m c) c []

@@ -5,3 +5,4 @@ pub mod Listing
 pub mod Cell
 pub mod Shares
 pub mod ForSystem
+pub mod Plain

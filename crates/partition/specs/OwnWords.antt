@@ -15,34 +15,35 @@ unfoldable pub overInstances : ℕ → ℕ → List ℕ → ℕ
 overInstances e each [] = 0
 overInstances e each (place ∷ places) = cond (eqb place e) each 0 + overInstances e each places
 
+-- what `each` says of a type and of the places of its instances, summed over the types
+unfoldable pub sumOn : (TaskType → List ℕ → ℕ) → List TaskType → Assignment → ℕ
+sumOn each [] χ = 0
+sumOn each (t ∷ types) [] = 0
+sumOn each (t ∷ types) (places ∷ χ) = each t places + sumOn each types χ
+
 -- u summed over all instances on engine e
-unfoldable pub timeOn : ℕ → List TaskType → Assignment → ℕ
-timeOn e [] χ = 0
-timeOn e (t ∷ types) [] = 0
-timeOn e (t ∷ types) (places ∷ χ) = overInstances e (t .time) places + timeOn e types χ
+abbrev pub timeOn : ℕ → List TaskType → Assignment → ℕ
+timeOn e types χ = sumOn (λ (t : TaskType) (places : List ℕ). overInstances e (t .time) places) types χ
 
 -- s summed over all instances on engine e
-unfoldable pub memoryOn : ℕ → List TaskType → Assignment → ℕ
-memoryOn e [] χ = 0
-memoryOn e (t ∷ types) [] = 0
-memoryOn e (t ∷ types) (places ∷ χ) = overInstances e (t .memory) places + memoryOn e types χ
+abbrev pub memoryOn : ℕ → List TaskType → Assignment → ℕ
+memoryOn e types χ = sumOn (λ (t : TaskType) (places : List ℕ). overInstances e (t .memory) places) types χ
 
 -- s summed over the distinct types of which some instance is on engine e
-unfoldable pub sharedMemoryOn : ℕ → List TaskType → Assignment → ℕ
-sharedMemoryOn e [] χ = 0
-sharedMemoryOn e (t ∷ types) [] = 0
-sharedMemoryOn e (t ∷ types) (places ∷ χ) = cond (among places e) (t .memory) 0 + sharedMemoryOn e types χ
+abbrev pub sharedMemoryOn : ℕ → List TaskType → Assignment → ℕ
+sharedMemoryOn e types χ = sumOn (λ (t : TaskType) (places : List ℕ). cond (among places e) (t .memory) 0) types χ
 
 -- the engine of instance j of type t, both from 0
 abbrev pub placeOf : Assignment → ℕ → ℕ → ℕ
 placeOf χ t j = getD (getD χ t []) j 0
 
-pub record Definition1 (y : System) (χ : Assignment) : Type 0 where
-  -- each instance is on one of the engines 1 to m
-  pub placed : (t j : ℕ) → t < length χ → j < length (getD χ t []) → (1 ≤ placeOf χ t j) × (placeOf χ t j ≤ y .engines)
+-- `E e` says that e is one of the engines
+pub record Definition1 (y : System) (E : ℕ → Type 0) (χ : Assignment) : Type 0 where
+  -- each instance is on one of the engines
+  pub placed : (t j : ℕ) → t < length χ → j < length (getD χ t []) → E (placeOf χ t j)
   -- on each engine the u of the instances sent there sum to at most U
-  pub time : (e : ℕ) → 1 ≤ e → e ≤ y .engines → timeOn e (y .tasks) χ ≤ y .time
+  pub time : (e : ℕ) → E e → timeOn e (y .types) χ ≤ y .timecap
   -- rule 0, own copies: the s of the instances sent there sum to at most S
-  pub ownCopies : y .rule ≡ 0 → (e : ℕ) → 1 ≤ e → e ≤ y .engines → memoryOn e (y .tasks) χ ≤ y .memory
+  pub ownCopies : y .rule ≡ 0 → (e : ℕ) → E e → memoryOn e (y .types) χ ≤ y .memorycap
   -- rule 1, shared code: the s of the distinct types among them sum to at most S
-  pub sharedCode : y .rule ≡ 1 → (e : ℕ) → 1 ≤ e → e ≤ y .engines → sharedMemoryOn e (y .tasks) χ ≤ y .memory
+  pub sharedCode : y .rule ≡ 1 → (e : ℕ) → E e → sharedMemoryOn e (y .types) χ ≤ y .memorycap

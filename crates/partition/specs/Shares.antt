@@ -3,7 +3,7 @@ use Prim.Native.Nat.{ℕ, suc, _≤_}
 use mathlib.Core.List.{List, [], _∷_, map}
 use mathlib.Core.Bool.{Bool, true, not, cond, _&&_}
 use mathlib.Core.Path.{_≡_}
-use lib.ListN.{length, replicate, getD}
+use lib.ListN.{length, replicate}
 use lib.Dec.{eqb}
 use Rattle.system.specs.Limits.{columnsOf}
 use Rattle.loads.specs.Load.{holdsNone, plus}
@@ -30,6 +30,16 @@ unfoldable pub usedLoads : List (List ℕ) → ℕ
 usedLoads [] = 0
 usedLoads (x ∷ loads) = cond (holdsNone x) (usedLoads loads) (suc (usedLoads loads))
 
+-- what engine e has where row i is on the i-th of the engines es: `none` where e is not one of them, or no row is left for it
+unfoldable pub rowOn : {A : Type 0} → A → List ℕ → List A → ℕ → A
+rowOn none [] rows e = none
+rowOn none (d ∷ es) [] e = none
+rowOn none (d ∷ es) (x ∷ rows) e = cond (eqb d e) x (rowOn none es rows e)
+
+-- of each of the engines 1 to `all`
+abbrev pub onEngines : {A : Type 0} → A → ℕ → List ℕ → List A → List A
+onEngines none all es rows = map (rowOn none es rows) (enginesTo all)
+
 -- the loads, each of k types, all fit and sum to ν
 pub record Shares (fits : List ℕ → Bool) (k : ℕ) (loads : List (List ℕ)) (ν : List ℕ) : Type 0 where
   pub sized : every (λ (x : List ℕ). eqb (length x) k) loads ≡ true
@@ -44,13 +54,14 @@ pub record Carried (test : ℕ → List ℕ → Bool) (es : List ℕ) (loads : L
   pub holds : loadsOn es mapping ≡ loads
   pub uses : usedOf es mapping ≡ usedLoads loads
 
--- what a recovery is: a good assignment of the column's load to the engines 1 to n, engine by engine the recovered loads, empty past them, on as many engines as the lowest yes row says
-pub record Recovered (fits : List ℕ → Bool) (ns : List ℕ) (n all m c : ℕ) : Type 0 where
+-- what a recovery is, with row i on the i-th of the engines es: a good assignment of the column's load to them, engine by engine what its row says,
+-- on as many engines as the lowest yes row says
+pub record Recovered (fits : List ℕ → Bool) (ns es : List ℕ) (c : ℕ) : Type 0 where
   pub mapping : Assignment
   pub assigns : assigned mapping ≡ loadOf ns c
-  pub isGood : good (λ (e : ℕ). fits) (enginesTo n) mapping ≡ true
-  pub holds : (j : ℕ) → loadOn (suc j) mapping ≡ getD (recovery fits ns all m c) j (replicate (length ns) 0)
-  pub uses : usedOf (enginesTo n) mapping ≡ lowestRow fits ns m c
+  pub isGood : good (λ (e : ℕ). fits) es mapping ≡ true
+  pub holds : (e : ℕ) → loadOn e mapping ≡ rowOn (replicate (length ns) 0) es (recovery fits ns (length es) c) e
+  pub uses : usedOf es mapping ≡ lowestRow fits ns (length es) c
 
 -- all that the theorems assume: an empty engine fits, and no column has the number that says no
 pub record Assumed (fits : List ℕ → Bool) (ns : List ℕ) : Type 0 where

@@ -13,47 +13,54 @@ use Rattle.system.specs.declared.Answer.{Answer}
 use Rattle.system.specs.Values.{ceilingsOf}
 use Rattle.system.specs.Limits.{engineLimit}
 use Rattle.system.specs.Layout.{Reading, opened, unread, readFile}
-use Rattle.system.specs.Outcome.{Source, accepted, refused, fromInput, outcomeOf}
+use Rattle.system.specs.Outcome.{Source, accepted, refused, fromInput, outcomeOf, passes, check, andThen}
+use Rattle.system.proofs.Checks.{check-passed, both-passed}
 use Rattle.system.proofs.Laws.{Limits, read-limits}
 use Rattle.loads.specs.declared.EngineLoad.{EngineLoad}
 use Rattle.loads.specs.Load.{engineWith, idleEngine, emptyLoad}
 use Rattle.loads.proofs.Laws.{engineWith-idle}
 use Rattle.loads.proofs.Order.{within-refl}
-use Rattle.partition.specs.ForSystem.{FeasibleFor, OnFewest, rowFor, placeable, recoveredFor}
+use Rattle.partition.specs.ForSystem.{FeasibleOn, OnFewest, placeable, recoveredFor}
+use Rattle.partition.proofs.Lists.{length-enginesTo, distinct-enginesTo}
 use Rattle.partition.proofs.ForSystem.{length-ceilings, feasible-iff-placeable, row-found, length-recoveredFor, recoveredFor-past, recovered-on-fewest}
-use Rattle.table.specs.Table.{longEnough, filled}
+use Rattle.table.specs.Table.{longEnough, tableCheck, filled}
 use Rattle.planner.specs.declared.Plan.{Plan}
 use Rattle.planner.specs.declared.EngineRecord.{EngineRecord}
-use Rattle.planner.specs.Plan.{Verdict, planned, unplanned, verdictOf, usedEngines, planOutcome, plannedTypes, planLoads, planTable, Plans, noRecord, recordsOf, planList}
-use Rattle.planner.specs.Demands.{Demand1, Demand2, InOrder, ListHolds, PlanPromises, ListPromises}
+use Rattle.planner.specs.Plan.{planEngines, listCheck, lentCheck, Verdict, planned, unplanned, judged, verdictOf, usedEngines, planOutcome, plannedTypes, planLoads, planTable, recordOf, recordsOf, planList}
+use Rattle.planner.specs.Demands.{noRecord, Demand1, Demand2, InOrder, ListHolds, PlanPromises, ListPromises}
 use Rattle.planner.proofs.Front.{front, length-front-of, getD-front-new, getD-front-old}
-use Rattle.planner.proofs.Records.{recordOf, length-recordsFrom, getD-recordsOf}
+use Rattle.planner.proofs.Records.{length-recordsFrom, getD-recordsOf}
+use Rattle.planner.proofs.Exits.{Plans}
+
+-- all instances can be placed on the engines
+abbrev canPlace : System → Bool
+canPlace y = placeable y (planEngines y) (ceilingsOf y)
 
 -- ---- the verdict by cases, each with its evidence
 pub data Case (x : Reading) (table : List ℕ) (room : ℕ) : Verdict → Type 0 where
-  wasUnread : (n : ℕ) → x ≡ unread n → Case x table room (unplanned n)
-  tooShort : (y : System) → x ≡ opened y → longEnough y table ≡ false → Case x table room (unplanned 11)
-  tooSmall : (y : System) → x ≡ opened y → longEnough y table ≡ true → leb (y .engines) room ≡ false → Case x table room (unplanned 15)
-  noPlace : (y : System) → x ≡ opened y → longEnough y table ≡ true → leb (y .engines) room ≡ true → placeable y (ceilingsOf y) ≡ false → Case x table room (unplanned 12)
-  isPlanned : (y : System) → x ≡ opened y → longEnough y table ≡ true → leb (y .engines) room ≡ true → placeable y (ceilingsOf y) ≡ true → Case x table room (planned y)
+  wasUnread : (n : ℕ) → x ≡ unread n → Case x table room (unplanned fromInput n)
+  tooShort : (y : System) → x ≡ opened y → longEnough y table ≡ false → Case x table room (unplanned fromInput 11)
+  tooSmall : (y : System) → x ≡ opened y → longEnough y table ≡ true → leb (y .engines) room ≡ false → Case x table room (unplanned fromInput 15)
+  noPlace : (y : System) → x ≡ opened y → longEnough y table ≡ true → leb (y .engines) room ≡ true → canPlace y ≡ false → Case x table room (unplanned fromInput 12)
+  isPlanned : (y : System) → x ≡ opened y → longEnough y table ≡ true → leb (y .engines) room ≡ true → canPlace y ≡ true → Case x table room (planned y)
 
 pub caseOf : (x : Reading) (table : List ℕ) (room : ℕ) → Case x table room (verdictOf x table room)
 unfolding verdictOf
 caseOf (unread n) table room = wasUnread n refl
-caseOf (opened y) table room = long (longEnough y table) refl
+caseOf (opened y) table room = go (longEnough y table) (leb (y .engines) room) (canPlace y) refl refl refl
   where
-    placed : (p : Bool) → placeable y (ceilingsOf y) ≡ p → longEnough y table ≡ true → leb (y .engines) room ≡ true → Case (opened y) table room (cond p (planned y) (unplanned 12))
-    placed true e l r = isPlanned y refl l r e
-    placed false e l r = noPlace y refl l r e
+    go : (l r p : Bool) → longEnough y table ≡ l → leb (y .engines) room ≡ r → canPlace y ≡ p
+        → Case (opened y) table room (judged y (andThen (andThen (check l fromInput 11) (check r fromInput 15)) (check p fromInput 12)))
+    go false r p l≡ r≡ p≡ = tooShort y refl l≡
+    go true false p l≡ r≡ p≡ = tooSmall y refl l≡ r≡
+    go true true false l≡ r≡ p≡ = noPlace y refl l≡ r≡ p≡
+    go true true true l≡ r≡ p≡ = isPlanned y refl l≡ r≡ p≡
 
-    roomy : (r : Bool) → leb (y .engines) room ≡ r → longEnough y table ≡ true → Case (opened y) table room (cond (not r) (unplanned 15) (cond (placeable y (ceilingsOf y)) (planned y) (unplanned 12)))
-    roomy true e l = placed (placeable y (ceilingsOf y)) refl l e
-    roomy false e l = tooSmall y refl l e
-
-    long : (l : Bool) → longEnough y table ≡ l
-        → Case (opened y) table room (cond (not l) (unplanned 11) (cond (not (leb (y .engines) room)) (unplanned 15) (cond (placeable y (ceilingsOf y)) (planned y) (unplanned 12))))
-    long true e = roomy (leb (y .engines) room) refl e
-    long false e = tooShort y refl e
+-- where 11 and 15 pass
+pub lent-passed : (y : System) (table : List ℕ) (room : ℕ) → passes ≡ lentCheck y table room → (longEnough y table ≡ true) × (leb (y .engines) room ≡ true)
+lent-passed y table room e =
+    let both = both-passed (tableCheck y table) (listCheck y room) e in
+    (check-passed (longEnough y table) fromInput 11 (both .0), check-passed (leb (y .engines) room) fromInput 15 (both .1))
 
 -- ---- the order of the refusals
 
@@ -86,15 +93,15 @@ plan-in-order x table room =
 -- ---- demand 2: what the plan is
 
 -- the record at index i is that of the load at index i, with its sums
-load-at : (y : System) (i : ℕ) → getD (planLoads (planned y)) i idleEngine ≡ engineWith y (getD (recoveredFor engineLimit y (ceilingsOf y)) i emptyLoad)
-load-at y i = ap (getD (planLoads (planned y)) i) (sym (engineWith-idle y)) ∙ List·getD-map (engineWith y) (recoveredFor engineLimit y (ceilingsOf y)) i emptyLoad
+load-at : (y : System) (i : ℕ) → getD (planLoads (planned y)) i idleEngine ≡ engineWith y (getD (recoveredFor engineLimit y (planEngines y) (ceilingsOf y)) i emptyLoad)
+load-at y i = ap (getD (planLoads (planned y)) i) (sym (engineWith-idle y)) ∙ List·getD-map (engineWith y) (recoveredFor engineLimit y (planEngines y) (ceilingsOf y)) i emptyLoad
 
 -- the ceilings are a load within the ceilings
-feasible : (y : System) → Limits y → FeasibleFor y (ceilingsOf y) ↔ (placeable y (ceilingsOf y) ≡ true)
-feasible y limits = feasible-iff-placeable y limits (ceilingsOf y) (length-ceilings y limits) (within-refl (ceilingsOf y))
+feasible : (y : System) → Limits y → FeasibleOn y (planEngines y) (ceilingsOf y) ↔ (canPlace y ≡ true)
+feasible y limits = feasible-iff-placeable y limits (planEngines y) (distinct-enginesTo (y .engines)) (ceilingsOf y) (length-ceilings y limits) (within-refl (ceilingsOf y))
 
 module _ {x : Reading} {table : List ℕ} {room : ℕ} (limits : (y : System) → x ≡ opened y → Limits y) where
-  impossible : {v : Verdict} → Case x table room v → (y : System) → x ≡ opened y → longEnough y table ≡ true → y .engines ≤ room → (planOutcome v ≡ refused fromInput 12) ↔ (FeasibleFor y (ceilingsOf y) → ⊥)
+  impossible : {v : Verdict} → Case x table room v → (y : System) → x ≡ opened y → longEnough y table ≡ true → y .engines ≤ room → (planOutcome v ≡ refused fromInput 12) ↔ (FeasibleOn y (planEngines y) (ceilingsOf y) → ⊥)
   impossible (wasUnread _ e) y q long enough = let z : _≡_ {A = ℕ} 0 1 = cc in absurd (omega arith)
   impossible (tooShort d e l) y q long enough = let same : d ≡ y = cc in absurd (true≢false (sym long ∙ rw same at l))
   impossible (tooSmall d e l r) y q long enough = let same : d ≡ y = cc in absurd (true≢false (sym (le-leb (y .engines) room enough) ∙ rw same at r))
@@ -103,24 +110,24 @@ module _ {x : Reading} {table : List ℕ} {room : ℕ} (limits : (y : System) �
       let same : d ≡ y = cc in
       (λ o _. (let z : _≡_ {A = ℕ} 0 1 = cc in omega arith), λ never. absurd (never (feasible y (limits y q) .1 (rw same at p))))
 
-  given-plan : {v : Verdict} → Case x table room v → (y : System) (used : ℕ) → x ≡ opened y → planOutcome v ≡ accepted (used ∷ []) → OnFewest y (ceilingsOf y) (planLoads v) used
+  given-plan : {v : Verdict} → Case x table room v → (y : System) (used : ℕ) → x ≡ opened y → planOutcome v ≡ accepted (used ∷ []) → OnFewest y (planEngines y) (ceilingsOf y) (planLoads v) used
   given-plan (wasUnread _ e) y used q o = let z : _≡_ {A = ℕ} 0 1 = cc in absurd (omega arith)
   given-plan (tooShort _ e l) y used q o = let z : _≡_ {A = ℕ} 0 1 = cc in absurd (omega arith)
   given-plan (tooSmall _ e l r) y used q o = let z : _≡_ {A = ℕ} 0 1 = cc in absurd (omega arith)
   given-plan (noPlace _ e l r p) y used q o = let z : _≡_ {A = ℕ} 0 1 = cc in absurd (omega arith)
   given-plan (isPlanned d e l r p) y used q o =
       let same : d ≡ y = cc in
-      let row : rowFor d (ceilingsOf d) ≡ used = cc in
-      subst (OnFewest y (ceilingsOf y) (planLoads (planned d))) row
-      (subst (λ (z : System). OnFewest z (ceilingsOf z) (planLoads (planned d)) (rowFor d (ceilingsOf d))) same
-      (recovered-on-fewest d (limits d e) (ceilingsOf d) (length-ceilings d (limits d e)) (within-refl (ceilingsOf d)) p engineLimit))
+      let row : usedEngines (planned d) ≡ used = cc in
+      subst (OnFewest y (planEngines y) (ceilingsOf y) (planLoads (planned d))) row
+      (subst (λ (z : System). OnFewest z (planEngines z) (ceilingsOf z) (planLoads (planned d)) (usedEngines (planned d))) same
+      (recovered-on-fewest d (limits d e) (planEngines d) (distinct-enginesTo (d .engines)) (ceilingsOf d) (length-ceilings d (limits d e)) (within-refl (ceilingsOf d)) p engineLimit))
 
-  answered : {v : Verdict} → Case x table room v → (y : System) → x ≡ opened y → longEnough y table ≡ true → y .engines ≤ room → FeasibleFor y (ceilingsOf y) → (used : ℕ) × (planOutcome v ≡ accepted (used ∷ []))
+  answered : {v : Verdict} → Case x table room v → (y : System) → x ≡ opened y → longEnough y table ≡ true → y .engines ≤ room → FeasibleOn y (planEngines y) (ceilingsOf y) → (used : ℕ) × (planOutcome v ≡ accepted (used ∷ []))
   answered (wasUnread _ e) y q long enough f = let z : _≡_ {A = ℕ} 0 1 = cc in absurd (omega arith)
   answered (tooShort d e l) y q long enough f = let same : d ≡ y = cc in absurd (true≢false (sym long ∙ rw same at l))
   answered (tooSmall d e l r) y q long enough f = let same : d ≡ y = cc in absurd (true≢false (sym (le-leb (y .engines) room enough) ∙ rw same at r))
   answered (noPlace d e l r p) y q long enough f = let same : d ≡ y = cc in absurd (true≢false (sym (feasible y (limits y q) .0 f) ∙ rw same at p))
-  answered (isPlanned d e l r p) y q long enough f = (rowFor d (ceilingsOf d), refl)
+  answered (isPlanned d e l r p) y q long enough f = (usedEngines (planned d), refl)
 
   idle-past : {v : Verdict} → Case x table room v → (used i : ℕ) → planOutcome v ≡ accepted (used ∷ []) → used ≤ i → getD (planLoads v) i idleEngine ≡ idleEngine
   idle-past (wasUnread _ e) used i o h = let z : _≡_ {A = ℕ} 0 1 = cc in absurd (omega arith)
@@ -128,9 +135,9 @@ module _ {x : Reading} {table : List ℕ} {room : ℕ} (limits : (y : System) �
   idle-past (tooSmall _ e l r) used i o h = let z : _≡_ {A = ℕ} 0 1 = cc in absurd (omega arith)
   idle-past (noPlace _ e l r p) used i o h = let z : _≡_ {A = ℕ} 0 1 = cc in absurd (omega arith)
   idle-past (isPlanned y e l r p) used i o h =
-      let row : rowFor y (ceilingsOf y) ≡ used = cc in
+      let row : usedEngines (planned y) ≡ used = cc in
       load-at y i
-      ∙ ap (engineWith y) (recoveredFor-past y (limits y e) (ceilingsOf y) (length-ceilings y (limits y e)) (within-refl (ceilingsOf y)) p engineLimit i (rw row h))
+      ∙ ap (engineWith y) (recoveredFor-past y (y .engines) (ceilingsOf y) engineLimit i (rw row h))
       ∙ engineWith-idle y
 
 pub plan-demand2 : (file table : List ℕ) (room : ℕ) → Demand2 (readFile file) table room (planOutcome (verdictOf (readFile file) table room)) (planLoads (verdictOf (readFile file) table room))
@@ -148,11 +155,11 @@ table-as-lent (tooSmall y e l r) s n o h = simp (e, l, r)
 table-as-lent (noPlace y e l r p) s n o h = absurd (h (cc))
 table-as-lent (isPlanned y e l r p) s n o h = let z : _≡_ {A = ℕ} 0 1 = cc in absurd (omega arith)
 
-table-filled : {x : Reading} {table : List ℕ} {room : ℕ} {v : Verdict} → Case x table room v → (y : System) (s : Source) → x ≡ opened y → planOutcome v ≡ refused s 12 → planTable x table room ≡ filled y table
+table-filled : {x : Reading} {table : List ℕ} {room : ℕ} {v : Verdict} → Case x table room v → (y : System) (s : Source) → x ≡ opened y → planOutcome v ≡ refused s 12 → planTable x table room ≡ filled y (planEngines y) table
 table-filled (wasUnread _ e) y s q o = let z : _≡_ {A = ℕ} 0 1 = cc in absurd (omega arith)
 table-filled (tooShort _ e l) y s q o = let z : _≡_ {A = ℕ} 11 12 = cc in absurd (omega arith)
 table-filled (tooSmall _ e l r) y s q o = let z : _≡_ {A = ℕ} 15 12 = cc in absurd (omega arith)
-table-filled {table = table} (noPlace d e l r p) y s q o = let same : d ≡ y = cc in simp (e, l, r) (ap (λ (z : System). filled z table) same)
+table-filled {table = table} (noPlace d e l r p) y s q o = let same : d ≡ y = cc in simp (e, l, r) (ap (λ (z : System). filled z (planEngines z) table) same)
 table-filled (isPlanned _ e l r p) y s q o = let z : _≡_ {A = ℕ} 0 1 = cc in absurd (omega arith)
 
 pub plan-demand1 : (x : Reading) (table : List ℕ) (room : ℕ) → Demand1 x table (planOutcome (verdictOf x table room)) (planTable x table room)
@@ -160,11 +167,14 @@ plan-demand1 x table room = record { asLent = table-as-lent (caseOf x table room
 
 -- ---- a plan has a load for each engine that a system can have
 
-planned-length : (y : System) → Limits y → placeable y (ceilingsOf y) ≡ true → length (planLoads (planned y)) ≡ engineLimit
+-- the lowest yes row is that of an engine
+few-used : (y : System) → canPlace y ≡ true → usedEngines (planned y) ≤ y .engines
+few-used y can = omega (arith, leb-true (usedEngines (planned y)) (length (planEngines y)) can, length-enginesTo (y .engines))
+
+planned-length : (y : System) → Limits y → canPlace y ≡ true → length (planLoads (planned y)) ≡ engineLimit
 planned-length y limits can =
-    let few = row-found y limits (ceilingsOf y) (length-ceilings y limits) (within-refl (ceilingsOf y)) can in
-    length-map (recoveredFor engineLimit y (ceilingsOf y)) (engineWith y)
-    ∙ length-recoveredFor y limits (ceilingsOf y) (length-ceilings y limits) (within-refl (ceilingsOf y)) can engineLimit (omega (arith, few, limits .engines))
+    length-map (recoveredFor engineLimit y (planEngines y) (ceilingsOf y)) (engineWith y)
+    ∙ length-recoveredFor y limits (planEngines y) (distinct-enginesTo (y .engines)) (ceilingsOf y) (length-ceilings y limits) (within-refl (ceilingsOf y)) can engineLimit
 
 pub length-planLoads : (file table : List ℕ) (room : ℕ) → length (planLoads (verdictOf (readFile file) table room)) ≡ engineLimit
 length-planLoads file table room = go (caseOf (readFile file) table room)
@@ -180,15 +190,15 @@ length-planLoads file table room = go (caseOf (readFile file) table room)
 
 module _ (list : List EngineRecord) where
   -- a plan, with what its verdict says of the room
-  module _ (y : System) (limits : Limits y) (fits : leb (y .engines) (length list) ≡ true) (can : placeable y (ceilingsOf y) ≡ true) where
+  module _ (y : System) (limits : Limits y) (fits : leb (y .engines) (length list) ≡ true) (can : canPlace y ≡ true) where
     abbrev row : ℕ
-    row = rowFor y (ceilingsOf y)
+    row = usedEngines (planned y)
 
     abbrev loads : List EngineLoad
     loads = planLoads (planned y)
 
     few : row ≤ y .engines
-    few = row-found y limits (ceilingsOf y) (length-ceilings y limits) (within-refl (ceilingsOf y)) can
+    few = few-used y can
 
     in-records : row ≤ length (recordsOf loads)
     in-records = rw length-recordsFrom (omega (arith, few, planned-length y limits can, limits .engines))
@@ -222,7 +232,7 @@ module _ (list : List EngineRecord) where
     laterKept = λ used i o h. (let z : _≡_ {A = ℕ} 0 1 = cc in absurd (omega arith));
   }
 
-  planned-holds : (y : System) → Limits y → leb (y .engines) (length list) ≡ true → placeable y (ceilingsOf y) ≡ true
+  planned-holds : (y : System) → Limits y → leb (y .engines) (length list) ≡ true → canPlace y ≡ true
       → ListHolds (opened y) list (planOutcome (planned y)) (planLoads (planned y)) (planList (planned y) list)
   planned-holds y limits fits can = record {
     asLent = λ s k o. (let z : _≡_ {A = ℕ} 0 1 = cc in absurd (omega arith));
@@ -236,10 +246,10 @@ module _ (list : List EngineRecord) where
   }
 
   list-holds : {x : Reading} {table : List ℕ} {v : Verdict} → ((y : System) → x ≡ opened y → Limits y) → Case x table (length list) v → ListHolds x list (planOutcome v) (planLoads v) (planList v list)
-  list-holds {x} limits (wasUnread n e) = unplanned-holds x n (planLoads (unplanned n))
-  list-holds {x} limits (tooShort y e l) = unplanned-holds x 11 (planLoads (unplanned 11))
-  list-holds {x} limits (tooSmall y e l r) = unplanned-holds x 15 (planLoads (unplanned 15))
-  list-holds {x} limits (noPlace y e l r p) = unplanned-holds x 12 (planLoads (unplanned 12))
+  list-holds {x} limits (wasUnread n e) = unplanned-holds x n (planLoads (unplanned fromInput n))
+  list-holds {x} limits (tooShort y e l) = unplanned-holds x 11 (planLoads (unplanned fromInput 11))
+  list-holds {x} limits (tooSmall y e l r) = unplanned-holds x 15 (planLoads (unplanned fromInput 15))
+  list-holds {x} limits (noPlace y e l r p) = unplanned-holds x 12 (planLoads (unplanned fromInput 12))
   list-holds {x} limits (isPlanned y e l r p) = rw e (planned-holds y (limits y e) r p)
 
 pub plan-list-holds : (file table : List ℕ) (list : List EngineRecord)
@@ -250,9 +260,9 @@ plan-list-holds file table list = list-holds list (read-limits file) (caseOf (re
 
 answer-used : (v : Verdict) (used : ℕ) → planOutcome v ≡ accepted (used ∷ []) → usedEngines v ≡ used
 answer-used (planned y) used o = cc
-answer-used (unplanned n) used o = let z : _≡_ {A = ℕ} 0 1 = cc in absurd (omega arith)
+answer-used (unplanned s n) used o = let z : _≡_ {A = ℕ} 0 1 = cc in absurd (omega arith)
 
-answer-types : {x : Reading} {table : List ℕ} {room : ℕ} {v : Verdict} → Case x table room v → (y : System) (used : ℕ) → x ≡ opened y → planOutcome v ≡ accepted (used ∷ []) → plannedTypes v ≡ y .types
+answer-types : {x : Reading} {table : List ℕ} {room : ℕ} {v : Verdict} → Case x table room v → (y : System) (used : ℕ) → x ≡ opened y → planOutcome v ≡ accepted (used ∷ []) → plannedTypes v ≡ y .typecount
 answer-types (wasUnread _ e) y used q o = let z : _≡_ {A = ℕ} 0 1 = cc in absurd (omega arith)
 answer-types (tooShort _ e l) y used q o = let z : _≡_ {A = ℕ} 0 1 = cc in absurd (omega arith)
 answer-types (tooSmall _ e l r) y used q o = let z : _≡_ {A = ℕ} 0 1 = cc in absurd (omega arith)
@@ -261,12 +271,16 @@ answer-types (isPlanned d e l r p) y used q o = let same : d ≡ y = cc in rw sa
 
 pub promises-of : (file table : List ℕ) (room : ℕ) (r : Plan) (after : List ℕ) → Plans (readFile file) table room r after → PlanPromises (readFile file) table room r after
 promises-of file table room r after p = record {
-  plans = p;
+  answers = p .answer;
+  uses = p .used;
+  counts = p .typecount;
+  places = p .loads;
+  leavesTable = p .left;
   order = rw (p .answer) (plan-in-order (readFile file) table room);
   demand1 = rw (p .answer, p .left) (plan-demand1 (readFile file) table room);
   demand2 = rw (p .answer, p .loads) (plan-demand2 file table room);
   usedSame = λ used o. p .used ∙ answer-used (verdictOf (readFile file) table room) used (sym (p .answer) ∙ o);
-  typesSame = λ y used is o. p .types ∙ answer-types (caseOf (readFile file) table room) y used is (sym (p .answer) ∙ o);
+  typesSame = λ y used is o. p .typecount ∙ answer-types (caseOf (readFile file) table room) y used is (sym (p .answer) ∙ o);
 }
 
 pub list-promises-of : (file table : List ℕ) (list : List EngineRecord) (answer : Answer) (tableAfter : List ℕ) (listAfter : List EngineRecord)
@@ -297,11 +311,11 @@ used-within file table room = go (caseOf (readFile file) table room)
     go (noPlace y e l r p) = (omega arith, omega arith)
     go (isPlanned y e l r p) =
         let limits = read-limits file y e in
-        let few = leb-true (rowFor y (ceilingsOf y)) (y .engines) p in
+        let few = few-used y p in
         let fits = leb-true (y .engines) room r in
         (omega (arith, limits .engines), omega arith)
 
 -- writing the first records over the list's front makes it the defined one
 pub list-written : (v : Verdict) (list : List EngineRecord) (used : ℕ) (records : List EngineRecord) → used ≡ usedEngines v → records ≡ recordsOf (planLoads v) → front used records list ≡ planList v list
 list-written (planned y) list used records u r = rw (u, r)
-list-written (unplanned n) list used records u r = rw u
+list-written (unplanned s n) list used records u r = rw u

@@ -7,11 +7,8 @@ use mathlib.Core.List.{List, [], _∷_}
 use lib.ListN.{length, getD, set}
 use Rattle.loads.specs.declared.EngineLoad.{EngineLoad}
 use Rattle.planner.specs.declared.EngineRecord.{EngineRecord}
-use Rattle.planner.specs.Plan.{recordsFrom, recordsOf}
+use Rattle.planner.specs.Plan.{recordOf, recordsFrom, recordsOf}
 use Rattle.planner.proofs.Front.{front, set-front}
-
-abbrev pub recordOf : ℕ → EngineLoad → EngineRecord
-recordOf a l = record { number = a; load = l }
 
 pub length-recordsFrom : (a : ℕ) (ls : List EngineLoad) → length (recordsFrom a ls) ≡ length ls
 unfolding recordsFrom

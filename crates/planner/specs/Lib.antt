@@ -1,3 +1,4 @@
 -- The definitions of crate `planner`, in reading order.
 pub mod Plan
 pub mod Demands
+pub mod Inner

@@ -2,21 +2,28 @@
 ghost use mathlib.Core.Path.{_≡_};
 ghost use mathlib.Core.List.{_++_};
 ghost use Prim.Native.Nat.{_≤_};
+ghost use mathlib.Core.Bool.{true};
 ghost use lib.ListN.{length, take, drop};
-ghost use Rattle.system.specs.Limits.{engineLimit};
+ghost use Rattle.system.specs.Limits.{engineLimit, keepsLimits};
 ghost use Rattle.system.specs.Layout.{readFile};
-ghost use Rattle.planner.specs.Plan.{refusedPlan, Plans, recordsOf, Lists};
+ghost use Rattle.system.specs.Outcome.{checkedOf, andThen};
+ghost use Rattle.table.specs.Table.{roomCheck};
+ghost use Rattle.planner.specs.Plan.{listCheck, recordsOf};
 ghost use Rattle.planner.specs.Demands.{PlanPromises, ListPromises};
+ghost use Rattle.planner.specs.Inner.{refusedPlan, Lists};
 use loads::EngineLoad;
 use system::Answer;
+use system::Check;
+use system::ENGINE_LIMIT;
 use system::Refusal;
+use system::System;
 
 // A plan: its answer, the used engines, the number of types, and each engine's load, all 0 where the file is refused.
 pub struct Plan {
     pub answer: Answer,
     pub used: usize,
-    pub types: usize,
-    pub loads: [EngineLoad; 16],
+    pub typecount: usize,
+    pub loads: [EngineLoad; ENGINE_LIMIT],
 }
 
 // One engine of the lent list.
@@ -26,21 +33,21 @@ pub struct EngineRecord {
 }
 
 // A plan with the records of all engines, of which the first `used` go into the lent list.
-pub struct ListPlan {
+struct ListPlan {
     pub answer: Answer,
     pub used: usize,
-    pub records: [EngineRecord; 16],
+    pub records: [EngineRecord; ENGINE_LIMIT],
 }
 
 // What a plan into a list by value answers, with the list.
 pub struct PlannedList {
     pub answer: Answer,
-    pub list: [EngineRecord; 16],
+    pub list: [EngineRecord; ENGINE_LIMIT],
 }
 
 // The first `used` records go to the front of the lent list; the others of the list are as they were.
-fn put_records(list: &mut [EngineRecord], records: [EngineRecord; 16], used: usize)
-    requires { ⌜ (used ≤ 16) × (used ≤ length (now list)) ⌝ }
+fn put_records(list: &mut [EngineRecord], records: [EngineRecord; ENGINE_LIMIT], used: usize)
+    requires { ⌜ (used ≤ engineLimit) × (used ≤ length (now list)) ⌝ }
     ensures { λ _. ⌜ now (list .exit) ≡ take used records ++ drop used (now (list .entry)) ⌝ }
 {
     for i in 0..used {
@@ -49,15 +56,15 @@ fn put_records(list: &mut [EngineRecord], records: [EngineRecord; 16], used: usi
 }
 
 // The records of all engines: number i on the record of engine i.
-fn records_of(loads: [EngineLoad; 16]) -> [EngineRecord; 16]
+fn records_of(loads: [EngineLoad; ENGINE_LIMIT]) -> [EngineRecord; ENGINE_LIMIT]
     ensures { λ r. ⌜ r ≡ recordsOf loads ⌝ }
 {
     let first = loads[0];
     let mut records = [EngineRecord {
         number: 1,
         load: first,
-    }; 16];
-    for i in 0..16 {
+    }; ENGINE_LIMIT];
+    for i in 0..ENGINE_LIMIT {
         let load = loads[i];
         records[i] = EngineRecord {
             number: i + 1,
@@ -74,14 +81,36 @@ fn refused_plan(answer: Answer) -> Plan
     Plan {
         answer: answer,
         used: 0,
-        types: 0,
-        loads: [loads::idle_engine(); 16],
+        typecount: 0,
+        loads: [loads::idle_engine(); ENGINE_LIMIT],
     }
+}
+
+// Refusal 15: a list of `room` records is shorter than m.
+fn list_check(y: System, room: usize) -> Check
+    ensures { λ r. ⌜ checkedOf r ≡ listCheck y room ⌝ }
+{
+    if y.engines <= room {
+        return Check::Passes;
+    }
+    Check::Fails(Refusal::Input(15))
+}
+
+// What is lent is judged before any work: 11 for a table of `entries` entries, then 15.
+fn lent_check(y: System, entries: usize, room: usize) -> Check
+    requires { ⌜ keepsLimits y ≡ true ⌝ }
+    ensures { λ r. ⌜ checkedOf r ≡ andThen (roomCheck y entries) (listCheck y room) ⌝ }
+{
+    let check = table::table_check(y, entries);
+    if let Check::Fails(why) = check {
+        return Check::Fails(why);
+    }
+    list_check(y, room)
 }
 
 // The plan of a file where the list that is to hold it has room for `room` records: refusals 1 to 10, 11, 15, 12.
 fn plan_for(file: &[u8], table: &mut [u16], room: usize) -> Plan
-    ensures { λ r. ⌜ Plans (readFile (now (file .entry))) (now (table .entry)) room r (now (table .exit)) ⌝ }
+    ensures { λ r. ⌜ PlanPromises (readFile (now (file .entry))) (now (table .entry)) room r (now (table .exit)) ⌝ }
 {
     let read = system::read_system(file);
     let answer = read.answer;
@@ -89,13 +118,12 @@ fn plan_for(file: &[u8], table: &mut [u16], room: usize) -> Plan
         return refused_plan(answer);
     };
     let y = read.system;
-    if !table::size::is_long_enough(y, table.len()) {
-        return refused_plan(Answer::Refused(Refusal::Input(11)));
+    let check = lent_check(y, table.len(), room);
+    if let Check::Fails(why) = check {
+        return refused_plan(Answer::Refused(why));
     }
-    if room < y.engines {
-        return refused_plan(Answer::Refused(Refusal::Input(15)));
-    }
-    let placement = table::place(table, y, table::fill::ceilings_of(y));
+    let engines = table::engines_to(y.engines);
+    let placement = table::place(table, y, engines, table::ceilings_of(y));
     if !placement.placed {
         return refused_plan(Answer::Refused(Refusal::Input(12)));
     }
@@ -103,7 +131,7 @@ fn plan_for(file: &[u8], table: &mut [u16], room: usize) -> Plan
     Plan {
         answer: Answer::Number(placement.used),
         used: placement.used,
-        types: y.types,
+        typecount: y.typecount,
         loads: loads,
     }
 }
@@ -112,7 +140,7 @@ fn plan_for(file: &[u8], table: &mut [u16], room: usize) -> Plan
 pub fn plan_of(file: &[u8], table: &mut [u16]) -> Plan
     ensures { λ r. ⌜ PlanPromises (readFile (now (file .entry))) (now (table .entry)) engineLimit r (now (table .exit)) ⌝ }
 {
-    plan_for(file, table, 16)
+    plan_for(file, table, ENGINE_LIMIT)
 }
 
 // The plan for a list of `room` records, with the records that go into it.
@@ -140,7 +168,7 @@ pub fn plan_into(file: &[u8], table: &mut [u16], list: &mut [EngineRecord]) -> A
 }
 
 // The same into a list that is handed over and back: a function that lends no list of its own calls this one.
-pub fn plan_list(file: &[u8], table: &mut [u16], list: [EngineRecord; 16]) -> PlannedList
+pub fn plan_list(file: &[u8], table: &mut [u16], list: [EngineRecord; ENGINE_LIMIT]) -> PlannedList
     ensures { λ r. ⌜ ListPromises (readFile (now (file .entry))) (now (table .entry)) list (r .answer) (now (table .exit)) (r .list) ⌝ }
 {
     let mut records = list;

@@ -1,32 +1,33 @@
 -- Laws of the definitions of crate `system`: the limits of a system as plain facts, and that every file that is read keeps them.
-use Prim.Native.Nat.{ℕ, zero, suc, _+_, _≤_, _<_, min, zero-le}
+use Prim.Native.Nat.{ℕ, zero, suc, _+_, _-_, _≤_, _<_, min, zero-le}
 use native.Mathlib.Omega.{arith}
 use native.Mathlib.Nat.{mul-pos, min-eq-left, min-eq-right}
 use mathlib.Core.List.{List, [], _∷_}
-use mathlib.Core.Bool.{Bool, true, false, not, cond, _&&_, and-eq-true-iff, false≢true}
+use mathlib.Core.Bool.{Bool, true, false, not, cond, _&&_, _||_, and-eq-true-iff, false≢true}
 use mathlib.Core.Path.{_≡_, refl, sym, ap, _∙_, subst}
 use mathlib.Core.Logic.{_⊎_, inl, inr}
-use borrow.Author.Tests.{leb-true, leb-false, ltb-true, ltb-false, eqb-true, eqb-false, le-leb, eq-eqb, not-false}
-use lib.ListN.{length, getD, set, drop, length-set, replicate}
-use lib.Seq.{getD-set-other}
-use lib.Dec.{leb, ltb, eqb}
+use borrow.Author.Tests.{leb-true, leb-false, eqb-true, eqb-false, le-leb, eq-eqb, not-false}
+use lib.ListN.{length, getD, set, take, drop, length-set, length-drop, replicate}
+use lib.Seq.{getD-set-other, drop-drop}
+use lib.Dec.{leb, eqb}
 use Rattle.system.specs.declared.TaskType.{TaskType}
 use Rattle.system.specs.declared.System.{System}
-use Rattle.system.specs.declared.FieldRule.{FieldRule}
-use Rattle.system.specs.declared.RuleFound.{RuleFound}
-use Rattle.system.specs.declared.RuleFound.the-variants.{Known, Unknown}
-use Rattle.system.specs.declared.Head.{Head}
+use Rattle.system.specs.declared.rules.FieldRule.{FieldRule}
+use Rattle.system.specs.declared.rules.RuleFound.{RuleFound}
+use Rattle.system.specs.declared.rules.RuleFound.the-variants.{Known, Unknown}
+use Rattle.system.specs.declared.reader.Head.{Head}
+use Rattle.system.specs.declared.reader.Head.the-variants.{Ruled, Stops}
 use Rattle.system.specs.declared.Opened.{Opened}
 use Rattle.system.specs.declared.Answer.{Answer}
 use Rattle.system.specs.declared.Answer.the-variants.{Accepted, Number, Refused}
 use Rattle.system.specs.declared.Refusal.the-variants.{Input, State}
-use Rattle.system.specs.declared.Head.the-variants.{Ruled, Stops}
+use Rattle.system.specs.Inner.{partOf}
 use Rattle.system.specs.Values.{noTask, blank, withPlatform, withType, ceilingsOf}
 use Rattle.system.specs.Limits.{engineLimit, typeLimit, sizeLimit, columnLimit, columnsOf, columns}
-use Rattle.system.specs.Limits.{sizedTask, zeroTask, tasksKeep, keepsLimits}
-use Rattle.system.specs.Layout.{Reading, opened, unread, byteAt, word2, word4, fieldSize, wholeField, bodyPart}
-use Rattle.system.specs.Layout.{platformRule, typeRule, fieldRules, ruleOf, inPlace, platformFrom, platformOf, typeFrom, typeOf}
-use Rattle.system.specs.Layout.{ruledHead, headOf, bodyOf, ruledField, fieldOf, endOf, afterField, fieldsFrom, readFile, Reads}
+use Rattle.system.specs.Limits.{sizeFault, platformFault, typeFault, columnsFault, zeroTask, typesKeep, keepsLimits}
+use Rattle.system.specs.Layout.{Reading, opened, unread, byteAt, word2, word4, headSize, fieldSize, headedField, wholeField, bodyPart, fieldAt, bodyAt}
+use Rattle.system.specs.Layout.{platformRule, typeRule, fieldRules, ruleOf, follows, mayFollow, unlessFault, platformFrom, platformOf, typeFrom, typeOf}
+use Rattle.system.specs.Layout.{ruledHead, headFrom, headOf, bodyOf, ruledField, fieldOf, endOf, afterField, fieldsFrom, readFile, Reads}
 use Rattle.system.specs.Outcome.{accepted, refused, fromInput, outcomeOf}
 
 -- a test of two parts
@@ -51,14 +52,7 @@ within-limit c = go (leb c columnLimit) refl
     go true e = let h = leb-true c columnLimit e in rw (min-eq-left {n = c} {m = columnLimit + 1} (omega arith)) e
     go false e = let h = leb-false c columnLimit e in rw (min-eq-right {n = columnLimit + 1} {m = c} (omega arith))
 
-pub over-limit : (c : ℕ) → ltb columnLimit (min c (columnLimit + 1)) ≡ ltb columnLimit c
-over-limit c = go (ltb columnLimit c) refl
-  where
-    go : (b : Bool) → ltb columnLimit c ≡ b → ltb columnLimit (min c (columnLimit + 1)) ≡ b
-    go true e = let h = ltb-true columnLimit c e in rw (min-eq-right {n = columnLimit + 1} {m = c} (omega arith))
-    go false e = let h = ltb-false columnLimit c e in rw (min-eq-left {n = c} {m = columnLimit + 1} (omega arith)) e
-
--- The tasks of a system that keeps the limits
+-- The types of a system that keeps the limits
 
 zero-task : (t : TaskType) → zeroTask t ≡ true → t ≡ noTask
 zero-task t e =
@@ -69,100 +63,123 @@ zero-task t e =
     λ i. record { time = p i; memory = q i; ceiling = r i }
 
 -- past k a task is 0
-tasks-past : (k : ℕ) (ts : List TaskType) → tasksKeep k ts ≡ true → (i : ℕ) → k ≤ i → getD ts i noTask ≡ noTask
-unfolding tasksKeep
-tasks-past k [] e i h = refl
-tasks-past zero (t ∷ ts) e zero h = zero-task t (and-parts (zeroTask t) (tasksKeep zero ts) e .0)
-tasks-past zero (t ∷ ts) e (suc i) h = tasks-past zero ts (and-parts (zeroTask t) (tasksKeep zero ts) e .1) i zero-le
-tasks-past (suc k) (t ∷ ts) e zero h = absurd (omega arith)
-tasks-past (suc k) (t ∷ ts) e (suc i) h = tasks-past k ts (and-parts (sizedTask t) (tasksKeep k ts) e .1) i (omega arith)
+types-past : (k : ℕ) (ts : List TaskType) → typesKeep k ts ≡ true → (i : ℕ) → k ≤ i → getD ts i noTask ≡ noTask
+unfolding typesKeep
+types-past k [] e i h = refl
+types-past zero (t ∷ ts) e zero h = zero-task t (and-parts (zeroTask t) (typesKeep zero ts) e .0)
+types-past zero (t ∷ ts) e (suc i) h = types-past zero ts (and-parts (zeroTask t) (typesKeep zero ts) e .1) i zero-le
+types-past (suc k) (t ∷ ts) e zero h = absurd (omega arith)
+types-past (suc k) (t ∷ ts) e (suc i) h = types-past k ts (and-parts (eqb (typeFault t) 0) (typesKeep k ts) e .1) i (omega arith)
 
 -- every task is within the limits of u and s
 pub record Sized (t : TaskType) : Type 0 where
   pub time : t .time ≤ sizeLimit
   pub memory : t .memory ≤ sizeLimit
 
-sized-task : (t : TaskType) → sizedTask t ≡ true → Sized t
-sized-task t e =
-    record {
-      time = leb-true (t .time) sizeLimit (and-parts (leb (t .time) sizeLimit) (leb (t .memory) sizeLimit) e .0);
-      memory = leb-true (t .memory) sizeLimit (and-parts (leb (t .time) sizeLimit) (leb (t .memory) sizeLimit) e .1);
-    }
+-- a test that finds no fault
+faultless : (b : Bool) (n x : ℕ) → 0 < n → cond (not b) n x ≡ 0 → (b ≡ true) × (x ≡ 0)
+faultless true n x h e = (refl, e)
+faultless false n x h e = absurd (omega arith)
+
+sizes-kept : (u s : ℕ) → sizeFault u s ≡ 0 → (u ≤ sizeLimit) × (s ≤ sizeLimit)
+sizes-kept u s e =
+    let p = and-parts (leb u sizeLimit) (leb s sizeLimit) (faultless (leb u sizeLimit && leb s sizeLimit) 8 0 (omega arith) e .0) in
+    (leb-true u sizeLimit (p .0), leb-true s sizeLimit (p .1))
+
+sized-task : (t : TaskType) → typeFault t ≡ 0 → Sized t
+sized-task t e = let p = sizes-kept (t .time) (t .memory) e in record { time = p .0; memory = p .1 }
 
 sized-zero : (t : TaskType) → t ≡ noTask → Sized t
 sized-zero t e = subst Sized (sym e) (record { time = zero-le; memory = zero-le })
 
-tasks-sized : (k : ℕ) (ts : List TaskType) → tasksKeep k ts ≡ true → (i : ℕ) → Sized (getD ts i noTask)
-unfolding tasksKeep
-tasks-sized k [] e i = sized-zero noTask refl
-tasks-sized zero (t ∷ ts) e zero = sized-zero t (zero-task t (and-parts (zeroTask t) (tasksKeep zero ts) e .0))
-tasks-sized zero (t ∷ ts) e (suc i) = tasks-sized zero ts (and-parts (zeroTask t) (tasksKeep zero ts) e .1) i
-tasks-sized (suc k) (t ∷ ts) e zero = sized-task t (and-parts (sizedTask t) (tasksKeep k ts) e .0)
-tasks-sized (suc k) (t ∷ ts) e (suc i) = tasks-sized k ts (and-parts (sizedTask t) (tasksKeep k ts) e .1) i
+types-sized : (k : ℕ) (ts : List TaskType) → typesKeep k ts ≡ true → (i : ℕ) → Sized (getD ts i noTask)
+unfolding typesKeep
+types-sized k [] e i = sized-zero noTask refl
+types-sized zero (t ∷ ts) e zero = sized-zero t (zero-task t (and-parts (zeroTask t) (typesKeep zero ts) e .0))
+types-sized zero (t ∷ ts) e (suc i) = types-sized zero ts (and-parts (zeroTask t) (typesKeep zero ts) e .1) i
+types-sized (suc k) (t ∷ ts) e zero = sized-task t (eqb-true (typeFault t) 0 (and-parts (eqb (typeFault t) 0) (typesKeep k ts) e .0))
+types-sized (suc k) (t ∷ ts) e (suc i) = types-sized k ts (and-parts (eqb (typeFault t) 0) (typesKeep k ts) e .1) i
 
 -- Every limit of document 01 as a plain fact
 pub record Limits (y : System) : Type 0 where
   pub some-engine : 1 ≤ y .engines
   pub engines : y .engines ≤ engineLimit
   pub rule : y .rule ≤ 1
-  pub time : y .time ≤ sizeLimit
-  pub memory : y .memory ≤ sizeLimit
-  pub some-type : 1 ≤ y .types
-  pub types : y .types ≤ typeLimit
-  pub six : length (y .tasks) ≡ typeLimit
+  pub time : y .timecap ≤ sizeLimit
+  pub memory : y .memorycap ≤ sizeLimit
+  pub some-type : 1 ≤ y .typecount
+  pub typecount : y .typecount ≤ typeLimit
+  pub six : length (y .types) ≡ typeLimit
   pub columns : columnsOf (ceilingsOf y) ≤ columnLimit
   -- entries past k are 0
-  pub past : (i : ℕ) → y .types ≤ i → getD (y .tasks) i noTask ≡ noTask
+  pub past : (i : ℕ) → y .typecount ≤ i → getD (y .types) i noTask ≡ noTask
   -- u and s of every entry
-  pub sized : (i : ℕ) → Sized (getD (y .tasks) i noTask)
+  pub sized : (i : ℕ) → Sized (getD (y .types) i noTask)
 
--- ten tests, joined as `keepsLimits` joins them
-ten-true : (a b c d e f g h i j : Bool) → a && b && c && d && e && f && g && h && i && j ≡ true
-    → (a ≡ true) × (b ≡ true) × (c ≡ true) × (d ≡ true) × (e ≡ true) × (f ≡ true) × (g ≡ true) × (h ≡ true) × (i ≡ true) × (j ≡ true)
-ten-true true true true true true true true true i j q =
-    (refl, refl, refl, refl, refl, refl, refl, refl, and-parts i j q .0, and-parts i j q .1)
-ten-true false b c d e f g h i j q = absurd (false≢true q)
-ten-true true false c d e f g h i j q = absurd (false≢true q)
-ten-true true true false d e f g h i j q = absurd (false≢true q)
-ten-true true true true false e f g h i j q = absurd (false≢true q)
-ten-true true true true true false f g h i j q = absurd (false≢true q)
-ten-true true true true true true false g h i j q = absurd (false≢true q)
-ten-true true true true true true true false h i j q = absurd (false≢true q)
-ten-true true true true true true true true false i j q = absurd (false≢true q)
+-- a platform's numbers within the limits
+record Platform (m r u s : ℕ) : Type 0 where
+  some-engine : 1 ≤ m
+  engines : m ≤ engineLimit
+  rule : r ≤ 1
+  time : u ≤ sizeLimit
+  memory : s ≤ sizeLimit
+
+platform-kept : (m rule u s : ℕ) → platformFault m rule u s ≡ 0 → Platform m rule u s
+platform-kept m rule u s e =
+    let a = faultless (leb 1 m && leb m engineLimit) 5 _ (omega arith) e in
+    let b = faultless (leb rule 1) 6 _ (omega arith) (a .1) in
+    let c = sizes-kept u s (b .1) in
+    let p = and-parts (leb 1 m) (leb m engineLimit) (a .0) in
+    record { some-engine = leb-true 1 m (p .0); engines = leb-true m engineLimit (p .1); rule = leb-true rule 1 (b .0); time = c .0; memory = c .1 }
+
+columns-kept : (y : System) → columnsFault (y .types) ≡ 0 → columns y ≤ columnLimit
+columns-kept y e = leb-true (columns y) columnLimit (faultless (leb (columns y) columnLimit) 10 0 (omega arith) e .0)
+
+-- six tests, joined as `keepsLimits` joins them
+six-true : (a b c d e f : Bool) → a && b && c && d && e && f ≡ true → (a ≡ true) × (b ≡ true) × (c ≡ true) × (d ≡ true) × (e ≡ true) × (f ≡ true)
+six-true true true true true e f q = (refl, refl, refl, refl, and-parts e f q .0, and-parts e f q .1)
+six-true false b c d e f q = absurd (false≢true q)
+six-true true false c d e f q = absurd (false≢true q)
+six-true true true false d e f q = absurd (false≢true q)
+six-true true true true false e f q = absurd (false≢true q)
 
 pub limits-of : (y : System) → keepsLimits y ≡ true → Limits y
 unfolding keepsLimits
 limits-of y q =
+    let fault = platformFault (y .engines) (y .rule) (y .timecap) (y .memorycap) in
     let p =
-    ten-true (leb 1 (y .engines)) (leb (y .engines) engineLimit) (leb (y .rule) 1) (leb (y .time) sizeLimit) (leb (y .memory) sizeLimit)
-    (leb 1 (y .types)) (leb (y .types) typeLimit) (eqb (length (y .tasks)) typeLimit) (tasksKeep (y .types) (y .tasks))
-    (leb (columns y) columnLimit) q in
+    six-true (eqb fault 0) (leb 1 (y .typecount)) (leb (y .typecount) typeLimit) (eqb (length (y .types)) typeLimit) (typesKeep (y .typecount) (y .types))
+    (eqb (columnsFault (y .types)) 0) q in
+    let platform = platform-kept (y .engines) (y .rule) (y .timecap) (y .memorycap) (eqb-true fault 0 (p .0)) in
     record {
-      some-engine = leb-true 1 (y .engines) (p .0);
-      engines = leb-true (y .engines) engineLimit (p .1);
-      rule = leb-true (y .rule) 1 (p .2);
-      time = leb-true (y .time) sizeLimit (p .3);
-      memory = leb-true (y .memory) sizeLimit (p .4);
-      some-type = leb-true 1 (y .types) (p .5);
-      types = leb-true (y .types) typeLimit (p .6);
-      six = eqb-true (length (y .tasks)) typeLimit (p .7);
-      columns = leb-true (columns y) columnLimit (p .9);
-      past = tasks-past (y .types) (y .tasks) (p .8);
-      sized = tasks-sized (y .types) (y .tasks) (p .8);
+      some-engine = platform .some-engine;
+      engines = platform .engines;
+      rule = platform .rule;
+      time = platform .time;
+      memory = platform .memory;
+      some-type = leb-true 1 (y .typecount) (p .1);
+      typecount = leb-true (y .typecount) typeLimit (p .2);
+      six = eqb-true (length (y .types)) typeLimit (p .3);
+      columns = columns-kept y (eqb-true (columnsFault (y .types)) 0 (p .5));
+      past = types-past (y .typecount) (y .types) (p .4);
+      sized = types-sized (y .typecount) (y .types) (p .4);
     }
 
 -- the other way
 
-sized-test : (t : TaskType) → Sized t → sizedTask t ≡ true
-sized-test t h = and-both (leb (t .time) sizeLimit) (leb (t .memory) sizeLimit) (le-leb (t .time) sizeLimit (h .time)) (le-leb (t .memory) sizeLimit (h .memory))
+sizes-keep : (u s : ℕ) → u ≤ sizeLimit → s ≤ sizeLimit → sizeFault u s ≡ 0
+sizes-keep u s p q = rw (le-leb u sizeLimit p, le-leb s sizeLimit q)
 
-tasks-keep : (k : ℕ) (ts : List TaskType) → ((i : ℕ) → k ≤ i → getD ts i noTask ≡ noTask) → ((i : ℕ) → Sized (getD ts i noTask)) → tasksKeep k ts ≡ true
-unfolding tasksKeep
-tasks-keep k [] past sized = refl
-tasks-keep zero (t ∷ ts) past sized =
-    and-both (zeroTask t) (tasksKeep zero ts) (ap zeroTask (past zero zero-le)) (tasks-keep zero ts (λ i h. past (suc i) zero-le) (λ i. sized (suc i)))
-tasks-keep (suc k) (t ∷ ts) past sized =
-    and-both (sizedTask t) (tasksKeep k ts) (sized-test t (sized zero)) (tasks-keep k ts (λ i h. past (suc i) (omega arith)) (λ i. sized (suc i)))
+sized-test : (t : TaskType) → Sized t → eqb (typeFault t) 0 ≡ true
+sized-test t h = eq-eqb (typeFault t) 0 (sizes-keep (t .time) (t .memory) (h .time) (h .memory))
+
+types-keep : (k : ℕ) (ts : List TaskType) → ((i : ℕ) → k ≤ i → getD ts i noTask ≡ noTask) → ((i : ℕ) → Sized (getD ts i noTask)) → typesKeep k ts ≡ true
+unfolding typesKeep
+types-keep k [] past sized = refl
+types-keep zero (t ∷ ts) past sized =
+    and-both (zeroTask t) (typesKeep zero ts) (ap zeroTask (past zero zero-le)) (types-keep zero ts (λ i h. past (suc i) zero-le) (λ i. sized (suc i)))
+types-keep (suc k) (t ∷ ts) past sized =
+    and-both (eqb (typeFault t) 0) (typesKeep k ts) (sized-test t (sized zero)) (types-keep k ts (λ i h. past (suc i) (omega arith)) (λ i. sized (suc i)))
 
 pub limits-keep : (y : System) → Limits y → keepsLimits y ≡ true
 unfolding keepsLimits
@@ -171,12 +188,12 @@ limits-keep y l =
       le-leb 1 (y .engines) (l .some-engine),
       le-leb (y .engines) engineLimit (l .engines),
       le-leb (y .rule) 1 (l .rule),
-      le-leb (y .time) sizeLimit (l .time),
-      le-leb (y .memory) sizeLimit (l .memory),
-      le-leb 1 (y .types) (l .some-type),
-      le-leb (y .types) typeLimit (l .types),
-      eq-eqb (length (y .tasks)) typeLimit (l .six),
-      tasks-keep (y .types) (y .tasks) (l .past) (l .sized),
+      le-leb (y .timecap) sizeLimit (l .time),
+      le-leb (y .memorycap) sizeLimit (l .memory),
+      le-leb 1 (y .typecount) (l .some-type),
+      le-leb (y .typecount) typeLimit (l .typecount),
+      eq-eqb (length (y .types)) typeLimit (l .six),
+      types-keep (y .typecount) (y .types) (l .past) (l .sized),
       le-leb (columns y) columnLimit (l .columns),
     )
 
@@ -187,13 +204,20 @@ pub passes : (b : Bool) (n : ℕ) (x : Reading) (z : System) → cond b (unread 
 passes true n x z e = let q : _≡_ {A = ℕ} 0 1 = cc in absurd (omega arith)
 passes false n x z e = (refl, e)
 
+pub no-fault : (n : ℕ) (y z : System) → unlessFault n y ≡ opened z → (n ≡ 0) × (y ≡ z)
+no-fault n y z e = go (eqb n 0) refl e
+  where
+    go : (b : Bool) → eqb n 0 ≡ b → cond b (opened y) (unread n) ≡ opened z → (n ≡ 0) × (y ≡ z)
+    go true q e = let same : y ≡ z = cc in (eqb-true n 0 q, same)
+    go false q e = let z : _≡_ {A = ℕ} 0 1 = cc in absurd (omega arith)
+
 -- what is known of the system after some fields, the last of tag `last` (0 for none)
 record Sound (last : ℕ) (y : System) : Type 0 where
-  types : y .types ≤ typeLimit
-  six : length (y .tasks) ≡ typeLimit
-  past : (i : ℕ) → y .types ≤ i → getD (y .tasks) i noTask ≡ noTask
-  sized : (i : ℕ) → Sized (getD (y .tasks) i noTask)
-  platform : (last ≡ 0 → ⊥) → (1 ≤ y .engines) × (y .engines ≤ engineLimit) × (y .rule ≤ 1) × (y .time ≤ sizeLimit) × (y .memory ≤ sizeLimit)
+  typecount : y .typecount ≤ typeLimit
+  six : length (y .types) ≡ typeLimit
+  past : (i : ℕ) → y .typecount ≤ i → getD (y .types) i noTask ≡ noTask
+  sized : (i : ℕ) → Sized (getD (y .types) i noTask)
+  platform : (last ≡ 0 → ⊥) → Platform (y .engines) (y .rule) (y .timecap) (y .memorycap)
 
 getD-blank : (n i : ℕ) → getD (replicate n noTask) i noTask ≡ noTask
 getD-blank zero i = refl
@@ -203,33 +227,36 @@ getD-blank (suc n) (suc i) = getD-blank n i
 sound-blank : Sound 0 blank
 sound-blank =
     record {
-      types = zero-le;
+      typecount = zero-le;
       six = refl;
-      past = λ i h. getD-blank 6 i;
-      sized = λ i. sized-zero (getD (blank .tasks) i noTask) (getD-blank 6 i);
+      past = λ i h. getD-blank typeLimit i;
+      sized = λ i. sized-zero (getD (blank .types) i noTask) (getD-blank typeLimit i);
       platform = λ n. absurd (n refl);
     }
+
+either-false : (a b : Bool) → a || b ≡ false → (a ≡ false) × (b ≡ false)
+either-false false b e = (refl, e)
+either-false true b e = absurd (false≢true (sym e))
 
 sound-end : (last : ℕ) (y z : System) → Sound last y → endOf last y ≡ opened z → keepsLimits z ≡ true
 unfolding endOf
 sound-end last y z s e =
-    let a = passes (eqb last 0) 9 _ z e in
-    let b = passes (eqb (y .types) 0) 9 _ z (a .1) in
-    let c = passes (ltb columnLimit (columns y)) 10 _ z (b .1) in
-    let same : y ≡ z = cc in
-    let p = s .platform (eqb-false last 0 (a .0)) in
-    subst (λ (x : System). keepsLimits x ≡ true) same
+    let a = passes (eqb last 0 || eqb (y .typecount) 0) 9 _ z e in
+    let some = either-false (eqb last 0) (eqb (y .typecount) 0) (a .0) in
+    let c = no-fault (columnsFault (y .types)) y z (a .1) in
+    let p = s .platform (eqb-false last 0 (some .0)) in
+    subst (λ (x : System). keepsLimits x ≡ true) (c .1)
     (limits-keep y
     (record {
-      some-engine = p .0;
-      engines = p .1;
-      rule = p .2;
-      time = p .3;
-      memory = p .4;
-      some-type = omega (arith, eqb-false (y .types) 0 (b .0));
-      types = s .types;
+      some-engine = p .some-engine;
+      engines = p .engines;
+      rule = p .rule;
+      time = p .time;
+      memory = p .memory;
+      some-type = omega (arith, eqb-false (y .typecount) 0 (some .1));
+      typecount = s .typecount;
       six = s .six;
-      columns = ltb-false columnLimit (columns y) (c .0);
+      columns = columns-kept y (c .0);
       past = s .past;
       sized = s .sized;
     }))
@@ -238,25 +265,14 @@ sound-end last y z s e =
 sound-platform : (b : List ℕ) (last tag : ℕ) (y z : System) → Sound last y → platformOf b y ≡ opened z → Sound tag z
 unfolding platformFrom
 sound-platform b last tag y z s e =
-    let a = passes (not (leb 1 (byteAt b 0) && leb (byteAt b 0) engineLimit)) 5 _ z e in
-    let r = passes (not (leb (byteAt b 1) 1)) 6 _ z (a .1) in
-    let q = passes (not (leb (word4 b 2) sizeLimit && leb (word4 b 6) sizeLimit)) 8 _ z (r .1) in
-    let same : withPlatform (byteAt b 0) (byteAt b 1) (word4 b 2) (word4 b 6) y ≡ z = cc in
-    let m = not-false (leb 1 (byteAt b 0) && leb (byteAt b 0) engineLimit) (a .0) in
-    let c = not-false (leb (word4 b 2) sizeLimit && leb (word4 b 6) sizeLimit) (q .0) in
-    subst (Sound tag) same
+    let p = no-fault (platformFault (byteAt b 0) (byteAt b 1) (word4 b 2) (word4 b 6)) (withPlatform (byteAt b 0) (byteAt b 1) (word4 b 2) (word4 b 6) y) z e in
+    subst (Sound tag) (p .1)
     (record {
-      types = s .types;
+      typecount = s .typecount;
       six = s .six;
       past = s .past;
       sized = s .sized;
-      platform = λ n. (
-        leb-true 1 (byteAt b 0) (and-parts (leb 1 (byteAt b 0)) (leb (byteAt b 0) engineLimit) m .0),
-        leb-true (byteAt b 0) engineLimit (and-parts (leb 1 (byteAt b 0)) (leb (byteAt b 0) engineLimit) m .1),
-        leb-true (byteAt b 1) 1 (not-false (leb (byteAt b 1) 1) (r .0)),
-        leb-true (word4 b 2) sizeLimit (and-parts (leb (word4 b 2) sizeLimit) (leb (word4 b 6) sizeLimit) c .0),
-        leb-true (word4 b 6) sizeLimit (and-parts (leb (word4 b 2) sizeLimit) (leb (word4 b 6) sizeLimit) c .1),
-      );
+      platform = λ n. platform-kept (byteAt b 0) (byteAt b 1) (word4 b 2) (word4 b 6) (p .0);
     })
 
 -- one entry more
@@ -268,19 +284,17 @@ sized-set t (u ∷ ts) (suc k) h all zero = all zero
 sized-set t (u ∷ ts) (suc k) h all (suc i) = sized-set t ts k h (λ j. all (suc j)) i
 
 -- a type's body, where there is a platform and room for one more type
-sound-type : (b : List ℕ) (last tag : ℕ) (y z : System) → Sound last y → (last ≡ 0 → ⊥) → y .types < typeLimit → typeOf b y ≡ opened z → Sound tag z
+sound-type : (b : List ℕ) (last tag : ℕ) (y z : System) → Sound last y → (last ≡ 0 → ⊥) → y .typecount < typeLimit → typeOf b y ≡ opened z → Sound tag z
 unfolding typeFrom
 sound-type b last tag y z s first room e =
-    let q = passes (not (leb (word4 b 0) sizeLimit && leb (word4 b 4) sizeLimit)) 8 _ z e in
     let t : TaskType = record { time = word4 b 0; memory = word4 b 4; ceiling = word2 b 8 } in
-    let same : withType t y ≡ z = cc in
-    let sized = sized-task t (not-false (leb (word4 b 0) sizeLimit && leb (word4 b 4) sizeLimit) (q .0)) in
-    subst (Sound tag) same
+    let q = no-fault (typeFault t) (withType t y) z e in
+    subst (Sound tag) (q .1)
     (record {
-      types = room;
-      six = length-set (y .tasks) (y .types) t ∙ s .six;
-      past = λ i h. getD-set-other (y .tasks) (y .types) i t noTask (λ (p : i ≡ y .types). omega arith) ∙ s .past i (omega arith);
-      sized = λ i. sized-set t (y .tasks) (y .types) sized (s .sized) i;
+      typecount = room;
+      six = length-set (y .types) (y .typecount) t ∙ s .six;
+      past = λ i h. getD-set-other (y .types) (y .typecount) i t noTask (λ (p : i ≡ y .typecount). omega arith) ∙ s .past i (omega arith);
+      sized = λ i. sized-set t (y .types) (y .typecount) (sized-task t (q .0)) (s .sized) i;
       platform = λ n. s .platform first;
     })
 
@@ -308,67 +322,76 @@ ruleOf-known tag r = first (eqb 1 tag) refl
         record { same-tag = ap (λ (x : FieldRule). x .tag) (sym same) ∙ t; some-tag = λ z. omega arith; which = inl (sym same) }
     first false q e = second (eqb 2 tag) refl e
 
--- a head that passes has a rule, stands in its place, and gives the rule's length
-pub record Passed (s : List ℕ) (last : ℕ) (r : FieldRule) : Type 0 where
-  pub rule : IsRule r (byteAt s 0)
-  pub place : inPlace last (r .tag) ≡ true
-  pub size : word2 s 1 ≡ r .body
+-- a platform is first, and a type is not
+pub platform-first : (last : ℕ) → mayFollow follows last (platformRule .tag) ≡ true → last ≡ 0
+platform-first last e = go (eqb 0 last) refl e
+  where
+    go : (b : Bool) → eqb 0 last ≡ b → cond b true false ≡ true → last ≡ 0
+    go true q e = sym (eqb-true 0 last q)
+    go false q e = absurd (false≢true e)
+
+pub type-later : (last : ℕ) → mayFollow follows last (typeRule .tag) ≡ true → last ≡ 0 → ⊥
+type-later last e z = false≢true (ap (λ (n : ℕ). mayFollow follows n (typeRule .tag)) (sym z) ∙ e)
+
+-- a head that passes has a rule, stands in its place, gives the rule's length, and its body stands there
+pub record Passed (tag size : ℕ) (all : Bool) (last : ℕ) (r : FieldRule) : Type 0 where
+  pub rule : IsRule r tag
+  pub place : mayFollow follows last (r .tag) ≡ true
+  pub length : size ≡ r .body
+  pub whole : all ≡ true
 
 head-passes : (b : Bool) (n : ℕ) (x : Head) (r : FieldRule) → cond b (Stops n) x ≡ Ruled r → (b ≡ false) × (x ≡ Ruled r)
 head-passes true n x r e = let q : _≡_ {A = ℕ} 0 1 = cc in absurd (omega arith)
 head-passes false n x r e = (refl, e)
 
-pub headOf-ruled : (s : List ℕ) (last : ℕ) (r : FieldRule) → headOf s last ≡ Ruled r → Passed s last r
-unfolding headOf ruledHead
-headOf-ruled s last r e = known (ruleOf fieldRules (byteAt s 0)) refl (head-passes (ltb (length s) 3) 1 _ r e .1)
+pub headFrom-ruled : (headed : Bool) (tag size : ℕ) (all : Bool) (last : ℕ) (r : FieldRule) → headFrom headed tag size all last ≡ Ruled r → Passed tag size all last r
+unfolding ruledHead
+headFrom-ruled headed tag size all last r e = known (ruleOf fieldRules tag) refl (head-passes (not headed) 1 _ r e .1)
   where
-    known : (f : RuleFound) → ruleOf fieldRules (byteAt s 0) ≡ f → ruledHead f s last ≡ Ruled r → Passed s last r
+    known : (f : RuleFound) → ruleOf fieldRules tag ≡ f → ruledHead f size all last ≡ Ruled r → Passed tag size all last r
     known Unknown q e = let z : _≡_ {A = ℕ} 0 1 = cc in absurd (omega arith)
     known (Known t) q e =
-        let a = head-passes (not (inPlace last (t .tag))) 3 _ r e in
-        let b = head-passes (not (eqb (word2 s 1) (t .body))) 4 _ r (a .1) in
+        let a = head-passes (not (mayFollow follows last (t .tag))) 3 _ r e in
+        let b = head-passes (not (eqb size (t .body))) 4 _ r (a .1) in
+        let c = head-passes (not all) 1 _ r (b .1) in
         let same : t ≡ r = cc in
-        subst (Passed s last) same
+        subst (Passed tag size all last) same
         (record {
-          rule = ruleOf-known (byteAt s 0) t q;
-          place = not-false (inPlace last (t .tag)) (a .0);
-          size = eqb-true (word2 s 1) (t .body) (not-false (eqb (word2 s 1) (t .body)) (b .0));
+          rule = ruleOf-known tag t q;
+          place = not-false (mayFollow follows last (t .tag)) (a .0);
+          length = eqb-true size (t .body) (not-false (eqb size (t .body)) (b .0));
+          whole = not-false all (c .0);
         })
 
+pub headOf-ruled : (s : List ℕ) (last : ℕ) (r : FieldRule) → headOf s last ≡ Ruled r → Passed (byteAt s 0) (word2 s 1) (wholeField s) last r
+unfolding headOf
+headOf-ruled s last r e = headFrom-ruled (headedField s) (byteAt s 0) (word2 s 1) (wholeField s) last r e
+
 -- a field after its head
-sound-body : (r : FieldRule) (b : List ℕ) (last tag : ℕ) (y z : System) → Sound last y → IsRule r tag → inPlace last (r .tag) ≡ true
-    → bodyOf r b last y ≡ opened z → Sound tag z
+sound-body : (r : FieldRule) (b : List ℕ) (last tag : ℕ) (y z : System) → Sound last y → IsRule r tag → mayFollow follows last (r .tag) ≡ true
+    → bodyOf r b y ≡ opened z → Sound tag z
 unfolding bodyOf
 sound-body r b last tag y z s i p e = at (i .which)
   where
     at : (r ≡ platformRule) ⊎ (r ≡ typeRule) → Sound tag z
-    at (inl w) = sound-platform b last tag y z s (passes (leb 1 (cond (eqb last 0) 0 1)) 7 (platformOf b y) z (rw w at e) .1)
+    at (inl w) = sound-platform b last tag y z s (rw w at e)
     at (inr w) =
-        let q = passes (leb 6 (y .types)) 7 (typeOf b y) z (rw w at e) in
-        sound-type b last tag y z s (later (eqb last 0) refl (rw w at p)) (leb-false 6 (y .types) (q .0)) (q .1)
-      where
-        later : (c : Bool) → eqb last 0 ≡ c → cond c false true ≡ true → last ≡ 0 → ⊥
-        later true q f n = absurd (false≢true f)
-        later false q f n = eqb-false last 0 q n
+        let q = passes (leb typeLimit (y .typecount)) 7 (typeOf b y) z (rw w at e) in
+        sound-type b last tag y z s (type-later last (rw w at p)) (leb-false typeLimit (y .typecount) (q .0)) (q .1)
 
--- a field that is accepted has a head that passes and is whole, and its body is accepted
+-- a field that is accepted has a head that passes, and its body is accepted
 pub record Accepts (s : List ℕ) (last : ℕ) (y z : System) : Type 0 where
   pub rule : FieldRule
-  pub passed : Passed s last rule
-  pub whole : wholeField s ≡ true
-  pub body : bodyOf rule (bodyPart s) last y ≡ opened z
+  pub passed : Passed (byteAt s 0) (word2 s 1) (wholeField s) last rule
+  pub body : bodyOf rule (bodyPart s) y ≡ opened z
 
 pub fieldOf-opened : (s : List ℕ) (last : ℕ) (y z : System) → fieldOf s last y ≡ opened z → Accepts s last y z
 unfolding fieldOf ruledField
 fieldOf-opened s last y z e = judged (headOf s last) refl e
   where
-    judged : (x : Head) → headOf s last ≡ x → ruledField x s last y ≡ opened z → Accepts s last y z
+    judged : (x : Head) → headOf s last ≡ x → ruledField x (bodyPart s) y ≡ opened z → Accepts s last y z
     judged (Stops n) q e = let z : _≡_ {A = ℕ} 0 1 = cc in absurd (omega arith)
-    judged (Ruled r) q e = whole (wholeField s) refl e
-      where
-        whole : (b : Bool) → wholeField s ≡ b → cond b (bodyOf r (bodyPart s) last y) (unread 1) ≡ opened z → Accepts s last y z
-        whole true w e = record { rule = r; passed = headOf-ruled s last r q; whole = w; body = e }
-        whole false w e = let z : _≡_ {A = ℕ} 0 1 = cc in absurd (omega arith)
+    judged (Ruled r) q e = record { rule = r; passed = headOf-ruled s last r q; body = e }
 
 sound-field : (s : List ℕ) (last : ℕ) (y z : System) → Sound last y → fieldOf s last y ≡ opened z → Sound (byteAt s 0) z
 sound-field s last y z h e =
@@ -401,6 +424,29 @@ read-keeps-limits file y e = sound-fields (length file) file 0 blank y sound-bla
 
 pub read-limits : (file : List ℕ) (y : System) → readFile file ≡ opened y → Limits y
 read-limits file y e = limits-of y (read-keeps-limits file y e)
+
+-- What the field step gives: a whole field is within the file, and the part from its start to the next field is its body
+
+pub whole-inside : (file : List ℕ) (at : ℕ) → wholeField (drop at file) ≡ true → at + fieldSize (drop at file) ≤ length file
+whole-inside file at w = omega (arith, leb-true (fieldSize (drop at file)) (length (drop at file)) w, length-drop at file)
+
+pub body-is : (file : List ℕ) (at : ℕ) → partOf file (fieldAt file at .start) (fieldAt file at .next .at) ≡ bodyAt file at
+unfolding fieldAt bodyAt
+body-is file at = go (wholeField (drop at file)) refl
+  where
+    size : ℕ
+    size = word2 (drop at file) 1
+
+    nothing : (b : Bool) → cond b (take (at - at) (drop at file)) [] ≡ []
+    nothing false = refl
+    nothing true = let none : at - at ≡ 0 = omega arith in rw none
+
+    go : (b : Bool) → wholeField (drop at file) ≡ b
+        → partOf file (cond b (at + headSize) at) (cond b (at + (headSize + size)) at) ≡ cond b (take size (drop headSize (drop at file))) []
+    go false w = nothing (leb at at && leb at (length file))
+    go true w =
+        let long : at + (headSize + size) - (at + headSize) ≡ size = omega arith in
+        rw (le-leb (at + headSize) (at + (headSize + size)) (omega arith), le-leb (at + (headSize + size)) (length file) (whole-inside file at w), long, drop-drop headSize at file)
 
 -- What the reader's answer says of the reading
 

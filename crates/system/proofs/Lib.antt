@@ -1,5 +1,6 @@
--- The laws of crate `system` that other crates cite.
+-- The laws of crate `system`: other crates cite `Laws` and `Prefix`, the functions' proofs the others too.
+pub mod Checks
 pub mod Laws
 pub mod Prefix
 mod Steps
-mod Reader
+mod Goes

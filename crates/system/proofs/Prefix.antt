@@ -4,79 +4,69 @@ use native.Mathlib.Omega.{arith}
 use native.Mathlib.Nat.{le-refl, zero-sub}
 use native.Mathlib.Numerals.{unary-clauses}
 use mathlib.Core.List.{List, [], _∷_}
-use mathlib.Core.Bool.{Bool, true, false, not, cond, _&&_}
+use mathlib.Core.Bool.{Bool, true, false, not, cond}
 use mathlib.Core.Path.{_≡_, refl, sym, ap, _∙_}
 use mathlib.Core.Logic.{_⊎_, inl, inr}
-use borrow.Author.Tests.{leb-true, leb-false, ltb-true, ltb-false, le-leb, lt-leb, lt-ltb, le-ltb}
+use borrow.Author.Tests.{leb-true, leb-false, eqb-true, ne-eqb, le-leb, lt-leb}
 use lib.ListN.{length, take, drop, length-take, length-drop}
 use lib.Seq.{getD-take, take-take, take-nil}
-use lib.Dec.{leb, ltb, eqb, lit≤}
+use lib.Dec.{leb, eqb, lit≤}
 use Rattle.system.specs.declared.TaskType.{TaskType}
 use Rattle.system.specs.declared.System.{System}
-use Rattle.system.specs.declared.FieldRule.{FieldRule}
-use Rattle.system.specs.declared.RuleFound.{RuleFound}
-use Rattle.system.specs.declared.RuleFound.the-variants.{Known, Unknown}
-use Rattle.system.specs.declared.Head.{Head}
-use Rattle.system.specs.declared.Head.the-variants.{Ruled, Stops}
+use Rattle.system.specs.declared.rules.FieldRule.{FieldRule}
+use Rattle.system.specs.declared.rules.RuleFound.{RuleFound}
+use Rattle.system.specs.declared.rules.RuleFound.the-variants.{Known, Unknown}
+use Rattle.system.specs.declared.reader.Head.{Head}
+use Rattle.system.specs.declared.reader.Head.the-variants.{Ruled, Stops}
+use Rattle.system.specs.Numbers.{typeLimit, fileBytes}
 use Rattle.system.specs.Values.{blank, withPlatform, withType}
-use Rattle.system.specs.Limits.{engineLimit, sizeLimit, sizedTask}
-use Rattle.system.specs.Layout.{Reading, opened, unread, byteAt, word2, word4, headSize, fieldSize, wholeField, bodyPart}
-use Rattle.system.specs.Layout.{platformRule, typeRule, fieldRules, ruledSize, longestField, longestFile, ruleOf, inPlace, seenOf, platformFrom, platformOf, typeFrom, typeOf}
+use Rattle.system.specs.Limits.{platformFault, typeFault}
+use Rattle.system.specs.Rules.{platformRule, typeRule, fieldRules, ruleOf, follows, mayFollow, headSize, ruledSize, longestField, longestFile}
+use Rattle.system.specs.Layout.{Reading, opened, unread, byteAt, word2, word4, fieldSize, headedField, wholeField, bodyPart, platformFrom, platformOf, typeFrom, typeOf}
 use Rattle.system.specs.Layout.{ruledHead, headOf, bodyOf, ruledField, fieldOf, afterField, fieldsFrom, readFile}
-use Rattle.system.proofs.Laws.{and-parts, passes, IsRule, headOf-ruled, fieldOf-opened, fieldsFrom-nil}
+use Rattle.system.proofs.Laws.{passes, no-fault, IsRule, ruleOf-known, platform-first, type-later, headOf-ruled, fieldOf-opened, fieldsFrom-nil}
 
 -- The bytes that the fields still allowed can have, after a field of tag `last` and with the system y so far
 
+abbrev spent : ℕ → ℕ → System → ℕ
+spent tag last y = cond (eqb tag (typeRule .tag)) (y .typecount) (cond (eqb last 0) 0 1)
+
 abbrev roomFor : List FieldRule → ℕ → System → ℕ
 roomFor [] last y = 0
-roomFor (r ∷ rs) last y = (r .allowed - seenOf (r .tag) last y) * ruledSize r + roomFor rs last y
+roomFor (r ∷ rs) last y = (r .allowed - spent (r .tag) last y) * ruledSize r + roomFor rs last y
 
 abbrev room : ℕ → System → ℕ
 room last y = roomFor fieldRules last y
 
-platform-types : (b : List ℕ) (y z : System) → platformOf b y ≡ opened z → z .types ≡ y .types
+platform-types : (b : List ℕ) (y z : System) → platformOf b y ≡ opened z → z .typecount ≡ y .typecount
 unfolding platformFrom
 platform-types b y z e =
-    let a = passes (not (leb 1 (byteAt b 0) && leb (byteAt b 0) engineLimit)) 5 _ z e in
-    let r = passes (not (leb (byteAt b 1) 1)) 6 _ z (a .1) in
-    let q = passes (not (leb (word4 b 2) sizeLimit && leb (word4 b 6) sizeLimit)) 8 _ z (r .1) in
-    let same : withPlatform (byteAt b 0) (byteAt b 1) (word4 b 2) (word4 b 6) y ≡ z = cc in
-    ap (λ (x : System). x .types) (sym same)
+    let p = no-fault (platformFault (byteAt b 0) (byteAt b 1) (word4 b 2) (word4 b 6)) (withPlatform (byteAt b 0) (byteAt b 1) (word4 b 2) (word4 b 6) y) z e in
+    ap (λ (x : System). x .typecount) (sym (p .1))
 
-type-types : (b : List ℕ) (y z : System) → typeOf b y ≡ opened z → z .types ≡ suc (y .types)
+type-types : (b : List ℕ) (y z : System) → typeOf b y ≡ opened z → z .typecount ≡ suc (y .typecount)
 unfolding typeFrom
 type-types b y z e =
     let t : TaskType = record { time = word4 b 0; memory = word4 b 4; ceiling = word2 b 8 } in
-    let q = passes (not (sizedTask t)) 8 _ z e in
-    let same : withType t y ≡ z = cc in
-    ap (λ (x : System). x .types) (sym same)
+    ap (λ (x : System). x .typecount) (sym (no-fault (typeFault t) (withType t y) z e .1))
 
 -- an accepted field takes its bytes from the room
-body-room : (r : FieldRule) (b : List ℕ) (last tag : ℕ) (y z : System) → IsRule r tag → inPlace last (r .tag) ≡ true
-    → bodyOf r b last y ≡ opened z → ruledSize r + room tag z ≤ room last y
+body-room : (r : FieldRule) (b : List ℕ) (last tag : ℕ) (y z : System) → IsRule r tag → mayFollow follows last (r .tag) ≡ true
+    → bodyOf r b y ≡ opened z → ruledSize r + room tag z ≤ room last y
 unfolding bodyOf
 body-room r b last tag y z i p e = at (i .which)
   where
     at : (r ≡ platformRule) ⊎ (r ≡ typeRule) → ruledSize r + room tag z ≤ room last y
     at (inl w) =
-        let first : eqb last 0 ≡ true = yes (eqb last 0) (rw w at p) in
-        let q = passes (leb 1 (cond (eqb last 0) 0 1)) 7 (platformOf b y) z (rw w at e) in
+        let first : last ≡ 0 = platform-first last (rw w at p) in
         let same : tag ≡ 1 = sym (i .same-tag) ∙ ap (λ (x : FieldRule). x .tag) w in
-        rw (w, same, first, platform-types b y z (q .1)) (omega arith)
-      where
-        yes : (c : Bool) → cond c true false ≡ true → c ≡ true
-        yes true f = refl
-        yes false f = f
+        rw (w, same, first, platform-types b y z (rw w at e)) (omega arith)
     at (inr w) =
-        let later : eqb last 0 ≡ false = none (eqb last 0) (rw w at p) in
-        let q = passes (leb 6 (y .types)) 7 (typeOf b y) z (rw w at e) in
+        let later = ne-eqb last 0 (type-later last (rw w at p)) in
+        let q = passes (leb typeLimit (y .typecount)) 7 (typeOf b y) z (rw w at e) in
         let same : tag ≡ 2 = sym (i .same-tag) ∙ ap (λ (x : FieldRule). x .tag) w in
-        let few = leb-false 6 (y .types) (q .0) in
+        let few = leb-false typeLimit (y .typecount) (q .0) in
         rw (w, same, later, type-types b y z (q .1)) (omega arith)
-      where
-        none : (c : Bool) → cond c false true ≡ true → c ≡ false
-        none true f = sym f
-        none false f = refl
 
 -- so the reading goes on with less room, by the field's size
 record Goes (s : List ℕ) (last : ℕ) (y z : System) : Type 0 where
@@ -88,8 +78,8 @@ field-goes s last y z e =
     let a = fieldOf-opened s last y z e in
     let fewer = body-room (a .rule) (bodyPart s) last (byteAt s 0) y z (a .passed .rule) (a .passed .place) (a .body) in
     record {
-      inside = leb-true (fieldSize s) (length s) (and-parts (leb headSize (length s)) (leb (fieldSize s) (length s)) (a .whole) .1);
-      less = omega (arith, a .passed .size);
+      inside = leb-true (fieldSize s) (length s) (a .passed .whole);
+      less = omega (arith, a .passed .length);
     }
 
 -- A file past the room is refused
@@ -134,13 +124,6 @@ module _ (n : ℕ) (s : List ℕ) where
       go true e = let l = leb-true k (length s) e in le-leb k (length (take n s)) (omega (arith, length-take n s))
       go false e = let l = leb-false k (length s) e in lt-leb k (length (take n s)) (omega (arith, length-take n s))
 
-  ltb-take : (k : ℕ) → k ≤ n → ltb (length (take n s)) k ≡ ltb (length s) k
-  ltb-take k h = go (ltb (length s) k) refl
-    where
-      go : (c : Bool) → ltb (length s) k ≡ c → ltb (length (take n s)) k ≡ c
-      go true e = let l = ltb-true (length s) k e in lt-ltb (length (take n s)) k (omega (arith, length-take n s))
-      go false e = let l = ltb-false (length s) k e in le-ltb (length (take n s)) k (omega (arith, length-take n s))
-
   module _ (wide : headSize ≤ n) where
     byte-take : (i : ℕ) → i < headSize → byteAt (take n s) i ≡ byteAt s i
     byte-take i h = getD-take n s i 0 (omega arith)
@@ -148,34 +131,47 @@ module _ (n : ℕ) (s : List ℕ) where
     word-take : word2 (take n s) 1 ≡ word2 s 1
     word-take = rw (byte-take 1 (omega arith), byte-take 2 (omega arith))
 
-    head-take : (last : ℕ) → headOf (take n s) last ≡ headOf s last
-    unfolding headOf ruledHead
-    head-take last = rw (ltb-take headSize wide, byte-take 0 (omega arith)) (ap (cond (ltb (length s) headSize) (Stops 1)) (ruled (ruleOf fieldRules (byteAt s 0))))
-      where
-        ruled : (x : RuleFound) → ruledHead x (take n s) last ≡ ruledHead x s last
-        ruled Unknown = refl
-        ruled (Known r) = rw word-take
-
     whole-take : fieldSize s ≤ n → wholeField (take n s) ≡ wholeField s
-    whole-take h = rw (word-take, leb-take headSize wide, leb-take (fieldSize s) h)
+    whole-take h = rw (word-take, leb-take (fieldSize s) h)
 
     part-take : fieldSize s ≤ n → bodyPart (take n s) ≡ bodyPart s
-    part-take h = rw (word-take, drop-take headSize n s) (take-take (word2 s 1) (n - headSize) (drop headSize s) (omega arith))
+    part-take h =
+        rw (whole-take h, word-take, drop-take headSize n s)
+        (ap (λ (l : List ℕ). cond (wholeField s) l []) (take-take (word2 s 1) (n - headSize) (drop headSize s) (omega arith)))
 
-field-take : (n : ℕ) (s : List ℕ) (last : ℕ) (y : System) → longestField ≤ n → fieldOf (take n s) last y ≡ fieldOf s last y
-unfolding fieldOf ruledField
-field-take n s last y wide = rw (head-take n s (omega arith) last) (judged (headOf s last) refl)
-  where
-    judged : (x : Head) → headOf s last ≡ x → ruledField x (take n s) last y ≡ ruledField x s last y
-    judged (Stops m) q = refl
-    judged (Ruled r) q =
-        let passed = headOf-ruled s last r q in
-        let all : fieldSize s ≤ n = omega (arith, passed .size, longest (passed .rule .which)) in
-        rw (whole-take n s (omega arith) all, part-take n s (omega arith) all)
+  -- a head is judged by the bytes before its body, and a body by what its rule says of its length
+  module _ (wide : longestField ≤ n) where
+    all-in : (r : FieldRule) → IsRule r (byteAt s 0) → word2 s 1 ≡ r .body → fieldSize s ≤ n
+    all-in r i size = omega (arith, size, longest (i .which))
       where
         longest : (r ≡ platformRule) ⊎ (r ≡ typeRule) → ruledSize r ≤ longestField
         longest (inl w) = rw w (lit≤ tt)
         longest (inr w) = rw w (lit≤ tt)
+
+    head-take : (last : ℕ) → headOf (take n s) last ≡ headOf s last
+    unfolding headOf ruledHead
+    head-take last =
+        rw (leb-take headSize (omega arith), byte-take (omega arith) 0 (omega arith), word-take (omega arith))
+        (ap (cond (not (headedField s)) (Stops 1)) (ruled (ruleOf fieldRules (byteAt s 0)) refl))
+      where
+        ruled : (x : RuleFound) → ruleOf fieldRules (byteAt s 0) ≡ x → ruledHead x (word2 s 1) (leb (fieldSize s) (length (take n s))) last ≡ ruledHead x (word2 s 1) (wholeField s) last
+        ruled Unknown q = refl
+        ruled (Known r) q = ap (cond (not (mayFollow follows last (r .tag))) (Stops 3)) (sized (eqb (word2 s 1) (r .body)) refl)
+          where
+            sized : (b : Bool) → eqb (word2 s 1) (r .body) ≡ b
+                → cond (not b) (Stops 4) (cond (not (leb (fieldSize s) (length (take n s)))) (Stops 1) (Ruled r)) ≡ cond (not b) (Stops 4) (cond (not (wholeField s)) (Stops 1) (Ruled r))
+            sized false e = refl
+            sized true e = rw (leb-take (fieldSize s) (all-in r (ruleOf-known (byteAt s 0) r q) (eqb-true (word2 s 1) (r .body) e)))
+
+    field-take : (last : ℕ) (y : System) → fieldOf (take n s) last y ≡ fieldOf s last y
+    unfolding fieldOf ruledField
+    field-take last y = rw (head-take last) (judged (headOf s last) refl)
+      where
+        judged : (x : Head) → headOf s last ≡ x → ruledField x (bodyPart (take n s)) y ≡ ruledField x (bodyPart s) y
+        judged (Stops m) q = refl
+        judged (Ruled r) q =
+            let passed = headOf-ruled s last r q in
+            ap (λ (b : List ℕ). bodyOf r b y) (part-take (omega arith) (all-in r (passed .rule) (passed .length)))
 
 -- Readings of a cut
 
@@ -193,7 +189,7 @@ fields-take (suc f) g n [] last y enough more wide = empty-take (suc f) g n last
 fields-take (suc f) g zero (b ∷ s) last y enough more wide = absurd (omega arith)
 fields-take (suc f) zero (suc n) (b ∷ s) last y enough more wide = absurd (omega arith)
 fields-take (suc f) (suc g) (suc n) (b ∷ s) last y enough more wide =
-    ap (λ (x : Reading). afterField x cut) (field-take (suc n) (b ∷ s) last y (omega arith))
+    ap (λ (x : Reading). afterField x cut) (field-take (suc n) (b ∷ s) (omega arith) last y)
     ∙ after (fieldOf (b ∷ s) last y) refl (λ next. fields-take f g (suc n - size) (drop size (b ∷ s)) b next)
   where
     size : ℕ
@@ -229,8 +225,8 @@ unfolding readFile
 read-take n file wide = fields-take (length (take n file)) (length file) n file 0 blank (le-refl (length (take n file))) (le-refl (length file)) wide
 
 -- document 01: program `plan` "reads the first 128 bytes of standard input (a longer file is refused by then)"
-pub read-prefix : (file : List ℕ) → readFile (take 128 file) ≡ readFile file
-read-prefix file = read-take 128 file (lit≤ tt)
+pub read-prefix : (file : List ℕ) → readFile (take fileBytes file) ≡ readFile file
+read-prefix file = read-take fileBytes file (lit≤ tt)
 
-pub refused-by-then : (file : List ℕ) → 128 < length file → (n : ℕ) × (readFile (take 128 file) ≡ unread n)
+pub refused-by-then : (file : List ℕ) → fileBytes < length file → (n : ℕ) × (readFile (take fileBytes file) ≡ unread n)
 refused-by-then file long = rw read-prefix (long-file-refused file (omega arith))

@@ -1,4 +1,4 @@
--- The steps of the loops over a system's six types and over the table of fields, which the functions' proofs cite.
+-- The steps of the loops over a system's six types and over the tables of fields, which the functions' proofs cite.
 use Prim.Native.Nat.{ℕ, zero, suc, _+_, _-_, _*_, _≤_, _<_, min}
 use native.Mathlib.Omega.{arith}
 use native.Mathlib.Numerals.{add-one}
@@ -6,15 +6,13 @@ use native.Mathlib.Nat.{mul-assoc, mul-one, le-mul-of-pos-right, min-eq-left, mi
 use mathlib.Core.List.{List, _∷_, map}
 use mathlib.Core.Bool.{Bool, true, false, cond, _&&_}
 use mathlib.Core.Path.{_≡_, refl, sym, ap, _∙_, subst}
-use borrow.Author.Tests.{lt-ltb, le-ltb, eq-eqb, ne-eqb}
+use borrow.Author.Tests.{lt-ltb, le-ltb}
 use lib.ListN.{length, getD, drop, drop-of-length-le}
 use lib.Seq.{drop-cons}
 use lib.Dec.{ltb, eqb}
 use Rattle.system.specs.declared.TaskType.{TaskType}
-use Rattle.system.specs.declared.FieldRule.{FieldRule}
-use Rattle.system.specs.declared.RuleFound.the-variants.{Known, Unknown}
-use Rattle.system.specs.Limits.{columnLimit, columnsOf, sizedTask, zeroTask, tasksKeep}
-use Rattle.system.specs.Layout.{ruleOf}
+use Rattle.system.specs.Limits.{columnLimit, columnsOf, typeFault, zeroTask, typesKeep}
+use Rattle.system.specs.Rules.{firstOf}
 use Rattle.system.proofs.Laws.{columnsOf-pos}
 
 -- Columns: `left ts` is the product that the types ts have a part in
@@ -39,54 +37,48 @@ columns-over ts p total over e =
     let more : p ≤ total = subst (λ (x : ℕ). p ≤ x) e (le-mul-of-pos-right p (columnsOf-pos (map (λ (t : TaskType). t .ceiling) ts))) in
     sym (min-eq-right (omega arith))
 
--- The tasks of a system: one entry, then the others
+-- The types of a system: one entry, then the others
 
-tasks-step : (k i : ℕ) (ts : List TaskType) (d : TaskType) → i < length ts
-    → tasksKeep (k - i) (drop i ts) ≡ cond (ltb i k) (sizedTask (getD ts i d)) (zeroTask (getD ts i d)) && tasksKeep (k - (i + 1)) (drop (i + 1) ts)
-unfolding tasksKeep
-tasks-step k i ts d h = rw (add-one i, drop-cons ts i d h) (at (k - i) refl)
+types-step : (k i : ℕ) (ts : List TaskType) (d : TaskType) → i < length ts
+    → typesKeep (k - i) (drop i ts) ≡ cond (ltb i k) (eqb (typeFault (getD ts i d)) 0) (zeroTask (getD ts i d)) && typesKeep (k - (i + 1)) (drop (i + 1) ts)
+unfolding typesKeep
+types-step k i ts d h = rw (add-one i, drop-cons ts i d h) (at (k - i) refl)
   where
-    at : (n : ℕ) → k - i ≡ n → tasksKeep n (getD ts i d ∷ drop (suc i) ts) ≡ cond (ltb i k) (sizedTask (getD ts i d)) (zeroTask (getD ts i d)) && tasksKeep (k - suc i) (drop (suc i) ts)
+    at : (n : ℕ) → k - i ≡ n → typesKeep n (getD ts i d ∷ drop (suc i) ts) ≡ cond (ltb i k) (eqb (typeFault (getD ts i d)) 0) (zeroTask (getD ts i d)) && typesKeep (k - suc i) (drop (suc i) ts)
     at zero e = let p : k - suc i ≡ 0 = omega arith in rw (le-ltb i k (omega arith), p)
     at (suc n) e = let p : k - suc i ≡ n = omega arith in rw (lt-ltb i k (omega arith), p)
 
 -- the entry fails, so the test does; it holds, so the others decide; none is left
 module _ (k i : ℕ) (ts : List TaskType) where
-  tasks-turn : (d : TaskType) (b : Bool) → i < length ts → cond (ltb i k) (sizedTask (getD ts i d)) (zeroTask (getD ts i d)) ≡ b → tasksKeep (k - i) (drop i ts) ≡ tasksKeep k ts
-      → b && tasksKeep (k - (i + 1)) (drop (i + 1) ts) ≡ tasksKeep k ts
-  tasks-turn d b h e inv = ap (λ (x : Bool). x && tasksKeep (k - (i + 1)) (drop (i + 1) ts)) (sym e) ∙ sym (tasks-step k i ts d h) ∙ inv
+  types-turn : (d : TaskType) (b : Bool) → i < length ts → cond (ltb i k) (eqb (typeFault (getD ts i d)) 0) (zeroTask (getD ts i d)) ≡ b → typesKeep (k - i) (drop i ts) ≡ typesKeep k ts
+      → b && typesKeep (k - (i + 1)) (drop (i + 1) ts) ≡ typesKeep k ts
+  types-turn d b h e inv = ap (λ (x : Bool). x && typesKeep (k - (i + 1)) (drop (i + 1) ts)) (sym e) ∙ sym (types-step k i ts d h) ∙ inv
 
-  pub tasks-fail : (d : TaskType) → i < length ts → cond (ltb i k) (sizedTask (getD ts i d)) (zeroTask (getD ts i d)) ≡ false
-      → tasksKeep (k - i) (drop i ts) ≡ tasksKeep k ts → false ≡ tasksKeep k ts
-  tasks-fail d h e inv = tasks-turn d false h e inv
+  pub types-fail : (d : TaskType) → i < length ts → cond (ltb i k) (eqb (typeFault (getD ts i d)) 0) (zeroTask (getD ts i d)) ≡ false
+      → typesKeep (k - i) (drop i ts) ≡ typesKeep k ts → false ≡ typesKeep k ts
+  types-fail d h e inv = types-turn d false h e inv
 
-  pub tasks-more : (d : TaskType) → i < length ts → cond (ltb i k) (sizedTask (getD ts i d)) (zeroTask (getD ts i d)) ≡ true
-      → tasksKeep (k - i) (drop i ts) ≡ tasksKeep k ts → tasksKeep (k - (i + 1)) (drop (i + 1) ts) ≡ tasksKeep k ts
-  tasks-more d h e inv = tasks-turn d true h e inv
+  pub types-more : (d : TaskType) → i < length ts → cond (ltb i k) (eqb (typeFault (getD ts i d)) 0) (zeroTask (getD ts i d)) ≡ true
+      → typesKeep (k - i) (drop i ts) ≡ typesKeep k ts → typesKeep (k - (i + 1)) (drop (i + 1) ts) ≡ typesKeep k ts
+  types-more d h e inv = types-turn d true h e inv
 
-  pub tasks-end : length ts ≤ i → tasksKeep (k - i) (drop i ts) ≡ tasksKeep k ts → true ≡ tasksKeep k ts
-  unfolding tasksKeep
-  tasks-end h inv = rw (drop-of-length-le ts h) at inv
+  pub types-end : length ts ≤ i → typesKeep (k - i) (drop i ts) ≡ typesKeep k ts → true ≡ typesKeep k ts
+  unfolding typesKeep
+  types-end h inv = rw (drop-of-length-le ts h) at inv
 
--- The table of fields: the rule stands here, or further on, or nowhere
+-- A table: its first row that passes the test stands here, or further on, or nowhere
 
--- what stands past the table's end
-abbrev pub noRule : FieldRule
-noRule = record { tag = 0; body = 0; allowed = 0 }
+module _ {A B : Type 0} (hit : A → Bool) (out : A → B) (none : B) (rows : List A) (i : ℕ) where
+  first-step : (d : A) → i < length rows → firstOf hit out none (drop i rows) ≡ cond (hit (getD rows i d)) (out (getD rows i d)) (firstOf hit out none (drop (i + 1) rows))
+  first-step d h = rw (add-one i, drop-cons rows i d h)
 
-module _ (rs : List FieldRule) (i tag : ℕ) where
-  rule-step : (d : FieldRule) → i < length rs → ruleOf (drop i rs) tag ≡ cond (eqb (getD rs i d .tag) tag) (Known (getD rs i d)) (ruleOf (drop (i + 1) rs) tag)
-  unfolding ruleOf
-  rule-step d h = rw (add-one i, drop-cons rs i d h)
+  pub first-here : (d : A) → i < length rows → hit (getD rows i d) ≡ true → firstOf hit out none (drop i rows) ≡ firstOf hit out none rows
+      → out (getD rows i d) ≡ firstOf hit out none rows
+  first-here d h e inv = sym (first-step d h ∙ ap (λ (b : Bool). cond b (out (getD rows i d)) (firstOf hit out none (drop (i + 1) rows))) e) ∙ inv
 
-  pub rule-here : (d : FieldRule) → i < length rs → getD rs i d .tag ≡ tag → ruleOf (drop i rs) tag ≡ ruleOf rs tag → Known (getD rs i d) ≡ ruleOf rs tag
-  rule-here d h e inv =
-      ap (λ (b : Bool). cond b (Known (getD rs i d)) (ruleOf (drop (i + 1) rs) tag)) (sym (eq-eqb (getD rs i d .tag) tag e)) ∙ sym (rule-step d h) ∙ inv
+  pub first-on : (d : A) → i < length rows → hit (getD rows i d) ≡ false → firstOf hit out none (drop i rows) ≡ firstOf hit out none rows
+      → firstOf hit out none (drop (i + 1) rows) ≡ firstOf hit out none rows
+  first-on d h e inv = sym (first-step d h ∙ ap (λ (b : Bool). cond b (out (getD rows i d)) (firstOf hit out none (drop (i + 1) rows))) e) ∙ inv
 
-  pub rule-on : (d : FieldRule) → i < length rs → (getD rs i d .tag ≡ tag → ⊥) → ruleOf (drop i rs) tag ≡ ruleOf rs tag → ruleOf (drop (i + 1) rs) tag ≡ ruleOf rs tag
-  rule-on d h e inv =
-      ap (λ (b : Bool). cond b (Known (getD rs i d)) (ruleOf (drop (i + 1) rs) tag)) (sym (ne-eqb (getD rs i d .tag) tag e)) ∙ sym (rule-step d h) ∙ inv
-
-  pub rule-none : length rs ≤ i → ruleOf (drop i rs) tag ≡ ruleOf rs tag → Unknown ≡ ruleOf rs tag
-  unfolding ruleOf
-  rule-none h inv = rw (drop-of-length-le rs h) at inv
+  pub first-none : length rows ≤ i → firstOf hit out none (drop i rows) ≡ firstOf hit out none rows → none ≡ firstOf hit out none rows
+  first-none h inv = rw (drop-of-length-le rows h) at inv

@@ -1,27 +1,25 @@
--- Document 01's limits of a system, as one test.
-use Prim.Native.Nat.{ℕ, zero, suc, _+_, _*_, min}
+-- Document 01's limits of a system: each is tested here once, and a test gives the number of the refusal that it calls for, 0 for none.
+use Prim.Native.Nat.{ℕ, zero, suc, _+_, _*_}
 use mathlib.Core.List.{List, [], _∷_, map}
-use mathlib.Core.Bool.{Bool, true, _&&_}
+use mathlib.Core.Bool.{Bool, true, not, cond, _&&_}
 use lib.ListN.{length}
 use lib.Dec.{leb, eqb}
 use Rattle.system.specs.declared.TaskType.{TaskType}
 use Rattle.system.specs.declared.System.{System}
+pub use Rattle.system.specs.Numbers.{engineLimit, typeLimit, sizeLimit, columnLimit}
 use Rattle.system.specs.Values.{ceilingsOf}
 
--- the largest number of engines, and of types
-abbrev pub engineLimit : ℕ
-engineLimit = 16
+-- U and S, or u and s
+abbrev pub sizeFault : ℕ → ℕ → ℕ
+sizeFault u s = cond (not (leb u sizeLimit && leb s sizeLimit)) 8 0
 
-abbrev pub typeLimit : ℕ
-typeLimit = 6
+-- a platform's m, rule, U and S
+abbrev pub platformFault : ℕ → ℕ → ℕ → ℕ → ℕ
+platformFault m rule u s = cond (not (leb 1 m && leb m engineLimit)) 5 (cond (not (leb rule 1)) 6 (sizeFault u s))
 
--- the largest U, S, u and s
-abbrev pub sizeLimit : ℕ
-sizeLimit = 1000000
-
--- document 01's bound on the columns
-abbrev pub columnLimit : ℕ
-columnLimit = 1024
+-- a type's u and s
+abbrev pub typeFault : TaskType → ℕ
+typeFault t = sizeFault (t .time) (t .memory)
 
 -- "the product of all n(t)+1, called the columns"
 unfoldable pub columnsOf : List ℕ → ℕ
@@ -31,32 +29,24 @@ columnsOf (n ∷ ns) = (n + 1) * columnsOf ns
 abbrev pub columns : System → ℕ
 columns y = columnsOf (ceilingsOf y)
 
--- the columns of some types where they are within the limit, and one more than the limit where not: what the code holds of the product
-abbrev pub columnsWithin : List TaskType → ℕ
-columnsWithin ts = min (columnsOf (map (λ (t : TaskType). t .ceiling) ts)) (columnLimit + 1)
-
-abbrev pub sizedTask : TaskType → Bool
-sizedTask t = leb (t .time) sizeLimit && leb (t .memory) sizeLimit
+abbrev pub columnsFault : List TaskType → ℕ
+columnsFault ts = cond (not (leb (columnsOf (map (λ (t : TaskType). t .ceiling) ts)) columnLimit)) 10 0
 
 abbrev pub zeroTask : TaskType → Bool
 zeroTask t = eqb (t .time) 0 && eqb (t .memory) 0 && eqb (t .ceiling) 0
 
 -- the first k are within the limits, the others 0
-unfoldable pub tasksKeep : ℕ → List TaskType → Bool
-tasksKeep k [] = true
-tasksKeep zero (t ∷ ts) = zeroTask t && tasksKeep zero ts
-tasksKeep (suc k) (t ∷ ts) = sizedTask t && tasksKeep k ts
+unfoldable pub typesKeep : ℕ → List TaskType → Bool
+typesKeep k [] = true
+typesKeep zero (t ∷ ts) = zeroTask t && typesKeep zero ts
+typesKeep (suc k) (t ∷ ts) = eqb (typeFault t) 0 && typesKeep k ts
 
 -- every limit of document 01, and zero entries past k; six entries is what an array of the code always has
 unfoldable pub keepsLimits : System → Bool
 keepsLimits y =
-    leb 1 (y .engines)
-    && leb (y .engines) engineLimit
-    && leb (y .rule) 1
-    && leb (y .time) sizeLimit
-    && leb (y .memory) sizeLimit
-    && leb 1 (y .types)
-    && leb (y .types) typeLimit
-    && eqb (length (y .tasks)) typeLimit
-    && tasksKeep (y .types) (y .tasks)
-    && leb (columns y) columnLimit
+    eqb (platformFault (y .engines) (y .rule) (y .timecap) (y .memorycap)) 0
+    && leb 1 (y .typecount)
+    && leb (y .typecount) typeLimit
+    && eqb (length (y .types)) typeLimit
+    && typesKeep (y .typecount) (y .types)
+    && eqb (columnsFault (y .types)) 0

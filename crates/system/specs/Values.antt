@@ -4,6 +4,7 @@ use mathlib.Core.List.{List, map}
 use lib.ListN.{replicate, set}
 use Rattle.system.specs.declared.TaskType.{TaskType}
 use Rattle.system.specs.declared.System.{System}
+use Rattle.system.specs.Numbers.{typeLimit}
 
 -- what stands for a type past k
 abbrev pub noTask : TaskType
@@ -11,17 +12,17 @@ noTask = record { time = 0; memory = 0; ceiling = 0 }
 
 -- the system before any field was read, and the one that a refusal hands out
 abbrev pub blank : System
-blank = record { engines = 0; rule = 0; time = 0; memory = 0; types = 0; tasks = replicate 6 noTask }
+blank = record { engines = 0; rule = 0; timecap = 0; memorycap = 0; typecount = 0; types = replicate typeLimit noTask }
 
 -- the system with a platform's m, rule, U and S
 abbrev pub withPlatform : ℕ → ℕ → ℕ → ℕ → System → System
-withPlatform m rule u s y = record { engines = m; rule = rule; time = u; memory = s; types = y .types; tasks = y .tasks }
+withPlatform m rule u s y = record { engines = m; rule = rule; timecap = u; memorycap = s; typecount = y .typecount; types = y .types }
 
 -- the system with one type more, at the next type number
 abbrev pub withType : TaskType → System → System
 withType t y =
-    record { engines = y .engines; rule = y .rule; time = y .time; memory = y .memory; types = suc (y .types); tasks = set (y .tasks) (y .types) t }
+    record { engines = y .engines; rule = y .rule; timecap = y .timecap; memorycap = y .memorycap; typecount = suc (y .typecount); types = set (y .types) (y .typecount) t }
 
 -- n(1), n(2), .., 0 past k
 abbrev pub ceilingsOf : System → List ℕ
-ceilingsOf y = map (λ (t : TaskType). t .ceiling) (y .tasks)
+ceilingsOf y = map (λ (t : TaskType). t .ceiling) (y .types)

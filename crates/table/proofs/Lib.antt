@@ -9,5 +9,6 @@ pub mod FilledRow
 pub mod Shown
 pub mod Rows
 pub mod Recovered
+pub mod Spread
 pub mod Placed
 pub mod Reading

@@ -1,23 +1,43 @@
--- The three answers of `fill_table`, from what the reader answered.
-use Prim.Native.Nat.{ℕ}
-use mathlib.Core.Path.{_≡_, _∙_}
-use mathlib.Core.Bool.{true, false}
-use mathlib.Core.List.{List, []}
+-- The answers of the calls that take a system file, from what the reader answered and what the check of the table did.
+use Prim.Native.Nat.{ℕ, _+_, _*_}
+use mathlib.Core.Path.{_≡_, sym, ap, _∙_}
+use mathlib.Core.Bool.{true}
+use mathlib.Core.List.{List, [], _∷_}
 use Rattle.system.specs.declared.Opened.{Opened}
+use Rattle.system.specs.declared.Refusal.{Refusal}
 use Rattle.system.specs.declared.Answer.the-variants.{Accepted}
-use Rattle.system.specs.Layout.{Reading, Reads}
-use Rattle.system.specs.Outcome.{accepted, refused, fromInput, outcomeOf}
-use Rattle.system.proofs.Laws.{reads-opened, reads-unread}
-use Rattle.table.specs.Table.{longEnough, filled, fillOutcome, fillTable}
+use Rattle.system.specs.Limits.{columns, keepsLimits}
+use Rattle.system.specs.Layout.{Reading, Reads, readFile}
+use Rattle.system.specs.Outcome.{accepted, outcomeOf, refusalOf, fromInput, passes, failsWith}
+use Rattle.system.proofs.Checks.{check-passed, check-failed, fails-refuse}
+use Rattle.system.proofs.Laws.{read-keeps-limits, reads-opened, reads-unread}
+use Rattle.partition.proofs.Lists.{length-enginesTo}
+use Rattle.table.specs.Table.{longEnough, tableCheck, filledTo, fillOutcome, fillTable, entriesNeeded}
 
-module _ (x : Reading) (r : Opened) (reads : Reads x r) (table : List ℕ) where
-  pub fill-refused : (r .answer ≡ Accepted → ⊥) → (outcomeOf (r .answer) ≡ fillOutcome x table) × (table ≡ fillTable x table)
-  fill-refused e =
-      let (n, same) = reads-unread x r reads e in
-      (reads .answer ∙ rw same, rw same)
+-- a system that was read keeps the limits
+pub read-limits : (file : List ℕ) (r : Opened) → Reads (readFile file) r → r .answer ≡ Accepted → keepsLimits (r .system) ≡ true
+read-limits file r reads e = read-keeps-limits file (r .system) (reads-opened (readFile file) r reads e)
 
-  pub fill-short : r .answer ≡ Accepted → longEnough (r .system) table ≡ false → (refused fromInput 11 ≡ fillOutcome x table) × (table ≡ fillTable x table)
-  fill-short e short = let same = reads-opened x r reads e in (rw (same, short), rw (same, short))
+module _ (x : Reading) (r : Opened) (reads : Reads x r) where
+  pub needed-refused : (r .answer ≡ Accepted → ⊥) → outcomeOf (r .answer) ≡ entriesNeeded x
+  needed-refused e = let (n, same) = reads-unread x r reads e in reads .answer ∙ rw same
 
-  pub fill-done : r .answer ≡ Accepted → longEnough (r .system) table ≡ true → (last : List ℕ) → last ≡ filled (r .system) table → (accepted [] ≡ fillOutcome x table) × (last ≡ fillTable x table)
-  fill-done e long last h = let same = reads-opened x r reads e in (rw (same, long), rw (same, long) h)
+  pub needed-told : r .answer ≡ Accepted → accepted ((r .system .engines + 1) * columns (r .system) ∷ []) ≡ entriesNeeded x
+  needed-told e = let same = reads-opened x r reads e in rw same
+
+  module _ (table : List ℕ) where
+    pub fill-refused : (r .answer ≡ Accepted → ⊥) → (outcomeOf (r .answer) ≡ fillOutcome x table) × (table ≡ fillTable x table)
+    fill-refused e =
+        let (n, same) = reads-unread x r reads e in
+        (reads .answer ∙ rw same, rw same)
+
+    pub fill-short : r .answer ≡ Accepted → (why : Refusal) → failsWith why ≡ tableCheck (r .system) table → (refusalOf why ≡ fillOutcome x table) × (table ≡ fillTable x table)
+    fill-short e why failed =
+        let same = reads-opened x r reads e in
+        (rw (same, ← failed) (sym (fails-refuse why (accepted []))), rw (same, check-failed (longEnough (r .system) table) fromInput 11 why failed))
+
+    pub fill-done : r .answer ≡ Accepted → passes ≡ tableCheck (r .system) table → (last : List ℕ) → last ≡ filledTo (r .system) (r .system .engines) table → (accepted [] ≡ fillOutcome x table) × (last ≡ fillTable x table)
+    fill-done e passed last h =
+        let same = reads-opened x r reads e in
+        let long = check-passed (longEnough (r .system) table) fromInput 11 passed in
+        (rw (same, long), rw (same, long, length-enginesTo (r .system .engines)) h)

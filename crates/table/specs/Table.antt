@@ -7,8 +7,9 @@ use lib.Dec.{leb}
 use Rattle.system.specs.declared.System.{System}
 use Rattle.system.specs.Limits.{columns, engineLimit}
 use Rattle.system.specs.Layout.{Reading, opened, unread}
-use Rattle.system.specs.Outcome.{Outcome, accepted, refused, fromInput}
+use Rattle.system.specs.Outcome.{Outcome, accepted, refused, fromInput, Checked, check, unlessFails}
 use Rattle.loads.specs.Load.{engineWith, idleEngine}
+use Rattle.partition.specs.Assignment.{enginesTo}
 use Rattle.partition.specs.ForSystem.{cellFor, rowFor, placeable, recoveredFor}
 use Rattle.table.specs.declared.Placement.{Placement}
 
@@ -29,25 +30,42 @@ entries y rows = (rows + 1) * columns y
 abbrev pub longEnough : System → List ℕ → Bool
 longEnough y table = leb (entries y (y .engines)) (length table)
 
+-- 11, for a table of `room` entries
+abbrev pub roomCheck : System → ℕ → Checked
+roomCheck y room = check (leb (entries y (y .engines)) room) fromInput 11
+
+abbrev pub tableCheck : System → List ℕ → Checked
+tableCheck y table = roomCheck y (length table)
+
+-- the entries that the table of a file must have
+abbrev pub entriesNeeded : Reading → Outcome
+entriesNeeded (unread n) = refused fromInput n
+entriesNeeded (opened y) = accepted ((y .engines + 1) * columns y ∷ [])
+
 -- the table filled for rows 0 to `rows`: their cells, then what it held past them
 unfoldable pub filledTo : System → ℕ → List ℕ → List ℕ
 filledTo y rows table = upTo (entryOf y) (entries y rows) ++ drop (entries y rows) table
 
-abbrev pub filled : System → List ℕ → List ℕ
-filled y table = filledTo y (y .engines) table
+-- with a row for each of the engines es
+abbrev pub filled : System → List ℕ → List ℕ → List ℕ
+filled y es table = filledTo y (length es) table
 
 -- a call that only fills: 1 to 10, 11, else accepted
 abbrev pub fillOutcome : Reading → List ℕ → Outcome
 fillOutcome (unread n) table = refused fromInput n
-fillOutcome (opened y) table = cond (longEnough y table) (accepted []) (refused fromInput 11)
+fillOutcome (opened y) table = unlessFails (tableCheck y table) (accepted [])
 
 abbrev pub fillTable : Reading → List ℕ → List ℕ
 fillTable (unread n) table = table
-fillTable (opened y) table = cond (longEnough y table) (filled y table) table
+fillTable (opened y) table = cond (longEnough y table) (filled y (enginesTo (y .engines)) table) table
 
--- the recovery of the load x by the cells, as records of engines; nothing is placed where no row says yes
-unfoldable pub placement : System → List ℕ → Placement
-placement y x =
-    cond (placeable y x)
-    (record { placed = true; used = rowFor y x; loads = map (engineWith y) (recoveredFor engineLimit y x) })
-    (record { placed = false; used = 0; loads = replicate engineLimit idleEngine })
+-- nothing is placed
+abbrev pub unplaced : Placement
+unplaced = record { placed = false; used = 0; loads = replicate engineLimit idleEngine }
+
+-- the recovery of the load x onto the engines es by the cells, as records of the engines 1, 2, ..; nothing is placed where no row says yes
+unfoldable pub placement : System → List ℕ → List ℕ → Placement
+placement y es x =
+    cond (placeable y es x)
+    (record { placed = true; used = rowFor y es x; loads = map (engineWith y) (recoveredFor engineLimit y es x) })
+    unplaced

@@ -11,20 +11,21 @@ ghost use Rattle.partition.specs.Cell.{noColumn};
 ghost use Rattle.partition.specs.ForSystem.{cellFor};
 ghost use Rattle.table.specs.Table.{entries, filledTo};
 ghost use Rattle.table.specs.Search.{RowsBefore, CellWanted};
-use crate::search::NO_COLUMN;
 use crate::search::search;
 use crate::search::step;
 use crate::size::columns_of;
+use system::NO_COLUMN;
 use system::System;
+use system::TYPE_LIMIT;
 
 // The ceilings of a system.
-pub fn ceilings_of(y: System) -> [u16; 6]
+pub fn ceilings_of(y: System) -> [u16; TYPE_LIMIT]
     ensures { λ r. ⌜ r ≡ ceilingsOf y ⌝ }
 {
-    let tasks = y.tasks;
-    let mut ceilings: [u16; 6] = [0; 6];
-    for i in 0..6 {
-        let task = tasks[i];
+    let types = y.types;
+    let mut ceilings: [u16; TYPE_LIMIT] = [0; TYPE_LIMIT];
+    for i in 0..TYPE_LIMIT {
+        let task = types[i];
         ceilings[i] = task.ceiling;
     }
     ceilings
@@ -38,7 +39,7 @@ fn empty_cell(column: usize) -> u16
 }
 
 // The cell of row 1, at the column of a load.
-fn single_cell(y: System, load: [u16; 6]) -> u16
+fn single_cell(y: System, load: [u16; TYPE_LIMIT]) -> u16
     ensures { λ r. ⌜ r ≡ cond (fitsEngine y load) 0 noColumn ⌝ }
 {
     if loads::fits_engine(y, load) {
@@ -55,8 +56,8 @@ fn cell(
     columns: usize,
     row: usize,
     column: usize,
-    ceilings: [u16; 6],
-    load: [u16; 6],
+    ceilings: [u16; TYPE_LIMIT],
+    load: [u16; TYPE_LIMIT],
 ) -> u16
     requires { ⌜ CellWanted (now table) y columns row column ceilings load ⌝ }
     ensures { λ r. ⌜ r ≡ cellFor y row column ⌝ }
@@ -77,7 +78,7 @@ fn fill_row(table: &mut [u16], y: System, columns: usize, row: usize)
 {
     let ceilings = ceilings_of(y);
     let start = row * columns;
-    let mut load: [u16; 6] = [0; 6];
+    let mut load: [u16; TYPE_LIMIT] = [0; TYPE_LIMIT];
     for column in 0..columns {
         let value = cell(&table[..], y, columns, row, column, ceilings, load);
         table[start + column] = value;

@@ -1,36 +1,53 @@
 // The lent table: filling it, the lowest yes row, and recovery from it.
 ghost use mathlib.Core.Path.{_≡_};
-ghost use mathlib.Core.Bool.{true};
-ghost use Rattle.system.specs.Values.{ceilingsOf};
-ghost use Rattle.system.specs.Limits.{keepsLimits};
 ghost use Rattle.system.specs.Layout.{readFile};
 ghost use Rattle.system.specs.Outcome.{outcomeOf};
-ghost use Rattle.loads.specs.Load.{within};
-ghost use Rattle.table.specs.Table.{longEnough, filled, placement, fillOutcome, fillTable};
+ghost use Rattle.table.specs.Table.{filled, placement, fillOutcome, fillTable};
+ghost use Rattle.table.specs.Recovery.{listed, MayPlace};
 use loads::EngineLoad;
 use system::Answer;
-use system::Refusal;
+use system::Check;
+use system::ENGINE_LIMIT;
 use system::System;
+use system::TYPE_LIMIT;
 
-pub mod fill;
+mod fill;
+mod onto;
 mod recovery;
 mod search;
-pub mod size;
+mod size;
+
+pub use fill::ceilings_of;
+pub use onto::engines_to;
+pub use size::entries_needed;
+pub use size::table_check;
+
+// A list of engines by their numbers, the first `count` of these: row i of a table stands for the i-th.
+pub struct Engines {
+    pub count: usize,
+    pub numbers: [usize; ENGINE_LIMIT],
+}
 
 // A load placed on the engines: whether it can be, the number of used engines, and what each engine holds.
 pub struct Placement {
     pub placed: bool,
     pub used: usize,
-    pub loads: [EngineLoad; 16],
+    pub loads: [EngineLoad; ENGINE_LIMIT],
 }
 
-// Fills the table and places a load within the ceilings by it.
-pub fn place(table: &mut [u16], y: System, counts: [u16; 6]) -> Placement
-    requires { ⌜ (keepsLimits y ≡ true) × (longEnough y (now table) ≡ true) × (within counts (ceilingsOf y) ≡ true) ⌝ }
-    ensures { λ r. ⌜ (now (table .exit) ≡ filled y (now (table .entry))) × (r ≡ placement y counts) ⌝ }
+// Fills the table, a row for each of the engines, and places a load within the ceilings on them by it.
+pub fn place(table: &mut [u16], y: System, engines: Engines, counts: [u16; TYPE_LIMIT]) -> Placement
+    requires { ⌜ MayPlace y engines counts (now table) ⌝ }
+    ensures { λ r. ⌜ (now (table .exit) ≡ filled y (listed engines) (now (table .entry))) × (r ≡ placement y (listed engines) counts) ⌝ }
 {
-    fill::fill(table, y, y.engines);
-    recovery::placed_by(table, y, size::columns_of(y), counts)
+    fill::fill(table, y, engines.count);
+    let found = recovery::placed_by(table, y, size::columns_of(y), engines.count, counts);
+    let rows = found.loads;
+    Placement {
+        placed: found.placed,
+        used: found.used,
+        loads: onto::on_engines(engines, rows, found.used),
+    }
 }
 
 // Fills the table for a system file: refused 1 to 10 as the file is read, 11 where the table is too short.
@@ -43,8 +60,9 @@ pub fn fill_table(file: &[u8], table: &mut [u16]) -> Answer
         return answer;
     };
     let y = opened.system;
-    if !size::is_long_enough(y, table.len()) {
-        return Answer::Refused(Refusal::Input(11));
+    let check = size::table_check(y, table.len());
+    if let Check::Fails(why) = check {
+        return Answer::Refused(why);
     }
     fill::fill(table, y, y.engines);
     Answer::Accepted

@@ -8,9 +8,8 @@ ghost use Rattle.system.specs.Limits.{columnsOf, columnLimit};
 ghost use Rattle.loads.specs.Load.{within};
 ghost use Rattle.partition.specs.Cell.{lowest, noColumn};
 ghost use Rattle.table.specs.Search.{seen, candidate, nextUnder, risesAt, jumpsFrom, RunInside, SearchInside};
-
-// What a cell holds that says no.
-pub const NO_COLUMN: u16 = 65535;
+use system::NO_COLUMN;
+use system::TYPE_LIMIT;
 
 // The lowest column from `from` to below `end` at which the row before says yes, and whose difference from the searched column fits.
 // The row before starts at `before`; `single` is the entry of row 1 at the searched column.
@@ -27,12 +26,12 @@ fn run(table: &[u16], before: usize, single: usize, from: usize, end: usize) -> 
 }
 
 // Makes the counts from index `from` on the next ones, in order of columns, that are not above the tops. Answers the index of the count that rises, 6 where none does.
-pub fn step(counts: &mut [u16; 6], tops: [u16; 6], from: usize) -> usize
+pub fn step(counts: &mut [u16; TYPE_LIMIT], tops: [u16; TYPE_LIMIT], from: usize) -> usize
     requires { ⌜ (from ≤ 6) × (length (now counts) ≡ 6) ⌝ }
     ensures { λ r. ⌜ (now (counts .exit) ≡ take from (now (counts .entry)) ++ nextUnder (drop from tops) (drop from (now (counts .entry))))
         × (r ≡ from + risesAt (drop from tops) (drop from (now (counts .entry)))) ⌝ }
 {
-    for t in from..6 {
+    for t in from..TYPE_LIMIT {
         let count = counts[t];
         if count < tops[t] {
             counts[t] = count + 1;
@@ -51,14 +50,14 @@ fn wide(count: u16) -> usize
 }
 
 // For each type, how many columns the first load in which its count rises lies past the load whose counts before it are all at their tops.
-fn jumps_of(ceilings: [u16; 6], tops: [u16; 6]) -> [usize; 6]
+fn jumps_of(ceilings: [u16; TYPE_LIMIT], tops: [u16; TYPE_LIMIT]) -> [usize; TYPE_LIMIT]
     requires { ⌜ (within tops ceilings ≡ true) × (columnsOf ceilings ≤ columnLimit) ⌝ }
     ensures { λ r. ⌜ r ≡ jumpsFrom 1 0 ceilings tops ⌝ }
 {
-    let mut jumps: [usize; 6] = [0; 6];
+    let mut jumps: [usize; TYPE_LIMIT] = [0; TYPE_LIMIT];
     let mut stride: usize = 1;
     let mut passed: usize = 0;
-    for t in 0..6 {
+    for t in 0..TYPE_LIMIT {
         jumps[t] = stride - passed;
         passed += wide(tops[t]) * stride;
         stride = stride * (wide(ceilings[t]) + 1);
@@ -72,15 +71,15 @@ pub fn search(
     table: &[u16],
     before: usize,
     single: usize,
-    ceilings: [u16; 6],
-    load: [u16; 6],
+    ceilings: [u16; TYPE_LIMIT],
+    load: [u16; TYPE_LIMIT],
 ) -> u16
     requires { ⌜ SearchInside (now table) before single ceilings load ⌝ }
     ensures { λ r. ⌜ r ≡ lowest (candidate (now (table .entry)) before single ceilings load) noColumn (columnsOf ceilings) 0 ⌝ }
 {
     let jumps = jumps_of(ceilings, load);
     let last = wide(load[0]);
-    let mut counts: [u16; 6] = [0; 6];
+    let mut counts: [u16; TYPE_LIMIT] = [0; TYPE_LIMIT];
     let mut base: usize = 0;
     loop {
         let found = run(table, before, single, base, base + last + 1);

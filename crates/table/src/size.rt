@@ -1,9 +1,13 @@
 // How much of a lent table a system needs.
 ghost use mathlib.Core.Path.{_≡_};
 ghost use mathlib.Core.Bool.{true};
-ghost use lib.Dec.{leb};
 ghost use Rattle.system.specs.Limits.{columns, keepsLimits};
-ghost use Rattle.table.specs.Table.{entries};
+ghost use Rattle.system.specs.Layout.{readFile};
+ghost use Rattle.system.specs.Outcome.{outcomeOf, checkedOf};
+ghost use Rattle.table.specs.Table.{entries, roomCheck, entriesNeeded};
+use system::Answer;
+use system::Check;
+use system::Refusal;
 use system::System;
 
 // The columns of a system within the limits.
@@ -11,14 +15,37 @@ pub(crate) fn columns_of(y: System) -> usize
     requires { ⌜ keepsLimits y ≡ true ⌝ }
     ensures { λ r. ⌜ r ≡ columns y ⌝ }
 {
-    let tasks = y.tasks;
-    system::columns_within(tasks)
+    let types = y.types;
+    system::columns_within(types)
 }
 
-// Whether a table of `room` entries is long enough for rows 0 to m: refusal 11 is for one that is not.
-pub fn is_long_enough(y: System, room: usize) -> bool
+// The entries of rows 0 to m.
+fn entries_of(y: System) -> usize
     requires { ⌜ keepsLimits y ≡ true ⌝ }
-    ensures { λ r. ⌜ r ≡ leb (entries y (y .engines)) room ⌝ }
+    ensures { λ r. ⌜ r ≡ entries y (y .engines) ⌝ }
 {
-    (y.engines + 1) * columns_of(y) <= room
+    (y.engines + 1) * columns_of(y)
+}
+
+// Refusal 11: a table of `room` entries is too short for rows 0 to m.
+pub fn table_check(y: System, room: usize) -> Check
+    requires { ⌜ keepsLimits y ≡ true ⌝ }
+    ensures { λ r. ⌜ checkedOf r ≡ roomCheck y room ⌝ }
+{
+    if entries_of(y) <= room {
+        return Check::Passes;
+    }
+    Check::Fails(Refusal::Input(11))
+}
+
+// The entries that the table of a system file must have, (m + 1) × columns: refused 1 to 10 as the file is read.
+pub fn entries_needed(file: &[u8]) -> Answer
+    ensures { λ r. ⌜ outcomeOf r ≡ entriesNeeded (readFile (now (file .entry))) ⌝ }
+{
+    let opened = system::read_system(file);
+    let answer = opened.answer;
+    let Answer::Accepted = answer else {
+        return answer;
+    };
+    Answer::Number(entries_of(opened.system))
 }

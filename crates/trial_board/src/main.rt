@@ -16,6 +16,7 @@ use brute::tables;
 use loads::EngineLoad;
 use std::num::wrapping_add_usize;
 use std::num::wrapping_sub_usize;
+use system::ENGINE_LIMIT;
 use system::System;
 
 // The board under test, the ledger beside it, and the table that is lent to the next call.
@@ -50,7 +51,7 @@ struct DrawnCall {
 
 // The fresh board of a file, and a fresh ledger of its system.
 fn live_of(file: &[u8]) -> Live {
-    let turn = board::calls::open_board(file);
+    let turn = board::open_board(file);
     let b = turn.board;
     let y = b.system;
     Live {
@@ -62,15 +63,15 @@ fn live_of(file: &[u8]) -> Live {
 
 fn called(b: Board, c: Call, table: &mut [u16]) -> Turn {
     if c.kind == 0 {
-        return board::calls::admit(b, c.task, table);
+        return board::admit(b, c.task, table);
     }
     if c.kind == 1 {
-        return board::calls::seat(b, c.task, table);
+        return board::seat(b, c.task, table);
     }
     if c.kind == 2 {
-        return board::calls::retire(b, c.task, c.engine);
+        return board::retire(b, c.task, c.engine);
     }
-    board::calls::repack(b, table)
+    board::repack(b, table)
 }
 
 // The call over the first n entries of a table, or all where it has fewer.
@@ -219,10 +220,10 @@ fn say_script(name: &[u8], file: &[u8], script: &[u8]) {
 fn say_board(b: Board) {
     let y = b.system;
     let loads = b.loads;
-    for e in 0..16 {
+    for e in 0..ENGINE_LIMIT {
         let l = loads[e];
         if e < y.engines {
-            say::say_load(l, y.types);
+            say::say_load(l, y.typecount);
         }
     }
     say::say(b"\n");
@@ -272,7 +273,7 @@ fn drawn_length(value: usize, entries: usize) -> usize {
 
 fn drawn_call(seed: u64, y: System) -> DrawnCall {
     let kind = spread::draw(seed, 10);
-    let task = drawn_number(kind.seed, y.types);
+    let task = drawn_number(kind.seed, y.typecount);
     let engine = drawn_number(task.seed, y.engines);
     let room = spread::draw(engine.seed, 8);
     DrawnCall {
@@ -357,11 +358,11 @@ fn no_tally(seed: u64) -> Tally {
 }
 
 // So many lists, each for a drawn system, with every cell of every filled table in one of 50.
-fn drawn_lists(seed: u64, number: usize, types: usize, most: usize) -> Tally {
+fn drawn_lists(seed: u64, number: usize, typecount: usize, most: usize) -> Tally {
     let mut t = no_tally(seed);
     let mut i: usize = 0;
     while i < number {
-        let d = spread::drawn_system(t.seed, 3, types, most);
+        let d = spread::drawn_system(t.seed, 3, typecount, most);
         let y = d.system;
         t.seed = d.seed;
         let next = with_list(t, y, i % 50 == 0);

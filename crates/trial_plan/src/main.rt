@@ -16,7 +16,9 @@ use planner::EngineRecord;
 use planner::Plan;
 use std::num::wrapping_add_usize;
 use std::num::wrapping_sub_usize;
+use system::ENGINE_LIMIT;
 use system::System;
+use system::TYPE_LIMIT;
 
 // How many systems were tried, planned, and answered wrongly.
 struct Tally {
@@ -63,9 +65,9 @@ fn true_load(y: System, l: EngineLoad) -> bool {
 }
 
 // Every engine's load is true, and engines past the answer are idle.
-fn true_loads(y: System, loads: [EngineLoad; 16], used: usize) -> bool {
+fn true_loads(y: System, loads: [EngineLoad; ENGINE_LIMIT], used: usize) -> bool {
     let mut good = true;
-    for e in 0..16 {
+    for e in 0..ENGINE_LIMIT {
         let l = loads[e];
         good = good & true_load(y, l) & ((e < used) | recovery::same_load(l, recovery::idle()));
     }
@@ -73,10 +75,10 @@ fn true_loads(y: System, loads: [EngineLoad; 16], used: usize) -> bool {
 }
 
 // All n(t) instances of each type are placed.
-fn all_placed(y: System, loads: [EngineLoad; 16]) -> bool {
+fn all_placed(y: System, loads: [EngineLoad; ENGINE_LIMIT]) -> bool {
     let mut all = true;
-    for t in 0..6 {
-        let task = y.tasks[t];
+    for t in 0..TYPE_LIMIT {
+        let task = y.types[t];
         all = all & (recovery::instances(loads, t) == search::wide(task.ceiling));
     }
     all
@@ -88,7 +90,9 @@ fn right_plan(y: System, p: Plan, want: Recovery) -> bool {
     let loads = p.loads;
     let wanted = want.loads;
     let answer = say::code_of(a) == wrapping_add_usize(1000, want.used);
-    let exact = (p.used == want.used) & (p.types == y.types) & recovery::same_loads(loads, wanted);
+    let exact = (p.used == want.used)
+        & (p.typecount == y.typecount)
+        & recovery::same_loads(loads, wanted);
     answer & exact & true_loads(y, loads, p.used) & all_placed(y, loads)
 }
 
@@ -97,8 +101,8 @@ fn refused_with(p: Plan, number: usize) -> bool {
     let a = p.answer;
     let loads = p.loads;
     let nothing = (p.used == 0)
-        & (p.types == 0)
-        & recovery::same_loads(loads, [recovery::idle(); 16]);
+        & (p.typecount == 0)
+        & recovery::same_loads(loads, [recovery::idle(); ENGINE_LIMIT]);
     (say::code_of(a) == wrapping_add_usize(100, number)) & nothing
 }
 
@@ -131,7 +135,7 @@ fn old_record() -> EngineRecord {
         load: EngineLoad {
             time: 7,
             memory: 7,
-            counts: [7; 6],
+            counts: [7; TYPE_LIMIT],
         },
     }
 }
@@ -143,10 +147,10 @@ fn same_record(a: EngineRecord, b: EngineRecord) -> bool {
 }
 
 // The first records are those of the used engines, the later ones as they were.
-fn right_records(list: [EngineRecord; 16], want: Recovery) -> bool {
+fn right_records(list: [EngineRecord; ENGINE_LIMIT], want: Recovery) -> bool {
     let loads = want.loads;
     let mut right = true;
-    for i in 0..16 {
+    for i in 0..ENGINE_LIMIT {
         let load = loads[i];
         let mut wanted = old_record();
         if want.feasible & (i < want.used) {
@@ -169,7 +173,7 @@ fn right_list(y: System, want: Recovery) -> bool {
     let p = planner::plan_list(
         files::first_of(&bytes, f.size),
         &mut table,
-        [old_record(); 16],
+        [old_record(); ENGINE_LIMIT],
     );
     let a = p.answer;
     let list = p.list;
@@ -273,12 +277,12 @@ fn one_types() -> Tally {
 }
 
 // So many systems drawn one after another, with every cell of one in 16.
-fn drawn(seed: u64, number: usize, engines: usize, types: usize, most: usize) -> Tally {
+fn drawn(seed: u64, number: usize, engines: usize, typecount: usize, most: usize) -> Tally {
     let mut t = no_tally();
     let mut at = seed;
     let mut i: usize = 0;
     while i < number {
-        let d = spread::drawn_system(at, engines, types, most);
+        let d = spread::drawn_system(at, engines, typecount, most);
         let y = d.system;
         let next = tried(t, y, i % 16 == 0);
         t = next;
@@ -296,10 +300,10 @@ fn say_case(name: &[u8], y: System) {
     say::say(name);
     say::say_answer(a);
     let loads = p.loads;
-    for e in 0..16 {
+    for e in 0..ENGINE_LIMIT {
         let l = loads[e];
         if e < p.used {
-            say::say_load(l, p.types);
+            say::say_load(l, p.typecount);
         }
     }
     say::say(b"\n");

@@ -3,7 +3,6 @@
 use libc::STDOUT_FILENO;
 use system::Answer;
 use system::Cursor;
-use system::Field;
 use system::Refusal;
 use system::System;
 
@@ -89,10 +88,10 @@ fn say_refusal(r: Refusal) {
 }
 
 fn say_system(y: System) {
-    let tasks = y.tasks;
+    let types = y.types;
     number(b" read ", y.engines);
-    number(b" ", y.types);
-    number(b" ", system::columns_within(tasks));
+    number(b" ", y.typecount);
+    number(b" ", system::columns_within(types));
 }
 
 fn show_bytes(name: &[u8], file: &[u8]) {
@@ -215,16 +214,13 @@ fn ends() {
 fn step(name: &[u8], file: &[u8], at: usize) {
     let c = Cursor { at };
     io::write_all(STDOUT_FILENO, name);
-    let body = system::body_at(file, c);
     let field = system::field_at(file, c);
-    match field {
-        Field::Whole { tag, next } => {
-            number(b" ", tag as usize);
-            number(b" ", next.at);
-        }
-        Field::Cut => {
-            io::write_all(STDOUT_FILENO, b" none");
-        }
+    let body = system::body_part(file, field);
+    if field.whole {
+        number(b" ", field.tag as usize);
+        number(b" ", field.next.at);
+    } else {
+        io::write_all(STDOUT_FILENO, b" none");
     }
     number(b" ", body.len());
     io::write_all(STDOUT_FILENO, b"\n");

@@ -2,18 +2,19 @@
 // them: each of the four calls must refuse 20, and hand back the board and the table as they were. A line for each board.
 use board::Board;
 use board::Turn;
-use board::calls;
 use brute::recovery;
 use brute::say;
 use brute::systems;
 use loads::EngineLoad;
+use system::ENGINE_LIMIT;
 use system::System;
+use system::TYPE_LIMIT;
 use system::TaskType;
 
 // System A with two engines that hold (2, 0) and (1, 2).
 fn sound() -> Board {
     let y = systems::system_a(2);
-    let mut loads = [recovery::idle(); 16];
+    let mut loads = [recovery::idle(); ENGINE_LIMIT];
     loads[0] = recovery::engine_of(y, [2, 0, 0, 0, 0, 0, 0, 0]);
     loads[1] = recovery::engine_of(y, [1, 2, 0, 0, 0, 0, 0, 0]);
     Board {
@@ -26,7 +27,7 @@ fn sound() -> Board {
 fn empty(y: System) -> Board {
     Board {
         system: y,
-        loads: [recovery::idle(); 16],
+        loads: [recovery::idle(); ENGINE_LIMIT],
     }
 }
 
@@ -57,7 +58,7 @@ fn engine(time: u32, memory: u32, first: u16, third: u16) -> EngineLoad {
 fn with_task(i: usize, time: u32, memory: u32, ceiling: u16) -> System {
     let mut y = systems::system_a(2);
     if i < 6 {
-        y.tasks[i] = TaskType {
+        y.types[i] = TaskType {
             time,
             memory,
             ceiling,
@@ -81,14 +82,14 @@ fn with_rule(rule: u8) -> System {
 
 fn with_capacities(time: u32, memory: u32) -> System {
     let mut y = systems::system_a(2);
-    y.time = time;
-    y.memory = memory;
+    y.timecap = time;
+    y.memorycap = memory;
     y
 }
 
-fn with_types(types: usize) -> System {
+fn with_types(typecount: usize) -> System {
     let mut y = systems::system_a(2);
-    y.types = types;
+    y.typecount = typecount;
     y
 }
 
@@ -100,8 +101,8 @@ fn enormous() -> System {
         ceiling: 65535,
     };
     let mut y = systems::platform_of(2, 0, 1000000, 1000000);
-    y.tasks = [task; 6];
-    y.types = 6;
+    y.types = [task; TYPE_LIMIT];
+    y.typecount = 6;
     y
 }
 
@@ -110,7 +111,7 @@ fn crowded() -> EngineLoad {
     EngineLoad {
         time: 2367976064,
         memory: 2367976064,
-        counts: [65535; 6],
+        counts: [65535; TYPE_LIMIT],
     }
 }
 
@@ -141,10 +142,10 @@ fn untouched(table: [u16; 512]) -> bool {
 // All four calls refuse the board.
 fn all_refuse(b: Board) -> bool {
     let mut table: [u16; 512] = [9; 512];
-    let admitted = calls::admit(b, 1, &mut table);
-    let seated = calls::seat(b, 1, &mut table);
-    let repacked = calls::repack(b, &mut table);
-    let retired = calls::retire(b, 1, 1);
+    let admitted = board::admit(b, 1, &mut table);
+    let seated = board::seat(b, 1, &mut table);
+    let repacked = board::repack(b, &mut table);
+    let retired = board::retire(b, 1, 1);
     refuses(admitted, b)
         & refuses(seated, b)
         & refuses(repacked, b)
@@ -209,10 +210,10 @@ fn say_loads() {
 fn say_sound() {
     let b = sound();
     let mut table: [u16; 512] = [9; 512];
-    let admitted = calls::admit(b, 1, &mut table);
-    let seated = calls::seat(b, 1, &mut table);
-    let repacked = calls::repack(b, &mut table);
-    let retired = calls::retire(b, 1, 1);
+    let admitted = board::admit(b, 1, &mut table);
+    let seated = board::seat(b, 1, &mut table);
+    let repacked = board::repack(b, &mut table);
+    let retired = board::retire(b, 1, 1);
     let first = admitted.answer;
     let second = seated.answer;
     let third = repacked.answer;

@@ -19,10 +19,10 @@ returns c =
     let planned = c .before .before .before .before in
     let args = planned .before .before .before .before .args in
     let promises = planned .plan-of .ensures in
-    let text = listing-planned (promises .plans) in
+    let text = listing-planned promises in
     record {
       written = rw text at (c .write-listing .ensures);
-      leavesTable = promises .plans .left;
+      leavesTable = promises .leavesTable;
       demand2 = rw text at (listing-demand2 (args .file .now) (args .table .now) (planned .plan-of .result) (planned .plan-of .last .1 .0) promises);
     }
 

@@ -1,4 +1,4 @@
--- `put_counts`. The loop's invariant: the first t counts stand at `at`, each after a space, and take at most 21 bytes each.
+-- `put_counts`. The loop's invariant: the first t counts stand at `at`, each after a space within its room.
 use borrow.Author.Needs.{needs}
 use Prim.Native.Nat.{ℕ, _+_, _-_, _*_, _≤_, _<_, min}
 use mathlib.Core.Path.{_≡_, refl, sym, ap, _∙_}
@@ -7,18 +7,21 @@ use native.Mathlib.Nat.{min-le-right}
 use native.Mathlib.Numerals.{add-one}
 use native.Mathlib.Omega.{arith}
 use lib.ListN.{length, take}
+use Rattle.system.specs.Limits.{typeLimit}
 use Rattle.listing.specs.Listing.{decimal, parted}
-use Rattle.listing.specs.Written.{Puts}
-use Rattle.listing.proofs.Laws.{puts-then, puts-none, counts-suc, take-min}
+use Rattle.listing.specs.Room.{spacedRoom}
+use Rattle.buffer.specs.Written.{Puts}
+use Rattle.buffer.proofs.Laws.{puts-then, puts-none}
+use Rattle.listing.proofs.Laws.{counts-suc, take-min}
 use Rattle.listing.proofs.put_counts.Statement.{statement}
 use Rattle.listing.proofs.put_counts.Tie as tie
 
 abbrev Inv-loop : tie.InvT-loop
-Inv-loop out₀ at types counts end next₀ t₀ out next t =
-    (t ≤ end) × (length out ≡ length out₀) × (next ≤ at + 21 * t) × Puts (parted (map decimal (take t counts))) at out₀ out next
+Inv-loop out₀ at typecount counts end next₀ t₀ out next t =
+    (t ≤ end) × (length out ≡ length out₀) × (next ≤ at + spacedRoom * t) × Puts (parted (map decimal (take t counts))) at out₀ out next
 
 abbrev μ-loop : tie.MeasureT-loop
-μ-loop out₀ at types counts end next₀ t₀ out next t = end - t
+μ-loop out₀ at typecount counts end next₀ t₀ out next t = end - t
 
 least-requires : tie.Need-least-requires Inv-loop μ-loop
 least-requires c κs = search needs
@@ -51,8 +54,8 @@ loop-again c =
     let wide = spaced .before in
     let turn = wide .before .before .before in
     let start = turn .before .before .before in
-    let l : length (start .args .t3) ≡ 6 = search needs in
-    let more : turn .loop .t < length (start .args .t3) = omega (arith, min-le-right (start .args .types) 6) in (
+    let l : length (start .args .t3) ≡ typeLimit = search needs in
+    let more : turn .loop .t < length (start .args .t3) = omega (arith, min-le-right (start .args .typecount) typeLimit) in (
       omega arith,
       spaced .put-spaced .kept .0 ∙ turn .loop .inv .1,
       omega arith,
@@ -65,11 +68,11 @@ same-length c = search needs
 returns : tie.Need-returns Inv-loop μ-loop
 returns c =
     let start = c .before .before .before .before in
-    let turns : c .before .loop .t ≡ min (start .args .types) 6 = omega arith in
-    let l : length (start .args .t3) ≡ 6 = search needs in
-    let whole : take (c .before .loop .t) (start .args .t3) ≡ take (start .args .types) (start .args .t3) =
-    ap (λ (n : ℕ). take n (start .args .t3)) (turns ∙ ap (min (start .args .types)) (sym l)) ∙ take-min (start .args .types) (start .args .t3) in
-    (rw whole at (c .before .loop .inv .3), omega (arith, min-le-right (start .args .types) 6))
+    let turns : c .before .loop .t ≡ min (start .args .typecount) typeLimit = omega arith in
+    let l : length (start .args .t3) ≡ typeLimit = search needs in
+    let whole : take (c .before .loop .t) (start .args .t3) ≡ take (start .args .typecount) (start .args .t3) =
+    ap (λ (n : ℕ). take n (start .args .t3)) (turns ∙ ap (min (start .args .typecount)) (sym l)) ∙ take-min (start .args .typecount) (start .args .t3) in
+    (rw whole at (c .before .loop .inv .3), omega (arith, min-le-right (start .args .typecount) typeLimit))
 
 pub put-counts-spec : {M : Type 1} → statement M
 put-counts-spec =

@@ -2,7 +2,8 @@
 use Prim.Native.Nat.{_≤_}
 use lib.ListN.{length, take}
 use native.Mathlib.Omega.{arith}
-use Rattle.listing.proofs.Laws.{puts-then, engineLine-parts}
+use Rattle.buffer.proofs.Laws.{puts-then}
+use Rattle.listing.proofs.Laws.{engineLine-parts}
 use borrow.Author.Needs.{needs}
 use Rattle.listing.proofs.put_engine.Statement.{statement}
 use Rattle.listing.proofs.put_engine.Tie as tie
@@ -28,11 +29,11 @@ put-share-requires-2 c κs = search needs
 put-byte-requires : tie.Need-put-byte-requires
 put-byte-requires c κs = search needs
 
-slice-aggregate-put-word : tie.Need-slice-aggregate-put-word
-slice-aggregate-put-word c = search needs
+slice-aggregate-put-bytes : tie.Need-slice-aggregate-put-bytes
+slice-aggregate-put-bytes c = search needs
 
-put-word-requires : tie.Need-put-word-requires
-put-word-requires c κs = search needs
+put-bytes-requires : tie.Need-put-bytes-requires
+put-bytes-requires c κs = search needs
 
 put-counts-requires : tie.Need-put-counts-requires
 put-counts-requires c κs = search needs
@@ -47,8 +48,8 @@ returns : tie.Need-returns
 returns c =
     let end = c .before .before in
     let counts = end .before .before .before .before in
-    let types = counts .before .before .before .before .before in
-    let spaced = types .before .before .before .before .before in
+    let typecount = counts .before .before .before .before .before in
+    let spaced = typecount .before .before .before .before .before in
     let mem = spaced .before .before .before .before in
     let util = mem .before .before .before .before .before in
     let named = util .before .before .before .before .before in
@@ -57,9 +58,9 @@ returns c =
     let engine = named .put-entry .ensures .0 in
     let timed = puts-then room engine (util .put-share .ensures .0) in
     let sized = puts-then room timed (mem .put-share2 .ensures .0) in
-    let headed = puts-then room (puts-then room sized (spaced .put-byte .ensures)) (types .put-word .ensures) in
+    let headed = puts-then room (puts-then room sized (spaced .put-byte .ensures)) (typecount .put-bytes .ensures) in
     let whole = puts-then room (puts-then room headed (counts .put-counts .ensures .0)) (end .put-byte2 .ensures) in
-    (rw (engineLine-parts (args .number) (args .load .time) (args .load .memory) (take (args .types) (args .load .counts))) at whole, omega (arith, named, util, mem, spaced, types, counts, end))
+    (rw (engineLine-parts (args .number) (args .load .time) (args .load .memory) (take (args .typecount) (args .load .counts))) at whole, omega (arith, named, util, mem, spaced, typecount, counts, end))
 
 pub put-engine-spec : {M : Type 1} → statement M
 put-engine-spec =
@@ -72,8 +73,8 @@ put-engine-spec =
     slice-aggregate-put-share-2
     put-share-requires-2
     put-byte-requires
-    slice-aggregate-put-word
-    put-word-requires
+    slice-aggregate-put-bytes
+    put-bytes-requires
     put-counts-requires
     put-byte-requires-2
     same-length

@@ -1,4 +1,4 @@
--- `put_engines`. The loop's invariant: the lines of the first i engines stand at `at`, and take at most 211 bytes each.
+-- `put_engines`. The loop's invariant: the lines of the first i engines stand at `at`, each within its room.
 use borrow.Author.Needs.{needs}
 use Prim.Native.Nat.{ℕ, _+_, _-_, _*_, _≤_, _<_, min}
 use mathlib.Core.Path.{_≡_, refl, sym, ap, _∙_}
@@ -9,9 +9,12 @@ use lib.ListN.{length, take}
 use Rattle.planner.specs.Plan.{recordsOf}
 use Rattle.loads.specs.declared.EngineLoad.{EngineLoad}
 use Rattle.planner.proofs.Records.{length-recordsFrom}
+use Rattle.system.specs.Limits.{engineLimit}
 use Rattle.listing.specs.Listing.{recordLines}
-use Rattle.listing.specs.Written.{Puts}
-use Rattle.listing.proofs.Laws.{puts-then, puts-none, lines-suc, take-min}
+use Rattle.listing.specs.Room.{engineRoom}
+use Rattle.buffer.specs.Written.{Puts}
+use Rattle.buffer.proofs.Laws.{puts-then, puts-none}
+use Rattle.listing.proofs.Laws.{lines-suc, take-min}
 use Rattle.listing.proofs.put_engines.Statement.{statement}
 use Rattle.listing.proofs.put_engines.Tie as tie
 
@@ -20,11 +23,11 @@ abbrev past : EngineLoad
 past = record { time = 0; memory = 0; counts = [] }
 
 abbrev Inv-loop : tie.InvT-loop
-Inv-loop out₀ at used types loads end next₀ i₀ out next i =
-    (i ≤ end) × (length out ≡ length out₀) × (next ≤ at + 211 * i) × Puts (recordLines types (take i (recordsOf loads))) at out₀ out next
+Inv-loop out₀ at used typecount loads end next₀ i₀ out next i =
+    (i ≤ end) × (length out ≡ length out₀) × (next ≤ at + engineRoom * i) × Puts (recordLines typecount (take i (recordsOf loads))) at out₀ out next
 
 abbrev μ-loop : tie.MeasureT-loop
-μ-loop out₀ at used types loads end next₀ i₀ out next i = end - i
+μ-loop out₀ at used typecount loads end next₀ i₀ out next i = end - i
 
 least-requires : tie.Need-least-requires Inv-loop μ-loop
 least-requires c κs = search needs
@@ -56,12 +59,12 @@ loop-again c =
     let engine = c .before .before in
     let turn = engine .before .before .before .before in
     let start = turn .before .before .before in
-    let l : length (start .args .t3) ≡ 16 = search needs in
-    let more : turn .loop .i < length (start .args .t3) = omega (arith, min-le-right (start .args .used) 16) in (
+    let l : length (start .args .t3) ≡ engineLimit = search needs in
+    let more : turn .loop .i < length (start .args .t3) = omega (arith, min-le-right (start .args .used) engineLimit) in (
       omega arith,
       engine .put-engine .kept .0 ∙ turn .loop .inv .1,
       omega arith,
-      rw (lines-suc (start .args .types) (start .args .t3) (turn .loop .i) past more) (puts-then (omega arith) (turn .loop .inv .3) (engine .put-engine .ensures .0)),
+      rw (lines-suc (start .args .typecount) (start .args .t3) (turn .loop .i) past more) (puts-then (omega arith) (turn .loop .inv .3) (engine .put-engine .ensures .0)),
     )
 
 same-length : tie.Need-same-length Inv-loop μ-loop
@@ -70,12 +73,12 @@ same-length c = search needs
 returns : tie.Need-returns Inv-loop μ-loop
 returns c =
     let start = c .before .before .before .before in
-    let turns : c .before .loop .i ≡ min (start .args .used) 16 = omega arith in
-    let l : length (start .args .t3) ≡ 16 = search needs in
-    let records : length (recordsOf (start .args .t3)) ≡ 16 = length-recordsFrom 1 (start .args .t3) ∙ l in
+    let turns : c .before .loop .i ≡ min (start .args .used) engineLimit = omega arith in
+    let l : length (start .args .t3) ≡ engineLimit = search needs in
+    let records : length (recordsOf (start .args .t3)) ≡ engineLimit = length-recordsFrom 1 (start .args .t3) ∙ l in
     let whole : take (c .before .loop .i) (recordsOf (start .args .t3)) ≡ take (start .args .used) (recordsOf (start .args .t3)) =
     ap (λ (n : ℕ). take n (recordsOf (start .args .t3))) (turns ∙ ap (min (start .args .used)) (sym records)) ∙ take-min (start .args .used) (recordsOf (start .args .t3)) in
-    (rw whole at (c .before .loop .inv .3), omega (arith, min-le-right (start .args .used) 16))
+    (rw whole at (c .before .loop .inv .3), omega (arith, min-le-right (start .args .used) engineLimit))
 
 pub put-engines-spec : {M : Type 1} → statement M
 put-engines-spec =

@@ -1,6 +1,7 @@
 -- `put_line`: the word with its number, then the end of the line.
 use native.Mathlib.Omega.{arith}
-use Rattle.listing.proofs.Laws.{puts-then, line-parts}
+use Rattle.buffer.proofs.Laws.{puts-then}
+use Rattle.listing.proofs.Laws.{line-parts}
 use borrow.Author.Needs.{needs}
 use Rattle.listing.proofs.put_line.Statement.{statement}
 use Rattle.listing.proofs.put_line.Tie as tie

@@ -1,6 +1,6 @@
 -- `put_plan`: the first line, then those of the engines.
 use native.Mathlib.Omega.{arith}
-use Rattle.listing.proofs.Laws.{puts-then}
+use Rattle.buffer.proofs.Laws.{puts-then}
 use borrow.Author.Needs.{needs}
 use Rattle.listing.proofs.put_plan.Statement.{statement}
 use Rattle.listing.proofs.put_plan.Tie as tie

@@ -1,6 +1,6 @@
 -- `put_share`: a space, then the word with its number.
 use native.Mathlib.Omega.{arith}
-use Rattle.listing.proofs.Laws.{puts-then}
+use Rattle.buffer.proofs.Laws.{puts-then}
 use borrow.Author.Needs.{needs}
 use Rattle.listing.proofs.put_share.Statement.{statement}
 use Rattle.listing.proofs.put_share.Tie as tie

@@ -1,6 +1,6 @@
 -- `put_spaced`: a space, then the number.
 use native.Mathlib.Omega.{arith}
-use Rattle.listing.proofs.Laws.{puts-then}
+use Rattle.buffer.proofs.Laws.{puts-then}
 use borrow.Author.Needs.{needs}
 use Rattle.listing.proofs.put_spaced.Statement.{statement}
 use Rattle.listing.proofs.put_spaced.Tie as tie

@@ -1,14 +1,11 @@
--- The two tests at the sums that `time_of` and `memory_of` ensure.
+-- The two tests at the sums that `sums_of` ensures.
 use borrow.Author.Needs.{needs}
 use Rattle.loads.specs.Load.{fitsEngine}
 use Rattle.loads.proofs.fits_engine.Statement.{statement}
 use Rattle.loads.proofs.fits_engine.Tie as tie
 
-time-of-requires : tie.Need-time-of-requires
-time-of-requires c κs = search needs
-
-memory-of-requires : tie.Need-memory-of-requires
-memory-of-requires c κs = search needs
+sums-of-requires : tie.Need-sums-of-requires
+sums-of-requires c κs = search needs
 
 cast-result : tie.Need-cast-result
 cast-result c = search needs
@@ -18,7 +15,7 @@ cast-result-2 c = search needs
 
 returns : tie.Need-returns
 unfolding fitsEngine
-returns c = rw (c .before .before .before .time-of .ensures, c .before .before .memory-of .ensures)
+returns c = rw (c .before .before .before .before .sums-of .ensures)
 
 pub fits-engine-spec : {M : Type 1} → statement M
-fits-engine-spec = tie.close (tie.spec time-of-requires memory-of-requires cast-result cast-result-2 returns)
+fits-engine-spec = tie.close (tie.spec sums-of-requires cast-result cast-result-2 returns)

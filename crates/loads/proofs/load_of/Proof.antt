@@ -4,6 +4,7 @@ use mathlib.Core.Path.{_≡_, refl, sym, _∙_}
 use mathlib.Core.List.{_++_}
 use lib.ListN.{length, take, drop, length-set}
 use native.Mathlib.Omega.{arith}
+use Rattle.system.specs.Limits.{typeLimit}
 use Rattle.loads.specs.Column.{loadOf}
 use Rattle.loads.proofs.Steps.{length-mapped, ceilings, load-turn, load-end, filled-turn, filled-end}
 use borrow.Author.Needs.{needs}
@@ -11,11 +12,11 @@ use Rattle.loads.proofs.load_of.Statement.{statement}
 use Rattle.loads.proofs.load_of.Tie as tie
 
 abbrev Inv-loop : tie.InvT-loop
-Inv-loop column tasks counts₀ rest₀ i₀ counts rest i =
-    (i ≤ 6) × (length counts ≡ 6) × (take i counts ++ loadOf (ceilings (drop i tasks)) rest ≡ loadOf (ceilings tasks) column)
+Inv-loop column types counts₀ rest₀ i₀ counts rest i =
+    (i ≤ typeLimit) × (length counts ≡ typeLimit) × (take i counts ++ loadOf (ceilings (drop i types)) rest ≡ loadOf (ceilings types) column)
 
 abbrev μ-loop : tie.MeasureT-loop
-μ-loop column tasks counts₀ rest₀ i₀ counts rest i = 6 - i
+μ-loop column types counts₀ rest₀ i₀ counts rest i = typeLimit - i
 
 loop-holds : tie.Need-loop-holds Inv-loop μ-loop
 loop-holds c = (omega arith, refl, refl)
@@ -49,10 +50,10 @@ loop-less c = omega arith
 
 loop-again : tie.Need-loop-again Inv-loop μ-loop
 loop-again c =
-    let ts = c .before .before .before .before .before .before .args .y .tasks in
+    let ts = c .before .before .before .before .before .before .args .y .types in
     let here = c .before .before .before .before .loop in
-    let lt : length ts ≡ 6 = search (needs, length-mapped) in
-    let ll : length (here .counts) ≡ 6 = here .inv .1 in (
+    let lt : length ts ≡ typeLimit = search (needs, length-mapped) in
+    let ll : length (here .counts) ≡ typeLimit = here .inv .1 in (
       omega arith,
       length-set (here .counts) (here .i) (c .before .digit .result) ∙ ll,
       filled-turn (here .counts) _ (here .i) (c .before .digit .result) (omega arith)
@@ -61,10 +62,10 @@ loop-again c =
 
 returns : tie.Need-returns Inv-loop μ-loop
 returns c =
-    let ts = c .before .before .before .args .y .tasks in
+    let ts = c .before .before .before .args .y .types in
     let here = c .before .loop in
-    let lt : length ts ≡ 6 = search (needs, length-mapped) in
-    let ll : length (here .counts) ≡ 6 = here .inv .1 in
+    let lt : length ts ≡ typeLimit = search (needs, length-mapped) in
+    let ll : length (here .counts) ≡ typeLimit = here .inv .1 in
     sym (filled-end (here .counts) _ (here .i) (omega arith) (load-end ts (here .i) (here .rest) (omega arith))) ∙ here .inv .2
 
 pub load-of-spec : {M : Type 1} → statement M

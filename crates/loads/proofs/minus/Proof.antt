@@ -4,6 +4,7 @@ use mathlib.Core.Path.{_≡_, refl, sym, _∙_}
 use mathlib.Core.List.{_++_}
 use lib.ListN.{length, take, drop, length-set}
 use native.Mathlib.Omega.{arith}
+use Rattle.system.specs.Limits.{typeLimit}
 use Rattle.loads.specs.Load.{less}
 use Rattle.loads.proofs.Steps.{less-turn, less-end, filled-turn, filled-end}
 use borrow.Author.Needs.{needs}
@@ -11,10 +12,10 @@ use Rattle.loads.proofs.minus.Statement.{statement}
 use Rattle.loads.proofs.minus.Tie as tie
 
 abbrev Inv-loop : tie.InvT-loop
-Inv-loop x y left₀ i₀ left i = (i ≤ 6) × (length left ≡ 6) × (take i left ++ less (drop i x) (drop i y) ≡ less x y)
+Inv-loop x y left₀ i₀ left i = (i ≤ typeLimit) × (length left ≡ typeLimit) × (take i left ++ less (drop i x) (drop i y) ≡ less x y)
 
 abbrev μ-loop : tie.MeasureT-loop
-μ-loop x y left₀ i₀ left i = 6 - i
+μ-loop x y left₀ i₀ left i = typeLimit - i
 
 loop-holds : tie.Need-loop-holds Inv-loop μ-loop
 loop-holds c = (omega arith, refl, refl)
@@ -51,9 +52,9 @@ loop-again c =
     let a = c .before .before .before .args in
     let i = c .before .before .loop .i in
     let left = c .before .before .loop .left in
-    let lx : length (a .t1) ≡ 6 = search needs in
-    let ly : length (a .t2) ≡ 6 = search needs in
-    let ll : length left ≡ 6 = c .before .before .loop .inv .1 in (
+    let lx : length (a .t1) ≡ typeLimit = search needs in
+    let ly : length (a .t2) ≡ typeLimit = search needs in
+    let ll : length left ≡ typeLimit = c .before .before .loop .inv .1 in (
       omega arith,
       length-set left i (c .difference .result) ∙ ll,
       filled-turn left _ i (c .difference .result) (omega arith)
@@ -64,8 +65,8 @@ returns : tie.Need-returns Inv-loop μ-loop
 returns c =
     let a = c .before .before .args in
     let i = c .before .loop .i in
-    let lx : length (a .t1) ≡ 6 = search needs in
-    let ll : length (c .before .loop .left) ≡ 6 = c .before .loop .inv .1 in
+    let lx : length (a .t1) ≡ typeLimit = search needs in
+    let ll : length (c .before .loop .left) ≡ typeLimit = c .before .loop .inv .1 in
     sym (filled-end (c .before .loop .left) _ i (omega arith) (less-end (a .t1) (drop i (a .t2)) i (omega arith))) ∙ c .before .loop .inv .2
 
 pub minus-spec : {M : Type 1} → statement M

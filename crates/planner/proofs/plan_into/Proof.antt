@@ -47,8 +47,9 @@ use Rattle.system.proofs.Answer as E
 use Rattle.system.proofs.Answer.Laws as E′
 use Rattle.planner.specs.declared.EngineRecord.{EngineRecord}
 use Rattle.planner.specs.declared.ListPlan.{ListPlan}
-use Rattle.planner.specs.Plan.{verdictOf, Lists}
+use Rattle.planner.specs.Plan.{verdictOf}
 use Rattle.planner.specs.Demands.{ListPromises}
+use Rattle.planner.specs.Inner.{Lists}
 use Rattle.planner.proofs.Demands.{list-promises-of, used-within, list-written}
 use Rattle.planner.proofs.RecordType.{R, Rs, recordVals, recordsVal, answerVal, field-records}
 use Rattle.planner.proofs.EngineRecord as T

@@ -17,7 +17,7 @@ same-length c = search needs
 returns : tie.Need-returns
 returns c =
     let p = c .before .before .before .before .plan-for .ensures in
-    record { answer = p .answer; used = p .used; records = c .records-of .ensures ∙ ap recordsOf (p .loads); left = p .left }
+    record { answer = p .answers; used = p .uses; records = c .records-of .ensures ∙ ap recordsOf (p .places); left = p .leavesTable }
 
 pub plan-records-spec : {M : Type 1} → statement M
 plan-records-spec = tie.close (tie.spec plan-for-requires records-of-requires same-length returns)

@@ -1,17 +1,17 @@
 -- Each answer is that of the definition: a file that was refused, a table too short, and a table filled.
-use mathlib.Core.Path.{_≡_, sym, _∙_}
-use mathlib.Core.Bool.{true}
+use mathlib.Core.Path.{_≡_, sym, ap, _∙_}
 use mathlib.Core.Logic.{⊎-elim}
 use native.Mathlib.Omega.{arith}
 use borrow.Author.Needs.{needs}
-use borrow.Author.Tests.{leb-true, not-true, not-false}
+use borrow.Author.Tests.{leb-true}
 use lib.ListN.{length}
 use Rattle.system.specs.declared.Answer.the-variants.{Accepted}
-use Rattle.system.specs.Limits.{keepsLimits}
 use Rattle.system.specs.Layout.{readFile}
-use Rattle.system.proofs.Laws.{limits-of, read-keeps-limits, reads-opened}
-use Rattle.table.specs.Table.{entries}
-use Rattle.table.proofs.Reading.{fill-refused, fill-short, fill-done}
+use Rattle.system.specs.Outcome.{fromInput, passes, checkedOf}
+use Rattle.system.proofs.Checks.{check-passed}
+use Rattle.system.proofs.Laws.{limits-of}
+use Rattle.table.specs.Table.{entries, tableCheck}
+use Rattle.table.proofs.Reading.{read-limits, fill-refused, fill-short, fill-done}
 use Rattle.table.proofs.fill_table.Statement.{statement}
 use Rattle.table.proofs.fill_table.Tie as tie
 
@@ -31,41 +31,46 @@ returns c =
 is-accepted : (c : tie.After-enum-told) → c .before .before .read-system .result .answer ≡ Accepted
 is-accepted c = search needs
 
--- the system that was read keeps the limits
-keeps : (c : tie.After-y) → keepsLimits (c .before .before .before .read-system .result .system) ≡ true
-keeps c =
-    let file = c .before .before .before .before .before .before .args .file .now in
+table-check-requires : tie.Need-table-check-requires
+table-check-requires c κs =
     let r = c .before .before .before .read-system in
-    read-keeps-limits file (r .result .system) (reads-opened (readFile file) (r .result) (r .ensures) (is-accepted (c .before)))
+    read-limits (c .before .before .before .before .before .before .args .file .now) (r .result) (r .ensures) (is-accepted (c .before))
 
-is-long-enough-requires : tie.Need-is-long-enough-requires
-is-long-enough-requires c κs = keeps c
+enum-known-check : tie.Need-enum-known-check
+enum-known-check c = search needs
 
 returns-2 : tie.Need-returns-2
 returns-2 c =
-    let start = c .before .before .before .before .before .before .before .before in
-    let r = c .before .before .before .before .before .read-system in
-    fill-short (readFile (start .args .file .now)) (r .result) (r .ensures) (start .args .table .now) (is-accepted (c .before .before .before))
-    (sym (c .before .is-long-enough .ensures) ∙ not-true (c .before .is-long-enough .result) (c .if1 .taken))
+    let start = c .before .before .before .before .before .before .before .before .before .before in
+    let r = c .before .before .before .before .before .before .before .read-system in
+    let p = c .before .check .given in
+    fill-short (readFile (start .args .file .now)) (r .result) (r .ensures) (start .args .table .now) (is-accepted (c .before .before .before .before .before)) (p .0 .0)
+    (ap checkedOf (sym (p .1)) ∙ c .before .before .before .table-check .ensures)
+
+enum-told-2 : tie.Need-enum-told-2
+enum-told-2 c = search needs
+
+-- the check passed
+passed : (c : tie.After-enum-told2) → passes ≡ tableCheck (c .before .before .before .before .before .before .read-system .result .system) (c .before .before .before .before .before .before .before .before .before .args .table .now)
+passed c = ap checkedOf (sym (c .enum-told2 .given .1)) ∙ c .before .before .table-check .ensures
 
 fill-requires : tie.Need-fill-requires
 fill-requires c κs =
-    let y = c .before .before .before .before .before .before .read-system .result .system in
-    let table = c .before .before .before .before .before .before .before .before .before .args .table .now in
-    let long = c .before .before .is-long-enough in
-    let limits = keeps (c .before .before .before) in
-    (limits, limits-of y limits .engines, leb-true (entries y (y .engines)) (length table) (sym (long .ensures) ∙ not-false (long .result) (c .before .if1 .left)))
+    let start = c .before .before .before .before .before .before .before .before .before .before in
+    let r = c .before .before .before .before .before .before .before .read-system in
+    let y = r .result .system in
+    let limits = read-limits (start .args .file .now) (r .result) (r .ensures) (is-accepted (c .before .before .before .before .before)) in
+    (limits, limits-of y limits .engines, leb-true (entries y (y .engines)) (length (start .args .table .now)) (check-passed _ fromInput 11 (passed (c .before))))
 
 same-length : tie.Need-same-length
 same-length c = search needs
 
 returns-3 : tie.Need-returns-3
 returns-3 c =
-    let start = c .before .before .before .before .before .before .before .before .before .before .before .before in
-    let r = c .before .before .before .before .before .before .before .before .before .read-system in
-    let long = c .before .before .before .before .before .is-long-enough in
-    fill-done (readFile (start .args .file .now)) (r .result) (r .ensures) (start .args .table .now) (is-accepted (c .before .before .before .before .before .before .before))
-    (sym (long .ensures) ∙ not-false (long .result) (c .before .before .before .before .if1 .left))
+    let h = c .before .before .before in
+    let start = h .before .before .before .before .before .before .before .before .before .before in
+    let r = h .before .before .before .before .before .before .before .read-system in
+    fill-done (readFile (start .args .file .now)) (r .result) (r .ensures) (start .args .table .now) (is-accepted (h .before .before .before .before .before)) (passed (h .before))
     (c .before .before .fill .last .0)
     (c .before .before .fill .ensures)
 
@@ -76,8 +81,10 @@ fill-table-spec =
     read-system-requires
     enum-told
     returns
-    is-long-enough-requires
+    table-check-requires
+    enum-known-check
     returns-2
+    enum-told-2
     fill-requires
     same-length
     returns-3)

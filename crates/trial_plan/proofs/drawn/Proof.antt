@@ -5,10 +5,10 @@ use Rattle.trial_plan.proofs.drawn.Statement.{statement}
 use Rattle.trial_plan.proofs.drawn.Tie as tie
 
 abbrev Inv-loop : tie.InvT-loop
-Inv-loop seed number engines types most t₀ at₀ i₀ t at i = i ≤ number
+Inv-loop seed number engines typecount most t₀ at₀ i₀ t at i = i ≤ number
 
 abbrev μ-loop : tie.MeasureT-loop
-μ-loop seed number engines types most t₀ at₀ i₀ t at i = number - i
+μ-loop seed number engines typecount most t₀ at₀ i₀ t at i = number - i
 
 no-tally-requires : tie.Need-no-tally-requires Inv-loop μ-loop
 no-tally-requires c κs = search needs

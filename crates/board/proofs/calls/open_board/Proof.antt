@@ -2,7 +2,7 @@
 use mathlib.Core.Path.{ap, _∙_}
 use borrow.Author.Needs.{needs}
 use Rattle.system.specs.Layout.{readFile}
-use Rattle.board.specs.Truth.{emptyBoard}
+use Rattle.board.specs.Boards.{emptyBoard}
 use Rattle.board.proofs.Exits.{opened-board}
 use Rattle.board.proofs.calls.open_board.Statement.{statement}
 use Rattle.board.proofs.calls.open_board.Tie as tie

@@ -1,21 +1,22 @@
 -- Refused by the checks, or what stands is seated anew.
-use mathlib.Core.Path.{_≡_, refl, ap, subst, sym, _∙_}
+use mathlib.Core.Path.{_≡_, ap, subst, sym, _∙_}
 use mathlib.Core.List.{List}
 use mathlib.Core.Bool.{true}
 use Prim.Native.Nat.{ℕ}
 use borrow.Author.Needs.{needs}
+use lib.ListN.{length}
 use Rattle.system.specs.Values.{ceilingsOf}
 use Rattle.loads.specs.Load.{within}
-use Rattle.board.specs.Calls.{passes, checkRepack, reseated, repackOf, Does}
-use Rattle.board.specs.Inner.{checkedOf}
-use Rattle.board.proofs.Ready.{true-keeps, true-within}
+use Rattle.system.specs.Outcome.{passes, checkedOf}
+use Rattle.board.specs.Calls.{checkRepack, reseated, repackOf, Does}
+use Rattle.board.proofs.Ready.{true-within}
 use Rattle.board.proofs.Exits.{checks-fail, checks-pass, repack-passed}
 use Rattle.board.proofs.Promises.{repack-promises}
 use Rattle.board.proofs.calls.repack.Statement.{statement}
 use Rattle.board.proofs.calls.repack.Tie as tie
 
-passed : (c : tie.After-enum-told) → passes ≡ checkRepack (c .before .before .before .before .args .b) (c .before .before .before .before .args .table .now)
-passed c = ap checkedOf (sym (c .enum-told .given .1)) ∙ c .before .before .check-repack .ensures (c .before .before .before .before .args .table .now) refl
+passed : (c : tie.After-enum-told) → passes ≡ checkRepack (c .before .before .before .before .args .b) (length (c .before .before .before .before .args .table .now))
+passed c = ap checkedOf (sym (c .enum-told .given .1)) ∙ c .before .before .check-repack .ensures
 
 check-repack-requires : tie.Need-check-repack-requires
 check-repack-requires c κs = search needs
@@ -32,8 +33,8 @@ returns c =
     let a = c .before .before .before .before .before .before .args in
     let p = c .before .before .check .given in
     repack-promises (a .b) (a .table .now) _ _
-    (checks-fail (a .b) (a .table .now) _ (c .refuse .result) (checkRepack (a .b) (a .table .now)) (p .0 .0)
-    (ap checkedOf (sym (p .1)) ∙ c .before .before .before .before .check-repack .ensures (a .table .now) refl)
+    (checks-fail (a .b) (a .table .now) _ (c .refuse .result) (checkRepack (a .b) (length (a .table .now))) (p .0 .0)
+    (ap checkedOf (sym (p .1)) ∙ c .before .before .before .before .check-repack .ensures)
     (c .refuse .ensures .0)
     (c .refuse .ensures .1))
 
@@ -41,14 +42,14 @@ enum-told : tie.Need-enum-told
 enum-told c = search needs
 
 standing-counts-requires : tie.Need-standing-counts-requires
-standing-counts-requires c κs = repack-passed _ _ (passed c) .0
+standing-counts-requires c κs = repack-passed _ (c .before .before .before .before .args .table .now) (passed c) .0
 
 reseat-requires : tie.Need-reseat-requires
 reseat-requires c κs =
     let h = c .before .before in
     let a = h .before .before .before .before .args in
     let p = repack-passed (a .b) (a .table .now) (passed h) in (
-      true-keeps (a .b) (p .0),
+      p .0,
       p .1,
       subst (λ (x : List ℕ). within x (ceilingsOf (a .b .system)) ≡ true) (sym (c .before .standing-counts .ensures)) (true-within (a .b) (p .0)),
     )
@@ -63,7 +64,7 @@ returns-2 c =
     let a = h .before .before .before .before .args in
     let r = c .before .before .reseat in
     repack-promises (a .b) (a .table .now) _ _
-    (checks-pass (a .b) (a .table .now) _ (r .result) (checkRepack (a .b) (a .table .now)) _ (passed h)
+    (checks-pass (a .b) (a .table .now) _ (r .result) (checkRepack (a .b) (length (a .table .now))) _ (passed h)
     (subst (λ (x : List ℕ). Does (reseated (a .b) x (a .table .now)) (r .result) (r .last .1 .1 .0)) (c .before .before .before .before .standing-counts .ensures) (r .ensures)))
 
 pub repack-spec : {M : Type 1} → statement M

@@ -2,9 +2,8 @@
 use mathlib.Core.Path.{_≡_, refl, ap, sym, _∙_}
 use mathlib.Core.List.{[]}
 use borrow.Author.Needs.{needs}
-use Rattle.system.specs.Outcome.{outcomeOf}
-use Rattle.board.specs.Calls.{passes, checkRetire, retireOf}
-use Rattle.board.specs.Inner.{checkedOf}
+use Rattle.system.specs.Outcome.{outcomeOf, passes, checkedOf}
+use Rattle.board.specs.Calls.{checkRetire, retireOf}
 use Rattle.board.proofs.Exits.{checks-fail, checks-pass, leaver-passed}
 use Rattle.board.proofs.Promises.{retire-promises}
 use Rattle.board.proofs.calls.retire.Statement.{statement}

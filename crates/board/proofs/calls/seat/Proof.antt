@@ -1,22 +1,23 @@
 -- Refused by the checks, or all with the newcomer is seated anew.
-use mathlib.Core.Path.{_≡_, refl, ap, subst, sym, _∙_}
+use mathlib.Core.Path.{_≡_, ap, subst, sym, _∙_}
 use mathlib.Core.List.{List}
 use mathlib.Core.Bool.{true}
 use Prim.Native.Nat.{ℕ}
 use borrow.Author.Needs.{needs}
+use lib.ListN.{length}
 use Rattle.system.specs.Values.{ceilingsOf}
 use Rattle.loads.specs.Load.{within}
-use Rattle.board.specs.Calls.{passes, checkNewcomer, reseated, seatOf, Does}
-use Rattle.board.specs.Inner.{checkedOf}
-use Rattle.board.proofs.Ready.{true-keeps, newcomer-within}
+use Rattle.system.specs.Outcome.{passes, checkedOf}
+use Rattle.board.specs.Calls.{checkNewcomer, reseated, seatOf, Does}
+use Rattle.board.proofs.Ready.{newcomer-within}
 use Rattle.board.proofs.Exits.{checks-fail, checks-pass, newcomer-passed, newcomer-long}
 use Rattle.board.proofs.Promises.{seat-promises}
 use Rattle.board.proofs.calls.seat.Statement.{statement}
 use Rattle.board.proofs.calls.seat.Tie as tie
 
 passed : (c : tie.After-enum-told) →
-    passes ≡ checkNewcomer (c .before .before .before .before .args .b) (c .before .before .before .before .args .t) (c .before .before .before .before .args .table .now)
-passed c = ap checkedOf (sym (c .enum-told .given .1)) ∙ c .before .before .check-newcomer .ensures (c .before .before .before .before .args .table .now) refl
+    passes ≡ checkNewcomer (c .before .before .before .before .args .b) (c .before .before .before .before .args .t) (length (c .before .before .before .before .args .table .now))
+passed c = ap checkedOf (sym (c .enum-told .given .1)) ∙ c .before .before .check-newcomer .ensures
 
 check-newcomer-requires : tie.Need-check-newcomer-requires
 check-newcomer-requires c κs = search needs
@@ -33,8 +34,8 @@ returns c =
     let a = c .before .before .before .before .before .before .args in
     let p = c .before .before .check .given in
     seat-promises (a .b) (a .t) (a .table .now) _ _
-    (checks-fail (a .b) (a .table .now) _ (c .refuse .result) (checkNewcomer (a .b) (a .t) (a .table .now)) (p .0 .0)
-    (ap checkedOf (sym (p .1)) ∙ c .before .before .before .before .check-newcomer .ensures (a .table .now) refl)
+    (checks-fail (a .b) (a .table .now) _ (c .refuse .result) (checkNewcomer (a .b) (a .t) (length (a .table .now))) (p .0 .0)
+    (ap checkedOf (sym (p .1)) ∙ c .before .before .before .before .check-newcomer .ensures)
     (c .refuse .ensures .0)
     (c .refuse .ensures .1))
 
@@ -42,14 +43,14 @@ enum-told : tie.Need-enum-told
 enum-told c = search needs
 
 with-newcomer-requires : tie.Need-with-newcomer-requires
-with-newcomer-requires c κs = newcomer-passed _ _ _ (passed c)
+with-newcomer-requires c κs = newcomer-passed _ _ (c .before .before .before .before .args .table .now) (passed c)
 
 reseat-requires : tie.Need-reseat-requires
 reseat-requires c κs =
     let h = c .before .before in
     let a = h .before .before .before .before .args in
     let n = newcomer-passed (a .b) (a .t) (a .table .now) (passed h) in (
-      true-keeps (a .b) (n .isTrue),
+      n .isTrue,
       newcomer-long (a .b) (a .t) (a .table .now) (passed h),
       subst (λ (x : List ℕ). within x (ceilingsOf (a .b .system)) ≡ true) (sym (c .before .with-newcomer .ensures)) (newcomer-within (a .b) (a .t) n),
     )
@@ -64,7 +65,7 @@ returns-2 c =
     let a = h .before .before .before .before .args in
     let r = c .before .before .reseat in
     seat-promises (a .b) (a .t) (a .table .now) _ _
-    (checks-pass (a .b) (a .table .now) _ (r .result) (checkNewcomer (a .b) (a .t) (a .table .now)) _ (passed h)
+    (checks-pass (a .b) (a .table .now) _ (r .result) (checkNewcomer (a .b) (a .t) (length (a .table .now))) _ (passed h)
     (subst (λ (x : List ℕ). Does (reseated (a .b) x (a .table .now)) (r .result) (r .last .1 .1 .0)) (c .before .before .before .before .with-newcomer .ensures) (r .ensures)))
 
 pub seat-spec : {M : Type 1} → statement M

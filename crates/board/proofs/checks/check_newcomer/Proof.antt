@@ -1,72 +1,106 @@
--- The tests in order, each at its own exit: the definition's case is picked by the tests passed on the way.
-use mathlib.Core.Path.{_≡_, sym, _∙_}
+-- The checks in order: where one fails the call is refused with its number, where all before it passed the next decides.
+use mathlib.Core.Path.{_≡_, ap, sym, _∙_}
 use mathlib.Core.Bool.{true}
 use borrow.Author.Needs.{needs}
-use borrow.Author.Tests.{not-true, not-false}
+use Rattle.system.specs.Outcome.{passes, fromInput, fromState, checkedOf}
+use Rattle.system.proofs.Checks.{check-passed, fails-andThen, passes-andThen}
 use Rattle.board.specs.Truth.{trueBoard}
-use Rattle.board.specs.Calls.{knownType, checkNewcomer}
+use Rattle.board.specs.Calls.{boardCheck, knownType, typeCheck, checkNewcomer}
+use Rattle.table.specs.Table.{roomCheck}
 use Rattle.board.proofs.Ready.{true-keeps}
 use Rattle.board.proofs.checks.check_newcomer.Statement.{statement}
 use Rattle.board.proofs.checks.check_newcomer.Tie as tie
 
--- what each test has shown where it passed
-true-here : (c : tie.After-y) → trueBoard (c .before .before .before .args .b) ≡ true
-true-here c = sym (c .before .before .true-board .ensures) ∙ not-false _ (c .before .if1 .left)
+-- what each check has shown where it passed
 
-type-here : (c : tie.Else2) → knownType (c .before .before .before .before .before .args .b .system) (c .before .before .before .before .before .args .t) ≡ true
-type-here c = sym (c .before .known-type .ensures) ∙ not-false _ (c .if2 .left)
+board-passed : (c : tie.After-enum-told) → passes ≡ boardCheck (c .before .before .before .args .b)
+board-passed c = ap checkedOf (sym (c .enum-told .given .1)) ∙ c .before .before .board-check .ensures
 
-true-board-requires : tie.Need-true-board-requires
-true-board-requires c κs = search needs
+type-passed : (c : tie.After-enum-told2) → passes ≡ typeCheck (c .before .before .before .before .before .before .before .args .b .system) (c .before .before .before .before .before .before .before .args .t)
+type-passed c = ap checkedOf (sym (c .enum-told2 .given .1)) ∙ c .before .before .type-check .ensures
+
+table-passed : (c : tie.After-enum-told3) → passes ≡ roomCheck (c .before .before .before .before .before .before .before .before .before .before .args .b .system) (c .before .before .before .before .before .before .before .before .before .before .args .room)
+table-passed c = ap checkedOf (sym (c .enum-told3 .given .1)) ∙ c .before .before .table-check .ensures
+
+is-true : (c : tie.After-enum-told) → trueBoard (c .before .before .before .args .b) ≡ true
+is-true c = check-passed _ fromState 20 (board-passed c)
+
+is-known : (c : tie.After-enum-told2) → knownType (c .before .before .before .before .before .before .before .args .b .system) (c .before .before .before .before .before .before .before .args .t) ≡ true
+is-known c = check-passed _ fromInput 13 (type-passed c)
+
+board-check-requires : tie.Need-board-check-requires
+board-check-requires c κs = search needs
+
+enum-known-board : tie.Need-enum-known-board
+enum-known-board c = search needs
 
 returns : tie.Need-returns
 unfolding checkNewcomer
-returns c = λ table e. rw (sym (c .before .true-board .ensures) ∙ not-true _ (c .if1 .taken))
+returns c =
+    let p = c .before .board .given in
+    fails-andThen (p .0 .0) _ _ (ap checkedOf (sym (p .1)) ∙ c .before .before .before .board-check .ensures)
 
-known-type-requires : tie.Need-known-type-requires
-known-type-requires c κs = search needs
+enum-told : tie.Need-enum-told
+enum-told c = search needs
+
+type-check-requires : tie.Need-type-check-requires
+type-check-requires c κs = search needs
+
+enum-known-task : tie.Need-enum-known-task
+enum-known-task c = search needs
 
 returns-2 : tie.Need-returns-2
 unfolding checkNewcomer
-returns-2 c = λ table e. rw (true-here (c .before .before), sym (c .before .known-type .ensures) ∙ not-true _ (c .if2 .taken))
+returns-2 c =
+    let p = c .before .task .given in
+    passes-andThen _ _ _ (board-passed (c .before .before .before .before .before))
+    (fails-andThen (p .0 .0) _ _ (ap checkedOf (sym (p .1)) ∙ c .before .before .before .type-check .ensures))
 
-is-long-enough-requires : tie.Need-is-long-enough-requires
-is-long-enough-requires c κs = true-keeps _ (true-here (c .before .before))
+enum-told-2 : tie.Need-enum-told-2
+enum-told-2 c = search needs
+
+table-check-requires : tie.Need-table-check-requires
+table-check-requires c κs = true-keeps _ (is-true (c .before .before .before .before))
+
+enum-known-table : tie.Need-enum-known-table
+enum-known-table c = search needs
 
 returns-3 : tie.Need-returns-3
 unfolding checkNewcomer
-returns-3 c = λ table e.
-    rw (true-here (c .before .before .before .before), type-here (c .before .before), e, sym (c .before .is-long-enough .ensures) ∙ not-true _ (c .if3 .taken))
+returns-3 c =
+    let p = c .before .table .given in
+    passes-andThen _ _ _ (board-passed (c .before .before .before .before .before .before .before .before))
+    (passes-andThen _ _ _ (type-passed (c .before .before .before .before))
+    (fails-andThen (p .0 .0) _ _ (ap checkedOf (sym (p .1)) ∙ c .before .before .before .table-check .ensures)))
 
-at-ceiling-requires : tie.Need-at-ceiling-requires
-at-ceiling-requires c κs = (true-here (c .before .before .before .before), type-here (c .before .before))
+enum-told-3 : tie.Need-enum-told-3
+enum-told-3 c = search needs
 
-passes-unless-requires : tie.Need-passes-unless-requires
-passes-unless-requires c κs = search needs
+ceiling-check-requires : tie.Need-ceiling-check-requires
+ceiling-check-requires c κs = (is-true (c .before .before .before .before .before .before .before), is-known (c .before .before .before))
 
 returns-4 : tie.Need-returns-4
 unfolding checkNewcomer
-returns-4 c = λ table e.
-    let s = c .before .before in
-    c .passes-unless .ensures
-    ∙ rw (
-      true-here (s .before .before .before .before),
-      type-here (s .before .before),
-      e,
-      sym (s .before .is-long-enough .ensures) ∙ not-false _ (s .if3 .left),
-      c .before .at-ceiling .ensures,
-    )
+returns-4 c =
+    passes-andThen _ _ _ (board-passed (c .before .before .before .before .before .before .before .before))
+    (passes-andThen _ _ _ (type-passed (c .before .before .before .before))
+    (passes-andThen _ _ _ (table-passed (c .before)) (c .ceiling-check .ensures)))
 
 pub check-newcomer-spec : {M : Type 1} → statement M
 check-newcomer-spec =
     tie.close
     (tie.spec
-    true-board-requires
+    board-check-requires
+    enum-known-board
     returns
-    known-type-requires
+    enum-told
+    type-check-requires
+    enum-known-task
     returns-2
-    is-long-enough-requires
+    enum-told-2
+    table-check-requires
+    enum-known-table
     returns-3
-    at-ceiling-requires
-    passes-unless-requires
+    enum-told-3
+    ceiling-check-requires
     returns-4)

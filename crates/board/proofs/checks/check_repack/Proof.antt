@@ -1,34 +1,47 @@
--- The tests in order, each at its own exit: the definition's case is picked by the tests passed on the way.
-use mathlib.Core.Path.{_≡_, sym, _∙_}
-use mathlib.Core.Bool.{true}
+-- The checks in order: where one fails the call is refused with its number, where all before it passed the next decides.
+use mathlib.Core.Path.{_≡_, ap, sym, _∙_}
 use borrow.Author.Needs.{needs}
-use borrow.Author.Tests.{not-true, not-false}
-use Rattle.board.specs.Truth.{trueBoard}
-use Rattle.board.specs.Calls.{checkRepack}
+use Rattle.system.specs.Outcome.{passes, fromState, checkedOf}
+use Rattle.system.proofs.Checks.{check-passed, fails-andThen, passes-andThen}
+use Rattle.board.specs.Calls.{boardCheck, checkRepack}
 use Rattle.board.proofs.Ready.{true-keeps}
 use Rattle.board.proofs.checks.check_repack.Statement.{statement}
 use Rattle.board.proofs.checks.check_repack.Tie as tie
 
--- where the first test has passed
-true-here : (c : tie.After-y) → trueBoard (c .before .before .before .args .b) ≡ true
-true-here c = sym (c .before .before .true-board .ensures) ∙ not-false _ (c .before .if1 .left)
+-- what each check has shown where it passed
 
-true-board-requires : tie.Need-true-board-requires
-true-board-requires c κs = search needs
+board-passed : (c : tie.After-enum-told) → passes ≡ boardCheck (c .before .before .before .args .b)
+board-passed c = ap checkedOf (sym (c .enum-told .given .1)) ∙ c .before .before .board-check .ensures
+
+board-check-requires : tie.Need-board-check-requires
+board-check-requires c κs = search needs
+
+enum-known-board : tie.Need-enum-known-board
+enum-known-board c = search needs
 
 returns : tie.Need-returns
 unfolding checkRepack
-returns c = λ table e. rw (sym (c .before .true-board .ensures) ∙ not-true _ (c .if1 .taken))
+returns c =
+    let p = c .before .board .given in
+    fails-andThen (p .0 .0) _ _ (ap checkedOf (sym (p .1)) ∙ c .before .before .before .board-check .ensures)
 
-is-long-enough-requires : tie.Need-is-long-enough-requires
-is-long-enough-requires c κs = true-keeps _ (true-here c)
+enum-told : tie.Need-enum-told
+enum-told c = search needs
 
-passes-unless-requires : tie.Need-passes-unless-requires
-passes-unless-requires c κs = search needs
+table-check-requires : tie.Need-table-check-requires
+table-check-requires c κs = true-keeps _ (check-passed _ fromState 20 (board-passed c))
 
 returns-2 : tie.Need-returns-2
 unfolding checkRepack
-returns-2 c = λ table e. c .passes-unless .ensures ∙ rw (true-here (c .before .before), e, c .before .is-long-enough .ensures)
+returns-2 c = passes-andThen _ _ _ (board-passed (c .before)) (c .table-check .ensures)
 
 pub check-repack-spec : {M : Type 1} → statement M
-check-repack-spec = tie.close (tie.spec true-board-requires returns is-long-enough-requires passes-unless-requires returns-2)
+check-repack-spec =
+    tie.close
+    (tie.spec
+    board-check-requires
+    enum-known-board
+    returns
+    enum-told
+    table-check-requires
+    returns-2)

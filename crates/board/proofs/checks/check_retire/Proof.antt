@@ -1,94 +1,104 @@
--- The tests in order, each at its own exit: the definition's case is picked by the tests passed on the way.
-use Prim.Native.Nat.{_≤_}
-use mathlib.Core.Path.{_≡_, sym, _∙_}
-use mathlib.Core.Bool.{true, false}
-use native.Mathlib.Omega.{arith}
+-- The checks in order: where one fails the call is refused with its number, where all before it passed the next decides.
+use mathlib.Core.Path.{_≡_, ap, sym, _∙_}
+use mathlib.Core.Bool.{true}
 use borrow.Author.Needs.{needs}
-use borrow.Author.Tests.{not-true, not-false}
+use Rattle.system.specs.Outcome.{passes, fromInput, fromState, checkedOf}
+use Rattle.system.proofs.Checks.{check-passed, fails-andThen, passes-andThen}
 use Rattle.board.specs.Truth.{trueBoard}
-use Rattle.board.specs.Calls.{knownType, knownEngine, checkRetire}
-use Rattle.board.proofs.Ready.{engine-in, type-range}
+use Rattle.board.specs.Calls.{boardCheck, knownType, typeCheck, engineCheck, checkRetire}
 use Rattle.board.proofs.checks.check_retire.Statement.{statement}
 use Rattle.board.proofs.checks.check_retire.Tie as tie
 
--- what each test has shown where it passed
-module _ (c : tie.After-y) where
-  true-here : trueBoard (c .before .before .before .args .b) ≡ true
-  true-here = sym (c .before .before .true-board .ensures) ∙ not-false _ (c .before .if1 .left)
+-- what each check has shown where it passed
 
-module _ (c : tie.Else2) where
-  type-here : knownType (c .before .before .before .before .before .args .b .system) (c .before .before .before .before .before .args .t) ≡ true
-  type-here = sym (c .before .known-type .ensures) ∙ not-false _ (c .if2 .left)
+board-passed : (c : tie.After-enum-told) → passes ≡ boardCheck (c .before .before .before .args .b)
+board-passed c = ap checkedOf (sym (c .enum-told .given .1)) ∙ c .before .before .board-check .ensures
 
-  range-here : (1 ≤ c .before .before .before .before .before .args .t) × (c .before .before .before .before .before .args .t ≤ 6)
-  range-here = type-range (c .before .before .before .before .before .args .b) (true-here (c .before .before)) (c .before .before .before .before .before .args .t) type-here
+type-passed : (c : tie.After-enum-told2) → passes ≡ typeCheck (c .before .before .before .before .before .before .before .args .b .system) (c .before .before .before .before .before .before .before .args .t)
+type-passed c = ap checkedOf (sym (c .enum-told2 .given .1)) ∙ c .before .before .type-check .ensures
 
-module _ (c : tie.Else3) where
-  engine-here : knownEngine (c .before .before .before .before .before .before .before .args .b .system) (c .before .before .before .before .before .before .before .args .e) ≡ true
-  engine-here = sym (c .before .known-engine .ensures) ∙ not-false _ (c .if3 .left)
+engine-passed : (c : tie.After-enum-told3) → passes ≡ engineCheck (c .before .before .before .before .before .before .before .before .before .before .args .b .system) (c .before .before .before .before .before .before .before .before .before .before .args .e)
+engine-passed c = ap checkedOf (sym (c .enum-told3 .given .1)) ∙ c .before .before .engine-check .ensures
 
-true-board-requires : tie.Need-true-board-requires
-true-board-requires c κs = search needs
+is-true : (c : tie.After-enum-told) → trueBoard (c .before .before .before .args .b) ≡ true
+is-true c = check-passed _ fromState 20 (board-passed c)
+
+is-known : (c : tie.After-enum-told2) → knownType (c .before .before .before .before .before .before .before .args .b .system) (c .before .before .before .before .before .before .before .args .t) ≡ true
+is-known c = check-passed _ fromInput 13 (type-passed c)
+
+board-check-requires : tie.Need-board-check-requires
+board-check-requires c κs = search needs
+
+enum-known-board : tie.Need-enum-known-board
+enum-known-board c = search needs
 
 returns : tie.Need-returns
 unfolding checkRetire
 returns c =
-    let false-here : trueBoard (c .before .before .args .b) ≡ false = sym (c .before .true-board .ensures) ∙ not-true _ (c .if1 .taken) in
-    rw false-here
+    let p = c .before .board .given in
+    fails-andThen (p .0 .0) _ _ (ap checkedOf (sym (p .1)) ∙ c .before .before .before .board-check .ensures)
 
-known-type-requires : tie.Need-known-type-requires
-known-type-requires c κs = search needs
+enum-told : tie.Need-enum-told
+enum-told c = search needs
+
+type-check-requires : tie.Need-type-check-requires
+type-check-requires c κs = search needs
+
+enum-known-task : tie.Need-enum-known-task
+enum-known-task c = search needs
 
 returns-2 : tie.Need-returns-2
 unfolding checkRetire
 returns-2 c =
-    rw (true-here (c .before .before), sym (c .before .known-type .ensures) ∙ not-true _ (c .if2 .taken))
+    let p = c .before .task .given in
+    passes-andThen _ _ _ (board-passed (c .before .before .before .before .before))
+    (fails-andThen (p .0 .0) _ _ (ap checkedOf (sym (p .1)) ∙ c .before .before .before .type-check .ensures))
 
-known-engine-requires : tie.Need-known-engine-requires
-known-engine-requires c κs = search needs
+enum-told-2 : tie.Need-enum-told-2
+enum-told-2 c = search needs
+
+engine-check-requires : tie.Need-engine-check-requires
+engine-check-requires c κs = search needs
+
+enum-known-engine : tie.Need-enum-known-engine
+enum-known-engine c = search needs
 
 returns-3 : tie.Need-returns-3
 unfolding checkRetire
 returns-3 c =
-    rw (true-here (c .before .before .before .before), type-here (c .before .before), sym (c .before .known-engine .ensures) ∙ not-true _ (c .if3 .taken))
+    let p = c .before .engine .given in
+    passes-andThen _ _ _ (board-passed (c .before .before .before .before .before .before .before .before))
+    (passes-andThen _ _ _ (type-passed (c .before .before .before .before))
+    (fails-andThen (p .0 .0) _ _ (ap checkedOf (sym (p .1)) ∙ c .before .before .before .engine-check .ensures)))
 
-load-at-requires : tie.Need-load-at-requires
-load-at-requires c κs =
-    let a = c .before .before .before .before .before .before .before .args in
-    engine-in (a .b) (true-here (c .before .before .before .before)) (a .e) (engine-here c)
+enum-told-3 : tie.Need-enum-told-3
+enum-told-3 c = search needs
 
-sub-i : tie.Need-sub-i
-sub-i c = range-here (c .before .before .before) .0
-
-mul-passes-unless : tie.Need-mul-passes-unless
-mul-passes-unless c = omega (arith, range-here (c .before .before .before))
-
-array-read-passes-unless : tie.Need-array-read-passes-unless
-array-read-passes-unless c = omega (arith, range-here (c .before .before .before))
-
-passes-unless-requires : tie.Need-passes-unless-requires
-passes-unless-requires c κs = search needs
+held-check-requires : tie.Need-held-check-requires
+held-check-requires c κs = (record { isTrue = is-true (c .before .before .before .before .before .before .before); known = check-passed _ fromInput 14 (engine-passed c) }, is-known (c .before .before .before))
 
 returns-4 : tie.Need-returns-4
 unfolding checkRetire
 returns-4 c =
-    let s = c .before .before in
-    c .passes-unless .ensures
-    ∙ rw (true-here (s .before .before .before .before), type-here (s .before .before), engine-here s, c .before .load-at .ensures)
+    passes-andThen _ _ _ (board-passed (c .before .before .before .before .before .before .before .before))
+    (passes-andThen _ _ _ (type-passed (c .before .before .before .before))
+    (passes-andThen _ _ _ (engine-passed (c .before)) (c .held-check .ensures)))
 
 pub check-retire-spec : {M : Type 1} → statement M
 check-retire-spec =
     tie.close
     (tie.spec
-    true-board-requires
+    board-check-requires
+    enum-known-board
     returns
-    known-type-requires
+    enum-told
+    type-check-requires
+    enum-known-task
     returns-2
-    known-engine-requires
+    enum-told-2
+    engine-check-requires
+    enum-known-engine
     returns-3
-    load-at-requires
-    sub-i
-    mul-passes-unless
-    array-read-passes-unless
-    passes-unless-requires
+    enum-told-3
+    held-check-requires
     returns-4)

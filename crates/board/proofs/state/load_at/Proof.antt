@@ -7,7 +7,7 @@ use borrow.Author.Needs.{needs}
 use Rattle.loads.specs.declared.EngineLoad.{EngineLoad}
 use Rattle.loads.proofs.Steps.{length-mapped}
 use Rattle.loads.specs.Load.{idleEngine}
-use Rattle.board.proofs.Steps.{getD-inside}
+use Rattle.partition.proofs.Lists.{getD-inside}
 use Rattle.board.proofs.state.load_at.Statement.{statement}
 use Rattle.board.proofs.state.load_at.Tie as tie
 

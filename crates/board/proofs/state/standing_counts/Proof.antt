@@ -5,7 +5,7 @@ use mathlib.Core.List.{List}
 use lib.ListN.{getD}
 use native.Mathlib.Omega.{arith}
 use borrow.Author.Needs.{needs}
-use Rattle.board.specs.Truth.{standing}
+use Rattle.board.specs.Boards.{standing}
 use Rattle.board.proofs.Ready.{standing-small}
 use Rattle.board.proofs.state.standing_counts.Statement.{statement}
 use Rattle.board.proofs.state.standing_counts.Tie as tie

@@ -4,7 +4,7 @@ use mathlib.Core.Path.{_≡_, sym, ap, _∙_}
 use lib.ListN.{length, getD, drop}
 use native.Mathlib.Omega.{arith}
 use borrow.Author.Needs.{needs}
-use Rattle.board.specs.Truth.{standingOf}
+use Rattle.board.specs.Boards.{standingOf}
 use Rattle.board.proofs.Steps.{getD-zeros, standing-turn, standing-end}
 use Rattle.board.proofs.state.total.Statement.{statement}
 use Rattle.board.proofs.state.total.Tie as tie

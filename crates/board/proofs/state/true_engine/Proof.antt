@@ -7,11 +7,8 @@ use borrow.Author.Needs.{needs}
 use Rattle.board.proofs.state.true_engine.Statement.{statement}
 use Rattle.board.proofs.state.true_engine.Tie as tie
 
-time-of-requires : tie.Need-time-of-requires
-time-of-requires c κs = search needs
-
-memory-of-requires : tie.Need-memory-of-requires
-memory-of-requires c κs = search needs
+sums-of-requires : tie.Need-sums-of-requires
+sums-of-requires c κs = search needs
 
 cast-result : tie.Need-cast-result
 cast-result c = search needs
@@ -26,14 +23,13 @@ returns : tie.Need-returns
 returns c =
     let a = c .before .before .before .before .before .before .before .args in
     let l : length (a .l .counts) ≡ typeLimit = search needs in
-    rw (eq-eqb _ _ l, c .before .before .before .before .time-of .ensures, c .before .before .before .memory-of .ensures, c .fits-engine .ensures)
+    rw (eq-eqb _ _ l, c .before .before .before .before .before .sums-of .ensures, c .fits-engine .ensures)
 
 pub true-engine-spec : {M : Type 1} → statement M
 true-engine-spec =
     tie.close
     (tie.spec
-    time-of-requires
-    memory-of-requires
+    sums-of-requires
     cast-result
     cast-result-2
     fits-engine-requires

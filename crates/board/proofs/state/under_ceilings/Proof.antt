@@ -12,10 +12,10 @@ use Rattle.board.proofs.state.under_ceilings.Statement.{statement}
 use Rattle.board.proofs.state.under_ceilings.Tie as tie
 
 abbrev Inv-loop : tie.InvT-loop
-Inv-loop sum tasks under₀ t₀ under t = (t ≤ 6) × ((under && within (drop t sum) (ceilings (drop t tasks))) ≡ within sum (ceilings tasks))
+Inv-loop sum types under₀ t₀ under t = (t ≤ 6) × ((under && within (drop t sum) (ceilings (drop t types))) ≡ within sum (ceilings types))
 
 abbrev μ-loop : tie.MeasureT-loop
-μ-loop sum tasks under₀ t₀ under t = 6 - t
+μ-loop sum types under₀ t₀ under t = 6 - t
 
 loop-holds : tie.Need-loop-holds Inv-loop μ-loop
 loop-holds c = (omega arith, refl)

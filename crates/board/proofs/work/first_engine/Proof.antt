@@ -1,76 +1,95 @@
--- The loop's invariant: the lowest engine from e on that takes the newcomer is the lowest of all.
-use Prim.Native.Nat.{suc, _+_, _-_, _≤_}
-use mathlib.Core.Path.{_≡_, sym, _∙_}
-use native.Mathlib.Omega.{arith}
-use borrow.Author.Tests.{le-leb}
+-- The loop's invariant: the first of the engines left that takes the newcomer is the first of all.
+use Prim.Native.Nat.{ℕ, _-_, _≤_, _<_}
+use mathlib.Core.Path.{_≡_, refl, sym, ap, subst, _∙_}
+use mathlib.Core.List.{List}
 use mathlib.Core.Bool.{true, false}
-use lib.Dec.{leb}
-use Rattle.loads.proofs.Order.{and-both}
-use Rattle.partition.specs.Cell.{lowest}
-use Rattle.board.specs.Calls.{takes, firstEngine}
-use Rattle.board.proofs.Steps.{lowest-turn, lowest-stop, lowest-past, place-engine, place-nowhere}
-use Rattle.board.proofs.Ready.{engines-most}
+use native.Mathlib.Omega.{arith}
+use lib.ListN.{length, getD, drop}
+use lib.Seq.{getD-take}
+use Rattle.system.specs.Limits.{engineLimit}
+use Rattle.partition.specs.Assignment.{among}
+use Rattle.partition.proofs.Lists.{every-among, every-getD}
+use Rattle.board.specs.declared.Board.{Board}
+use Rattle.board.specs.Boards.{enginesOf}
+use Rattle.board.specs.declared.Place.the-variants.{Engine}
+use Rattle.board.specs.Calls.{takes, firstOf, firstEngine}
+use Rattle.board.specs.Inner.{OnEngine}
+use Rattle.board.proofs.Places.{engines-count}
+use Rattle.board.proofs.Steps.{first-stop, first-turn, first-end}
+use Rattle.board.proofs.Ready.{engines-most, on-engine}
 use Rattle.board.proofs.work.first_engine.Statement.{statement}
 use Rattle.board.proofs.work.first_engine.Tie as tie
 
 abbrev Inv-loop : tie.InvT-loop
-Inv-loop b t y e₀ e =
-    (1 ≤ e) × (e ≤ b .system .engines + 1) × (lowest (takes b t) (suc (b .system .engines)) (b .system .engines + 1 - e) e ≡ firstEngine b t)
+Inv-loop b t numbers i₀ i-end i = (i ≤ i-end) × (firstOf (takes b t) (drop i (enginesOf b)) ≡ firstEngine b t)
 
 abbrev μ-loop : tie.MeasureT-loop
-μ-loop b t y e₀ e = b .system .engines + 1 - e
+μ-loop b t numbers i₀ i-end i = i-end - i
+
+engines-of-requires : tie.Need-engines-of-requires Inv-loop μ-loop
+engines-of-requires c κs = c .pre .isTrue
 
 loop-holds : tie.Need-loop-holds Inv-loop μ-loop
-unfolding firstEngine
-loop-holds c =
-    let m = c .before .args .b .system .engines in
-    let e : m + 1 - 1 ≡ m = omega arith in
-    (omega arith, omega arith, rw e)
+loop-holds c = (omega arith, refl)
+
+-- the engine at index i
+module _ (c : tie.In-loop Inv-loop μ-loop) where
+  abbrev start : tie.Start Inv-loop μ-loop
+  start = c .before .before .before .before
+
+  abbrev b : Board
+  b = start .args .b
+
+  abbrev i : ℕ
+  i = c .before .loop .i
+
+  small : i < length (enginesOf b)
+  small = omega (arith, c .before .before .before .engines-of .ensures .0, c .before .loop .inv .0)
+
+  few : i < engineLimit
+  few = omega (arith, small, engines-count b, engines-most b (start .pre .isTrue))
+
+  number : getD (c .before .before .before .engines-of .result .numbers) i 0 ≡ getD (enginesOf b) i 0
+  number =
+      let found = c .before .before .before .engines-of in
+      sym (getD-take (found .result .count) (found .result .numbers) i 0 (omega (arith, small, found .ensures .0))) ∙ ap (λ (l : List ℕ). getD l i 0) (found .ensures .1)
+
+mul-e : tie.Need-mul-e Inv-loop μ-loop
+mul-e c = omega (arith, few c)
+
+array-read-e : tie.Need-array-read-e Inv-loop μ-loop
+array-read-e c = few c
 
 takes-it-requires : tie.Need-takes-it-requires Inv-loop μ-loop
 takes-it-requires c κs =
-    let start = c .before .before .before .before in
-    let m = start .args .b .system .engines in
-    let e = c .before .before .loop .e in
-    let least : 1 ≤ e = c .before .before .loop .inv .0 in (
-      start .pre,
-      record { isTrue = start .pre .isTrue; known = and-both (leb 1 e) (leb e m) (le-leb 1 e least) (le-leb e m (c .if1 .taken)) },
-    )
+    let es = enginesOf (b c) in
+    (start c .pre, subst (OnEngine (b c)) (sym (number c)) (on-engine (b c) (start c .pre .isTrue) (getD es (i c) 0) (every-getD (among es) es 0 (i c) (every-among es) (small c))))
 
 returns : tie.Need-returns Inv-loop μ-loop
 returns c =
-    let b = c .before .before .before .before .before .before .args .b in
-    let t = c .before .before .before .before .before .before .args .t in
-    let here = c .before .before .before .before .loop in
-    let takesIt : takes b t (here .e) ≡ true = sym (c .before .takes-it .ensures) ∙ c .if2 .taken in
-    place-engine (b .system .engines) (here .e) (firstEngine b t)
-    (sym (here .inv .2) ∙ lowest-stop (takes b t) (suc (b .system .engines)) (b .system .engines) (here .e) (c .before .before .if1 .taken) takesIt)
-    (c .before .before .if1 .taken)
+    let d = c .before .before in
+    let p = takes (b d) (start d .args .t) in
+    let takesIt : p (getD (enginesOf (b d)) (i d) 0) ≡ true = ap p (sym (number d)) ∙ sym (c .before .takes-it .ensures) ∙ c .if1 .taken in
+    ap Engine (number d) ∙ sym (first-stop p (enginesOf (b d)) (i d) (small d) takesIt) ∙ d .before .loop .inv .1
 
-add-e : tie.Need-add-e Inv-loop μ-loop
-add-e c = let start = c .before .before .before .before .before .before in omega (arith, c .before .before .if1 .taken, engines-most (start .args .b) (start .pre .isTrue))
+add-i : tie.Need-add-i Inv-loop μ-loop
+add-i c = omega (arith, few (c .before .before))
 
 loop-less : tie.Need-loop-less Inv-loop μ-loop
 loop-less c = omega arith
 
 loop-again : tie.Need-loop-again Inv-loop μ-loop
 loop-again c =
-    let b = c .before .before .before .before .before .before .args .b in
-    let t = c .before .before .before .before .before .before .args .t in
-    let here = c .before .before .before .before .loop in
-    let not′ : takes b t (here .e) ≡ false = sym (c .before .takes-it .ensures) ∙ c .if2 .left in (
-      omega arith,
-      omega arith,
-      sym (lowest-turn (takes b t) (suc (b .system .engines)) (b .system .engines) (here .e) (c .before .before .if1 .taken) not′) ∙ here .inv .2,
-    )
+    let d = c .before .before in
+    let p = takes (b d) (start d .args .t) in
+    let not′ : p (getD (enginesOf (b d)) (i d) 0) ≡ false = ap p (sym (number d)) ∙ sym (c .before .takes-it .ensures) ∙ c .if1 .left in
+    (omega arith, sym (first-turn p (enginesOf (b d)) (i d) (small d) not′) ∙ d .before .loop .inv .1)
 
 returns-2 : tie.Need-returns-2 Inv-loop μ-loop
 returns-2 c =
-    let b = c .before .before .before .before .args .b in
-    let t = c .before .before .before .before .args .t in
-    let here = c .before .before .loop in
-    place-nowhere (b .system .engines) (firstEngine b t)
-    (sym (here .inv .2) ∙ lowest-past (takes b t) (suc (b .system .engines)) (b .system .engines) (here .e) (c .if1 .left))
+    let s = c .before .before .before .before in
+    let es = enginesOf (s .args .b) in
+    sym (first-end (takes (s .args .b) (s .args .t)) es (c .before .loop .i) (omega (arith, c .before .before .before .engines-of .ensures .0))) ∙ c .before .loop .inv .1
 
 pub first-engine-spec : {M : Type 1} → statement M
 first-engine-spec =
@@ -78,10 +97,13 @@ first-engine-spec =
     (tie.spec
     Inv-loop
     μ-loop
+    engines-of-requires
     loop-holds
+    mul-e
+    array-read-e
     takes-it-requires
     returns
-    add-e
+    add-i
     loop-less
     loop-again
     returns-2)

@@ -1,7 +1,7 @@
 -- The engine's load with the newcomer, which fits it, put on it.
 use mathlib.Core.Path.{refl, ap, _∙_}
 use Rattle.loads.specs.Load.{fitsEngine}
-use Rattle.board.specs.Truth.{withLoad}
+use Rattle.board.specs.Boards.{withLoad}
 use Rattle.board.proofs.Ready.{engine-in}
 use Rattle.board.proofs.work.join.Statement.{statement}
 use Rattle.board.proofs.work.join.Tie as tie

@@ -4,7 +4,7 @@ use mathlib.Core.Path.{refl, ap, _∙_}
 use borrow.Author.Needs.{needs}
 use Rattle.loads.specs.Load.{fitsEngine}
 use Rattle.loads.proofs.Laws.{fits-one-less}
-use Rattle.board.specs.Truth.{loadAt, withLoad}
+use Rattle.board.specs.Boards.{loadAt, withLoad}
 use Rattle.board.proofs.Ready.{engine-in, load-fits}
 use Rattle.board.proofs.work.leave.Statement.{statement}
 use Rattle.board.proofs.work.leave.Tie as tie

@@ -5,7 +5,7 @@ use mathlib.Core.List.{List}
 use lib.ListN.{getD}
 use native.Mathlib.Omega.{arith}
 use Rattle.loads.specs.Load.{oneMore}
-use Rattle.board.specs.Truth.{loadAt}
+use Rattle.board.specs.Boards.{loadAt}
 use Rattle.board.proofs.Ready.{engine-in, newcomer-range, load-small, standing-small}
 use Rattle.board.proofs.work.load_with.Statement.{statement}
 use Rattle.board.proofs.work.load_with.Tie as tie

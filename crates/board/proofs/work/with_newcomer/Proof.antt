@@ -5,7 +5,7 @@ use mathlib.Core.List.{List}
 use lib.ListN.{getD}
 use native.Mathlib.Omega.{arith}
 use Rattle.loads.specs.Load.{oneMore}
-use Rattle.board.specs.Truth.{standing}
+use Rattle.board.specs.Boards.{standing}
 use Rattle.board.proofs.Ready.{newcomer-range, standing-small}
 use Rattle.board.proofs.work.with_newcomer.Statement.{statement}
 use Rattle.board.proofs.work.with_newcomer.Tie as tie

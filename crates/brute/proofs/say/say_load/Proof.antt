@@ -5,10 +5,10 @@ use Rattle.brute.proofs.say.say_load.Statement.{statement}
 use Rattle.brute.proofs.say.say_load.Tie as tie
 
 abbrev Inv-loop : tie.InvT-loop
-Inv-loop types counts t₀ t = t ≤ 6
+Inv-loop typecount counts t₀ t = t ≤ 6
 
 abbrev μ-loop : tie.MeasureT-loop
-μ-loop types counts t₀ t = 6 - t
+μ-loop typecount counts t₀ t = 6 - t
 
 slice-aggregate-say : tie.Need-slice-aggregate-say Inv-loop μ-loop
 slice-aggregate-say c = search needs

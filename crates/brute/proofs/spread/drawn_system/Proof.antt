@@ -5,10 +5,10 @@ use Rattle.brute.proofs.spread.drawn_system.Statement.{statement}
 use Rattle.brute.proofs.spread.drawn_system.Tie as tie
 
 abbrev Inv-loop : tie.InvT-loop
-Inv-loop seed engines types most large d₀ t₀ d t = t ≤ 6
+Inv-loop seed engines typecount most large d₀ t₀ d t = t ≤ 6
 
 abbrev μ-loop : tie.MeasureT-loop
-μ-loop seed engines types most large d₀ t₀ d t = 6 - t
+μ-loop seed engines typecount most large d₀ t₀ d t = 6 - t
 
 draw-requires : tie.Need-draw-requires Inv-loop μ-loop
 draw-requires c κs = search needs

@@ -25,10 +25,10 @@ ceilings-end : (ts : List TaskType) (i : ℕ) → length ts ≤ i → ceilingsIn
 ceilings-end ts i h = rw (drop-of-length-le ts {i = i})
 
 abbrev Inv-loop : tie.InvT-loop
-Inv-loop tasks ceilings₀ i₀ ceilings i = (i ≤ 6) × (length ceilings ≡ 6) × (take i ceilings ++ ceilingsIn (drop i tasks) ≡ ceilingsIn tasks)
+Inv-loop types ceilings₀ i₀ ceilings i = (i ≤ 6) × (length ceilings ≡ 6) × (take i ceilings ++ ceilingsIn (drop i types) ≡ ceilingsIn types)
 
 abbrev μ-loop : tie.MeasureT-loop
-μ-loop tasks ceilings₀ i₀ ceilings i = 6 - i
+μ-loop types ceilings₀ i₀ ceilings i = 6 - i
 
 loop-holds : tie.Need-loop-holds Inv-loop μ-loop
 loop-holds c = (omega arith, refl, refl)
@@ -53,7 +53,7 @@ loop-less c = omega arith
 
 loop-again : tie.Need-loop-again Inv-loop μ-loop
 loop-again c =
-    let ts = c .before .before .before .before .args .y .tasks in
+    let ts = c .before .before .before .before .args .y .types in
     let here = c .before .before .loop in
     let lt : length ts ≡ 6 = search (needs, length-mapped) in
     let ll : length (here .ceilings) ≡ 6 = here .inv .1 in (
@@ -65,7 +65,7 @@ loop-again c =
 
 returns : tie.Need-returns Inv-loop μ-loop
 returns c =
-    let ts = c .before .before .before .args .y .tasks in
+    let ts = c .before .before .before .args .y .types in
     let here = c .before .loop in
     let lt : length ts ≡ 6 = search (needs, length-mapped) in
     let ll : length (here .ceilings) ≡ 6 = here .inv .1 in

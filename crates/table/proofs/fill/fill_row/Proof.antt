@@ -31,7 +31,7 @@ small-start c =
     mul-le-mul {n₂ = 16} {m₂ = 1024} (omega (arith, p .few)) (omega (arith, p .wide, limits-of (c .args .y) (p .limits) .columns))
 
 six-ceilings : (c : tie.Start Inv-loop μ-loop) → length (ceilingsOf (c .args .y)) ≡ 6
-six-ceilings c = length-map (c .args .y .tasks) (λ (t : TaskType). t .ceiling) ∙ limits-of (c .args .y) (c .pre .limits) .six
+six-ceilings c = length-map (c .args .y .types) (λ (t : TaskType). t .ceiling) ∙ limits-of (c .args .y) (c .pre .limits) .six
 
 -- the entry that is written lies in the table
 entry-at : (c : tie.After-cell Inv-loop μ-loop) →

@@ -1,4 +1,4 @@
--- The column is one of the row's, the row is the lowest that says yes, and recovery from it onto idle engines is the placement.
+-- The column is one of the row's, the row is the lowest that says yes, and recovery from it onto idle rows is what is placed.
 use Prim.Native.Nat.{_<_}
 use mathlib.Core.Path.{_≡_, ap, _∙_}
 use native.Mathlib.Omega.{arith}
@@ -8,10 +8,9 @@ use Rattle.system.proofs.Laws.{limits-of}
 use Rattle.loads.specs.Load.{fitsEngine}
 use Rattle.loads.proofs.Column.{columnOf-lt}
 use Rattle.partition.specs.Cell.{lowestRow}
-use Rattle.partition.specs.ForSystem.{rowFor}
 use Rattle.partition.proofs.Rows.{lowestRow-yes}
 use Rattle.table.proofs.Shown.{shows-fewer, rowShown-cells}
-use Rattle.table.proofs.Placed.{placement-found, placement-none}
+use Rattle.table.proofs.Placed.{rows-found, rows-none}
 use Rattle.table.proofs.recovery.placed_by.Statement.{statement}
 use Rattle.table.proofs.recovery.placed_by.Tie as tie
 
@@ -29,52 +28,49 @@ lowest-row-requires c κs = (c .before .before .pre .0 .room, column-small c)
 
 -- the row that was found is the lowest that says yes
 is-lowest : (c : tie.After-lowest-row) →
-    let y = c .before .before .before .args .y in
-    c .lowest-row .result ≡ lowestRow (fitsEngine y) (ceilingsOf y) (y .engines) (c .before .column-of .result)
-is-lowest c = c .lowest-row .ensures ∙ rowShown-cells (c .before .before .before .pre .0) (c .before .column-of .result) (column-small (c .before))
-
-is-row : (c : tie.After-lowest-row) → c .lowest-row .result ≡ rowFor (c .before .before .before .args .y) (c .before .before .before .args .counts)
-is-row c =
     let start = c .before .before .before in
     let y = start .args .y in
-    is-lowest c ∙ ap (lowestRow (fitsEngine y) (ceilingsOf y) (y .engines)) (c .before .column-of .ensures)
+    c .lowest-row .result ≡ lowestRow (fitsEngine y) (ceilingsOf y) (start .args .rows) (c .before .column-of .result)
+is-lowest c = c .lowest-row .ensures ∙ rowShown-cells (c .before .before .before .pre .0) (c .before .column-of .result) (column-small (c .before))
 
 idle-engine-requires : tie.Need-idle-engine-requires
 idle-engine-requires c κs = search needs
 
 recover-requires : tie.Need-recover-requires
 recover-requires c κs =
-    let start = c .before .before .before .before .before .before in
+    let start = c .before .before .before .before .before in
     let y = start .args .y in
-    let lowest = is-lowest (c .before .before .before) in
+    let lowest = is-lowest (c .before .before) in
     record {
-      shows = shows-fewer (start .pre .0) (c .before .before .before .lowest-row .result) (c .if1 .taken);
-      inside = column-small (c .before .before .before .before);
-      says = rw lowest (lowestRow-yes (fitsEngine y) (ceilingsOf y) (y .engines) (c .before .before .before .before .column-of .result) (rw lowest at (c .if1 .taken)));
+      shows = shows-fewer (start .pre .0) (c .before .before .lowest-row .result) (c .if1 .taken);
+      inside = column-small (c .before .before .before);
+      says = rw lowest (lowestRow-yes (fitsEngine y) (ceilingsOf y) (start .args .rows) (c .before .before .before .column-of .result) (rw lowest at (c .if1 .taken)));
     }
 
 returns : tie.Need-returns
 returns c =
-    let start = c .before .before .before .before .before .before .before in
-    placement-found (start .args .y) (limits-of (start .args .y) (start .pre .0 .limits)) (start .args .counts)
-    (c .before .before .before .before .lowest-row .result)
-    (c .before .before .before .before .before .column-of .result)
-    (c .before .before .before .idle-engine .result)
+    let start = c .before .before .before .before .before .before in
+    rows-found (start .args .y) (start .args .rows) (start .args .counts)
+    (c .before .before .before .lowest-row .result)
+    (c .before .before .before .before .column-of .result)
+    (c .before .before .idle-engine .result)
+    (is-lowest (c .before .before .before))
+    (c .before .before .before .before .column-of .ensures)
+    (c .before .before .idle-engine .ensures)
     (c .recover .result)
-    (is-row (c .before .before .before .before))
-    (c .before .before .before .before .before .column-of .ensures)
-    (c .before .before .before .idle-engine .ensures)
     (c .recover .ensures)
     (c .before .if1 .taken)
 
 returns-2 : tie.Need-returns-2
 returns-2 c =
-    let start = c .before .before .before .before .before .before in
-    placement-none (start .args .y) (start .args .counts)
-    (c .before .before .before .lowest-row .result)
-    (c .before .before .idle-engine .result)
-    (is-row (c .before .before .before))
-    (c .before .before .idle-engine .ensures)
+    let start = c .before .before .before .before .before in
+    rows-none (start .args .y) (start .args .rows) (start .args .counts)
+    (c .before .before .lowest-row .result)
+    (c .before .before .before .column-of .result)
+    (c .before .idle-engine .result)
+    (is-lowest (c .before .before))
+    (c .before .before .before .column-of .ensures)
+    (c .before .idle-engine .ensures)
     (c .if1 .left)
 
 pub placed-by-spec : {M : Type 1} → statement M

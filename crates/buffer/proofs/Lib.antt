@@ -1,0 +1,2 @@
+-- The laws of crate `buffer`.
+pub mod Laws

@@ -1,0 +1,3 @@
+-- The definitions of crate `buffer`, in reading order.
+pub mod Bytes
+pub mod Written

@@ -1,0 +1,125 @@
+// Example: a live board, from opening it to reading what its engines hold. A program of your own can begin as a copy of this one.
+// It is proved like everything here, and needs no proof file: no call on a board has a `requires`, and there is no loop.
+use board::Board;
+use board::admit;
+use board::open_board;
+use board::retire;
+use board::seat;
+use libc::STDOUT_FILENO;
+use loads::EngineLoad;
+use system::Answer;
+use system::Refusal;
+
+// Opens a board, makes ten calls, and says what each answered. Each call takes the board that the call before it handed back, also
+// where that call was refused.
+fn main() {
+    // A system file: the platform (m 2, rule 0, U 10, S 8), type 1 (u 4, s 3, n 3), type 2 (u 3, s 2, n 2).
+    let file =
+        b"\x01\x00\x0a\x02\x00\x00\x00\x00\x0a\x00\x00\x00\x08\x02\x00\x0a\x00\x00\x00\x04\x00\x00\x00\x03\x00\x03\x02\x00\x0a\x00\x00\x00\x03\x00\x00\x00\x02\x00\x02";
+    let opened = open_board(file);
+    let answer = opened.answer;
+    say(b"open:");
+    say_answer(answer);
+    let Answer::Accepted = answer else {
+        return;
+    };
+    // Admit and seat work in this table: (2 + 1) × (3 + 1) × (2 + 1) entries or more. 17,408 are enough for every system.
+    let mut table = [0u16; 36];
+    let b = opened.board;
+    let b = admitted(b, 1, &mut table);
+    let b = admitted(b, 1, &mut table);
+    let b = admitted(b, 1, &mut table);
+    let b = admitted(b, 2, &mut table);
+    let b = admitted(b, 2, &mut table);
+    let b = retired(b, 1, 1);
+    let b = retired(b, 2, 2);
+    let b = admitted(b, 2, &mut table);
+    // No engine takes this one as things stand, but after moving others there is room: refused 23. So the operator seats it.
+    let b = admitted(b, 1, &mut table);
+    let b = seated(b, 1, &mut table);
+    say_board(b);
+}
+
+// Admits one instance of type t, says what was answered, and hands on the board.
+fn admitted(b: Board, t: usize, table: &mut [u16]) -> Board {
+    let turn = admit(b, t, table);
+    let answer = turn.answer;
+    say_named(b"admit", t);
+    say(b":");
+    say_answer(answer);
+    turn.board
+}
+
+// Seats one instance of type t, which may move others.
+fn seated(b: Board, t: usize, table: &mut [u16]) -> Board {
+    let turn = seat(b, t, table);
+    let answer = turn.answer;
+    say_named(b"seat", t);
+    say(b":");
+    say_answer(answer);
+    turn.board
+}
+
+// Retires one instance of type t from engine e. This call takes no table.
+fn retired(b: Board, t: usize, e: usize) -> Board {
+    let turn = retire(b, t, e);
+    let answer = turn.answer;
+    say_named(b"retire", t);
+    say_named(b" from engine", e);
+    say(b":");
+    say_answer(answer);
+    turn.board
+}
+
+// The end of a call's line: what was answered. An admit that is accepted answers with its engine's number.
+fn say_answer(a: Answer) {
+    match a {
+        Answer::Accepted => say(b" accepted"),
+        Answer::Number(e) => say_named(b" accepted on engine", e),
+        Answer::Refused(why) => say_refusal(why),
+    }
+    say(b"\n");
+}
+
+// A refusal comes from the input (1 to 15) or from the state of the board (20 to 24).
+fn say_refusal(why: Refusal) {
+    match why {
+        Refusal::Input(n) => say_named(b" refused", n as usize),
+        Refusal::State(n) => say_named(b" refused", n as usize),
+    }
+}
+
+// What the two engines hold, in the words of a listing. Engine e is at index e - 1.
+fn say_board(b: Board) {
+    let loads = b.loads;
+    say_engine(1, loads[0]);
+    say_engine(2, loads[1]);
+}
+
+// An engine's number, time, memory, and how many of each of the two types it holds.
+fn say_engine(e: usize, load: EngineLoad) {
+    let counts = load.counts;
+    say_named(b"engine", e);
+    say_named(b" util", load.time as usize);
+    say_named(b" mem", load.memory as usize);
+    say(b" types");
+    say_count(counts[0]);
+    say_count(counts[1]);
+    say(b"\n");
+}
+
+// A count, after a space.
+fn say_count(n: u16) {
+    say_named(b"", n as usize);
+}
+
+// A name, a space, a number.
+fn say_named(name: &[u8], n: usize) {
+    say(name);
+    say(b" ");
+    io::print_decimal(STDOUT_FILENO, n as u64);
+}
+
+fn say(text: &[u8]) {
+    io::write_all(STDOUT_FILENO, text);
+}

@@ -1,0 +1,90 @@
+-- The plain words in which the demands are stated: n(t), the columns, a table long enough, the limits, what it is to partition instances among engines, and the engines used.
+-- No contract of a function cites them, and they go through no word that one cites, so that code and statement cannot be wrong together; laws say that the code's words mean the same.
+use Prim.Native.Nat.{ℕ, zero, suc, _+_, _-_, _*_, _≤_, _<_}
+use mathlib.Core.List.{List, []}
+use mathlib.Core.Bool.{Bool, cond}
+use mathlib.Core.Path.{_≡_}
+use lib.ListN.{length, getD}
+use Rattle.system.specs.declared.TaskType.{TaskType}
+use Rattle.system.specs.declared.System.{System}
+use Rattle.loads.specs.declared.EngineLoad.{EngineLoad}
+use Rattle.partition.specs.Assignment.{Assignment, among, anyOf}
+use Rattle.partition.specs.OwnWords.{overInstances, timeOn, memoryOn, sharedMemoryOn, Definition1}
+
+-- type t, counted from 1: its u, s and n; all 0 where there is no such type
+abbrev pub typeNo : System → ℕ → TaskType
+typeNo y t = getD (y .types) (t - 1) (record { time = 0; memory = 0; ceiling = 0 })
+
+abbrev pub ceilingNo : System → ℕ → ℕ
+ceilingNo y t = typeNo y t .ceiling
+
+-- "the product of all n(t)+1, called the columns", written out: a system has six types, and n is 0 past k
+abbrev pub columnsOut : System → ℕ
+columnsOut y =
+    (ceilingNo y 1 + 1) * ((ceilingNo y 2 + 1) * ((ceilingNo y 3 + 1) * ((ceilingNo y 4 + 1) * ((ceilingNo y 5 + 1) * (ceilingNo y 6 + 1)))))
+
+-- a table that 11 passes has (m+1) × columns entries
+abbrev pub LongEnough : System → List ℕ → Type 0
+LongEnough y table = (y .engines + 1) * columnsOut y ≤ length table
+
+-- the limits of document 01, number by number. That there are six types is what an array of the code always has
+pub record LimitsOut (y : System) : Type 0 where
+  pub engines : (1 ≤ y .engines) × (y .engines ≤ 16)
+  pub rule : y .rule ≤ 1
+  pub capacities : (y .timecap ≤ 1000000) × (y .memorycap ≤ 1000000)
+  pub known : (1 ≤ y .typecount) × (y .typecount ≤ 6)
+  pub six : length (y .types) ≡ 6
+  pub costs : (t : ℕ) → 1 ≤ t → t ≤ y .typecount → (typeNo y t .time ≤ 1000000) × (typeNo y t .memory ≤ 1000000)
+  -- "an entry for .. a type past k (the system's own u, s and n too)" is 0
+  pub past : (t : ℕ) → y .typecount < t → (typeNo y t .time ≡ 0) × (typeNo y t .memory ≡ 0) × (typeNo y t .ceiling ≡ 0)
+  pub columns : columnsOut y ≤ 1024
+
+-- "m identical engines, numbered 1 to m"
+abbrev pub EngineOf : System → ℕ → Type 0
+EngineOf y e = (1 ≤ e) × (e ≤ y .engines)
+
+-- the places of the instances of type t, counted from 1
+abbrev pub placesNo : Assignment → ℕ → List ℕ
+placesNo χ t = getD χ (t - 1) []
+
+-- χ sends count(t) instances of each type t to the engines, and nothing else, and keeps source 001, Definition 1
+pub record Partition (y : System) (E : ℕ → Type 0) (count : ℕ → ℕ) (χ : Assignment) : Type 0 where
+  pub six : length χ ≡ 6
+  pub all : (t : ℕ) → 1 ≤ t → length (placesNo χ t) ≡ count t
+  pub keeps : Definition1 y E χ
+
+-- there is none
+abbrev pub Impossible : System → (ℕ → Type 0) → (ℕ → ℕ) → Type 0
+Impossible y E count = (χ : Assignment) → Partition y E count χ → ⊥
+
+-- "An engine is used if it holds at least one instance": some instance of some type is sent to engine e
+abbrev pub hosts : Assignment → ℕ → Bool
+hosts χ e = anyOf (λ (places : List ℕ). among places e) χ
+
+-- how many of the engines 1 to m are used
+unfoldable pub usedTo : ℕ → Assignment → ℕ
+usedTo zero χ = 0
+usedTo (suc m) χ = usedTo m χ + cond (hosts χ (suc m)) 1 0
+
+-- an engine's record is what χ sends to engine e: of each type the number of its instances there, the sum of their u, and their memory under the system's rule
+pub record RecordIs (y : System) (χ : Assignment) (e : ℕ) (l : EngineLoad) : Type 0 where
+  pub counts : (t : ℕ) → 1 ≤ t → getD (l .counts) (t - 1) 0 ≡ overInstances e 1 (placesNo χ t)
+  pub time : l .time ≡ timeOn e (y .types) χ
+  pub ownCopies : y .rule ≡ 0 → l .memory ≡ memoryOn e (y .types) χ
+  pub sharedCode : y .rule ≡ 1 → l .memory ≡ sharedMemoryOn e (y .types) χ
+
+-- the record of engine e, counted from 1
+abbrev pub recordNo : List EngineLoad → ℕ → EngineLoad
+recordNo loads e = getD loads (e - 1) (record { time = 0; memory = 0; counts = [] })
+
+-- the engines' records are a partition of count(t) instances of each type: each record what the mapping sends to its engine
+pub record Stands (y : System) (E : ℕ → Type 0) (count : ℕ → ℕ) (loads : List EngineLoad) : Type 0 where
+  pub mapping : Assignment
+  pub partition : Partition y E count mapping
+  pub records : (e : ℕ) → 1 ≤ e → e ≤ length loads → RecordIs y mapping e (recordNo loads e)
+
+-- such a partition on `used` engines, and on the fewest: every other one uses at least as many
+pub record StandsOnFewest (y : System) (E : ℕ → Type 0) (count : ℕ → ℕ) (loads : List EngineLoad) (used : ℕ) : Type 0 where
+  pub stands : Stands y E count loads
+  pub uses : usedTo (y .engines) (stands .mapping) ≡ used
+  pub fewest : (χ : Assignment) → Partition y E count χ → used ≤ usedTo (y .engines) χ

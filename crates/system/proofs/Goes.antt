@@ -1,0 +1,207 @@
+-- How a reading goes on: the laws over plain variables that the proofs of the reader's functions cite, in the order of the functions.
+use Prim.Native.Nat.{ℕ, zero, suc, _+_, _-_, _≤_, _<_}
+use native.Mathlib.Omega.{arith}
+use mathlib.Core.List.{List, [], _∷_}
+use mathlib.Core.Bool.{Bool, true, false, not, cond}
+use mathlib.Core.Path.{_≡_, sym, ap, _∙_, subst}
+use mathlib.Core.Logic.{_⊎_, inl, inr}
+use borrow.Author.Tests.{le-leb, lt-leb, eq-eqb, ne-eqb}
+use lib.ListN.{length, drop, length-drop, drop-of-length-le}
+use lib.Seq.{drop-drop}
+use lib.Dec.{leb, lit≤}
+use Rattle.system.specs.declared.System.{System}
+use Rattle.system.specs.declared.rules.FieldRule.{FieldRule}
+use Rattle.system.specs.declared.rules.RuleFound.{RuleFound}
+use Rattle.system.specs.declared.rules.RuleFound.the-variants.{Known, Unknown}
+use Rattle.system.specs.declared.reader.Head.{Head}
+use Rattle.system.specs.declared.reader.Head.the-variants.{Ruled, Stops}
+use Rattle.system.specs.declared.reader.Field.{Field}
+use Rattle.system.specs.declared.Answer.the-variants.{Accepted}
+use Rattle.system.specs.declared.Opened.{Opened}
+use Rattle.system.specs.Inner.{partOf}
+use Rattle.system.specs.Values.{blank}
+use Rattle.system.specs.Limits.{typeLimit}
+use Rattle.system.specs.Rules.{platformRule, typeRule, fieldRules, ruleOf, follows, mayFollow, headSize}
+use Rattle.system.specs.Layout.{Reading, opened, unread, byteAt, word2, fieldSize, wholeField, bodyPart, fieldAt, bodyAt, seenOf, platformOf, typeOf}
+use Rattle.system.specs.Layout.{ruledHead, headFrom, headOf, bodyOf, ruledField, fieldOf, endOf, afterField, fieldsFrom, readFile, Reads}
+use Rattle.system.proofs.Laws.{whole-inside, body-is, headFrom-ruled, fieldOf-opened, fieldsFrom-nil, only-accepted, reads-opened}
+
+-- The field step, where s is what is left of the file
+
+module _ (file : List ℕ) (at : ℕ) (s : List ℕ) (rest : s ≡ drop at file) (tag size : ℕ) (first : tag ≡ byteAt s 0) (next-two : size ≡ word2 s 1) where
+  same-tag : tag ≡ byteAt (drop at file) 0
+  same-tag = first ∙ ap (λ (x : List ℕ). byteAt x 0) rest
+
+  same-size : size ≡ word2 (drop at file) 1
+  same-size = next-two ∙ ap (λ (x : List ℕ). word2 x 1) rest
+
+  same-whole : leb (headSize + size) (length s) ≡ wholeField (drop at file)
+  same-whole = λ i. leb (headSize + same-size i) (length (rest i))
+
+  pub field-cut : length s < headSize + size
+      → record { tag = tag; size = size; headed = leb headSize (length s); whole = false; start = at; next = record { at = at } } ≡ fieldAt file at
+  unfolding fieldAt
+  field-cut h =
+      let w : false ≡ wholeField (drop at file) = sym (lt-leb (headSize + size) (length s) h) ∙ same-whole in
+      λ i. record {
+        tag = same-tag i;
+        size = same-size i;
+        headed = leb headSize (length (rest i));
+        whole = w i;
+        start = cond (w i) (at + headSize) at;
+        next = record { at = cond (w i) (at + (headSize + same-size i)) at };
+      }
+
+  pub field-whole : headSize + size ≤ length s
+      → record { tag = tag; size = size; headed = leb headSize (length s); whole = true; start = at + headSize; next = record { at = at + (headSize + size) } } ≡ fieldAt file at
+  unfolding fieldAt
+  field-whole h =
+      let w : true ≡ wholeField (drop at file) = sym (le-leb (headSize + size) (length s) h) ∙ same-whole in
+      λ i. record {
+        tag = same-tag i;
+        size = same-size i;
+        headed = leb headSize (length (rest i));
+        whole = w i;
+        start = cond (w i) (at + headSize) at;
+        next = record { at = cond (w i) (at + (headSize + same-size i)) at };
+      }
+
+-- A reading that was handed on: accepted gives the system, anything else is the answer
+
+pub reads-as : {x z : Reading} {r : Opened} → x ≡ z → Reads x r → Reads z r
+reads-as {r = r} e h = subst (λ (w : Reading). Reads w r) e h
+
+pub reads-refused : (x : Reading) (r : Opened) (rest : System → Reading) → Reads x r → (r .answer ≡ Accepted → ⊥) → Reads (afterField x rest) r
+reads-refused (unread n) r rest h e = h
+reads-refused (opened y) r rest h e = absurd (e (only-accepted (r .answer) (h .answer)))
+
+-- A head whose tag and length stand there
+
+module _ (headed : Bool) (tag size : ℕ) (whole : Bool) (last : ℕ) (found : RuleFound) (stands : not headed ≡ false) (look : found ≡ ruleOf fieldRules tag) where
+  head-found : headFrom headed tag size whole last ≡ ruledHead found size whole last
+  head-found = rw stands (ap (λ (f : RuleFound). ruledHead f size whole last) (sym look))
+
+  pub head-unknown : found ≡ Unknown → Stops 2 ≡ headFrom headed tag size whole last
+  unfolding ruledHead
+  head-unknown e = rw (head-found, e)
+
+  module _ (rule : FieldRule) (known : found ≡ Known rule) where
+    pub head-misplaced : mayFollow follows last (rule .tag) ≡ false → Stops 3 ≡ headFrom headed tag size whole last
+    unfolding ruledHead
+    head-misplaced p = rw (head-found, known, p)
+
+    module _ (place : mayFollow follows last (rule .tag) ≡ true) where
+      pub head-other-size : (size ≡ rule .body → ⊥) → Stops 4 ≡ headFrom headed tag size whole last
+      unfolding ruledHead
+      head-other-size n = rw (head-found, known, place, ne-eqb size (rule .body) n)
+
+      pub head-body-cut : size ≡ rule .body → not whole ≡ true → Stops 1 ≡ headFrom headed tag size whole last
+      unfolding ruledHead
+      head-body-cut e w = rw (head-found, known, place, eq-eqb size (rule .body) e, w)
+
+      pub head-ruled : size ≡ rule .body → not whole ≡ false → Ruled rule ≡ headFrom headed tag size whole last
+      unfolding ruledHead
+      head-ruled e w = rw (head-found, known, place, eq-eqb size (rule .body) e, w)
+
+-- no rule allows more than six
+pub ruled-six : (headed : Bool) (tag size : ℕ) (whole : Bool) (last : ℕ) {rule : FieldRule} → Ruled rule ≡ headFrom headed tag size whole last → rule .allowed ≤ typeLimit
+ruled-six headed tag size whole last {rule = rule} e = at (headFrom-ruled headed tag size whole last rule (sym e) .rule .which)
+  where
+    at : (rule ≡ platformRule) ⊎ (rule ≡ typeRule) → rule .allowed ≤ typeLimit
+    at (inl w) = rw w (lit≤ tt)
+    at (inr w) = rw w (lit≤ tt)
+
+-- A body
+
+module _ (rule : FieldRule) (b : List ℕ) (y : System) (x : Opened) (seen : ℕ) (count : seen ≡ seenOf (rule .tag) y) where
+  pub body-many : rule .allowed ≤ seen → Reads (unread 7) x → Reads (bodyOf rule b y) x
+  unfolding bodyOf
+  body-many h read = rw (le-leb (rule .allowed) (seenOf (rule .tag) y) (omega arith)) read
+
+  pub body-type : seen < rule .allowed → rule .tag ≡ typeRule .tag → Reads (typeOf b y) x → Reads (bodyOf rule b y) x
+  unfolding bodyOf
+  body-type h t read = rw (lt-leb (rule .allowed) (seenOf (rule .tag) y) (omega arith), eq-eqb (rule .tag) (typeRule .tag) t) read
+
+  pub body-platform : seen < rule .allowed → (rule .tag ≡ typeRule .tag → ⊥) → Reads (platformOf b y) x → Reads (bodyOf rule b y) x
+  unfolding bodyOf
+  body-platform h t read = rw (lt-leb (rule .allowed) (seenOf (rule .tag) y) (omega arith), ne-eqb (rule .tag) (typeRule .tag) t) read
+
+pub types-seen : (tag : ℕ) (y : System) → tag ≡ typeRule .tag → seenOf tag y ≡ y .typecount
+types-seen tag y e = rw (eq-eqb tag (typeRule .tag) e)
+
+-- A field
+
+pub field-stops : {h : Head} {n : ℕ} (b : List ℕ) (y : System) {x : Opened} → Stops n ≡ h → Reads (unread n) x → Reads (ruledField h b y) x
+unfolding ruledField
+field-stops b y e read = reads-as (ap (λ (z : Head). ruledField z b y) e) read
+
+pub field-ruled : {h : Head} {rule : FieldRule} (b : List ℕ) (y : System) {x : Opened} → Ruled rule ≡ h → Reads (bodyOf rule b y) x → Reads (ruledField h b y) x
+unfolding ruledField
+field-ruled b y e read = reads-as (ap (λ (z : Head). ruledField z b y) e) read
+
+-- How far a reading is: from `at` on, after a field of tag `last`, with the system y so far
+pub record Reached (file : List ℕ) (at last : ℕ) (y : System) : Type 0 where
+  pub fuel : ℕ
+  pub enough : length file - at ≤ fuel
+  pub same : readFile file ≡ fieldsFrom fuel (drop at file) last y
+
+pub reached-start : {file : List ℕ} {y : System} → y ≡ blank → Reached file 0 0 y
+unfolding readFile
+reached-start {file = file} e = record { fuel = length file; enough = omega arith; same = ap (λ (x : System). fieldsFrom (length file) file 0 x) (sym e) }
+
+-- the rest is empty
+pub reached-end : {file : List ℕ} {at last : ℕ} {y : System} → Reached file at last y → length file ≤ at → readFile file ≡ endOf last y
+reached-end {file = file} {last = last} {y = y} r h = r .same ∙ ap (λ (s : List ℕ). fieldsFrom (r .fuel) s last y) (drop-of-length-le file h) ∙ fieldsFrom-nil (r .fuel) last y
+
+-- the rest begins with a field
+module _ {file : List ℕ} {at last : ℕ} {y : System} (r : Reached file at last y) (more : at < length file) where
+  reached-field : (g : ℕ) × (length file - at ≤ suc g)
+      × (readFile file ≡ afterField (fieldOf (drop at file) last y) (λ (next : System). fieldsFrom g (drop (fieldSize (drop at file)) (drop at file)) (byteAt (drop at file) 0) next))
+  unfolding fieldsFrom
+  reached-field = some (r .fuel) (drop at file) (r .enough) (omega (arith, length-drop at file)) (r .same)
+    where
+      some : (f : ℕ) (s : List ℕ) → length file - at ≤ f → 0 < length s → readFile file ≡ fieldsFrom f s last y
+          → (g : ℕ) × (length file - at ≤ suc g) × (readFile file ≡ afterField (fieldOf s last y) (λ (next : System). fieldsFrom g (drop (fieldSize s) s) (byteAt s 0) next))
+      some zero s enough h e = absurd (omega arith)
+      some (suc g) [] enough h e = absurd (omega arith)
+      some (suc g) (b ∷ s) enough h e = (g, enough, e)
+
+  module _ {f : Field} {b : List ℕ} {x : Opened} (step : f ≡ fieldAt file at) (part : b ≡ partOf file (f .start) (f .next .at))
+      (read : Reads (ruledField (headFrom (f .headed) (f .tag) (f .size) (f .whole) last) b y) x) where
+    field-is : ruledField (headFrom (f .headed) (f .tag) (f .size) (f .whole) last) b y ≡ fieldOf (drop at file) last y
+    unfolding fieldOf headOf fieldAt bodyAt
+    field-is =
+        let body : b ≡ bodyPart (drop at file) = part ∙ (λ i. partOf file (step i .start) (step i .next .at)) ∙ body-is file at in
+        λ i. ruledField (headFrom (step i .headed) (step i .tag) (step i .size) (step i .whole) last) (body i) y
+
+    -- it is refused
+    pub reached-refused : (x .answer ≡ Accepted → ⊥) → Reads (readFile file) x
+    reached-refused n =
+        let g = reached-field in
+        rw (g .2)
+        (reads-refused (fieldOf (drop at file) last y) x (λ (z : System). fieldsFrom (g .0) (drop (fieldSize (drop at file)) (drop at file)) (byteAt (drop at file) 0) z)
+        (reads-as field-is read) n)
+
+    -- it is accepted, so it is whole, and the reading goes on after it
+    module _ (a : x .answer ≡ Accepted) where
+      field-opened : fieldOf (drop at file) last y ≡ opened (x .system)
+      field-opened = reads-opened (fieldOf (drop at file) last y) x (reads-as field-is read) a
+
+      is-whole : wholeField (drop at file) ≡ true
+      is-whole = fieldOf-opened (drop at file) last y (x .system) field-opened .passed .whole
+
+      pub next-is : f .next .at ≡ at + fieldSize (drop at file)
+      unfolding fieldAt
+      next-is = ap (λ (z : Field). z .next .at) step ∙ rw is-whole
+
+      pub next-inside : f .next .at ≤ length file
+      next-inside = rw next-is (whole-inside file at is-whole)
+
+      pub reached-next : Reached file (f .next .at) (f .tag) (x .system)
+      unfolding fieldAt
+      reached-next =
+          let g = reached-field in
+          let tag : f .tag ≡ byteAt (drop at file) 0 = ap (λ (z : Field). z .tag) step in
+          let place : drop (fieldSize (drop at file)) (drop at file) ≡ drop (f .next .at) file = drop-drop (fieldSize (drop at file)) at file ∙ ap (λ (k : ℕ). drop k file) (sym next-is) in
+          let on : readFile file ≡ fieldsFrom (g .0) (drop (fieldSize (drop at file)) (drop at file)) (byteAt (drop at file) 0) (x .system) = g .2 ∙ rw field-opened in
+          record { fuel = g .0; enough = omega (arith, g .1, next-is); same = on ∙ (λ i. fieldsFrom (g .0) (place i) (sym tag i) (x .system)) }

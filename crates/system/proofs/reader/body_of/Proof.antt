@@ -1,0 +1,52 @@
+-- `reader::body_of` meets its contract: one law for each answer.
+use native.Mathlib.Omega.{arith}
+use Rattle.system.proofs.Goes.{body-many, body-platform, body-type, types-seen}
+use borrow.Author.Needs.{needs}
+use Rattle.system.proofs.reader.body_of.Statement.{statement}
+use Rattle.system.proofs.reader.body_of.Tie as tie
+
+seen-of-requires : tie.Need-seen-of-requires
+seen-of-requires c κs = search needs
+
+refused-requires : tie.Need-refused-requires
+refused-requires c κs = search needs
+
+returns : tie.Need-returns
+returns c =
+    let a = c .before .before .before .before .before .args in
+    let n = c .before .before .before .seen-of in
+    body-many (a .rule) (a .b .now) (a .y) (c .refused .result) (n .result) (n .ensures) (c .before .if1 .taken) (c .refused .ensures)
+
+type-of-requires : tie.Need-type-of-requires
+type-of-requires c κs =
+    let a = c .before .before .before .before .before .args in
+    let n = c .before .before .before .seen-of .ensures in
+    omega (arith, types-seen (a .rule .tag) (a .y) (c .if2 .taken))
+
+returns-2 : tie.Need-returns-2
+returns-2 c =
+    let a = c .before .before .before .before .before .before .args in
+    let n = c .before .before .before .before .seen-of in
+    body-type (a .rule) (a .b .now) (a .y) (c .type-of .result) (n .result) (n .ensures) (c .before .before .if1 .left) (c .before .if2 .taken) (c .type-of .ensures)
+
+platform-of-requires : tie.Need-platform-of-requires
+platform-of-requires c κs = search needs
+
+returns-3 : tie.Need-returns-3
+returns-3 c =
+    let a = c .before .before .before .before .before .before .args in
+    let n = c .before .before .before .before .seen-of in
+    body-platform (a .rule) (a .b .now) (a .y) (c .platform-of .result) (n .result) (n .ensures) (c .before .before .if1 .left) (c .before .if2 .left)
+    (c .platform-of .ensures)
+
+pub body-of-spec : {M : Type 1} → statement M
+body-of-spec =
+    tie.close
+    (tie.spec
+    seen-of-requires
+    refused-requires
+    returns
+    type-of-requires
+    returns-2
+    platform-of-requires
+    returns-3)

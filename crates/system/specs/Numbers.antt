@@ -1,0 +1,21 @@
+-- Document 01's numbers; the code has the same constants.
+use Prim.Native.Nat.{ℕ}
+
+-- the largest number of engines, and of types
+abbrev pub engineLimit : ℕ
+engineLimit = 16
+
+abbrev pub typeLimit : ℕ
+typeLimit = 6
+
+-- the largest U, S, u and s
+abbrev pub sizeLimit : ℕ
+sizeLimit = 1000000
+
+-- document 01's bound on the columns
+abbrev pub columnLimit : ℕ
+columnLimit = 1024
+
+-- the bytes that program `plan` reads
+abbrev pub fileBytes : ℕ
+fileBytes = 128

@@ -1,0 +1,86 @@
+// Document 01's table of fields, and which field may follow which: a later tag is one more row in each.
+ghost use mathlib.Core.Path.{_≡_};
+ghost use Rattle.system.specs.Rules.{fieldRules, ruleOf, follows, mayFollow};
+use crate::TYPE_LIMIT;
+
+// One row of the table of fields: a tag, the length of its body, how many of it a file may have.
+pub struct FieldRule {
+    pub tag: u8,
+    pub body: usize,
+    pub allowed: usize,
+}
+
+// What the table of fields has for a tag.
+pub enum RuleFound {
+    Known(FieldRule),
+    Unknown,
+}
+
+// A field of this tag may come after one of tag `last`, 0 at the file's start.
+pub struct Follow {
+    pub tag: u8,
+    pub last: u8,
+}
+
+// The tags.
+const PLATFORM: u8 = 1;
+
+pub(crate) const TYPE: u8 = 2;
+
+// The table of fields: refusals 2, 4 and 7 are decided from it.
+const RULES: [FieldRule; 2] = [
+    FieldRule {
+        tag: PLATFORM,
+        body: 10, // m, rule, U, S
+        allowed: 1,
+    },
+    FieldRule {
+        tag: TYPE,
+        body: 10, // u, s, n
+        allowed: TYPE_LIMIT,
+    },
+];
+
+// Which field may follow which: refusal 3 is decided from it alone.
+const FOLLOWS: [Follow; 3] = [
+    Follow {
+        tag: PLATFORM,
+        last: 0,
+    },
+    Follow {
+        tag: TYPE,
+        last: PLATFORM,
+    },
+    Follow {
+        tag: TYPE,
+        last: TYPE,
+    },
+];
+
+// The table's rule for a tag.
+pub(crate) fn rule_of(tag: u8) -> RuleFound
+    ensures { λ r. ⌜ r ≡ ruleOf fieldRules tag ⌝ }
+{
+    let rules = RULES;
+    for i in 0..RULES.len() {
+        let rule = rules[i];
+        if rule.tag == tag {
+            return RuleFound::Known(rule);
+        }
+    }
+    RuleFound::Unknown
+}
+
+// Whether a field of this tag may come after one of tag `last`.
+pub(crate) fn may_follow(last: u8, tag: u8) -> bool
+    ensures { λ r. ⌜ r ≡ mayFollow follows last tag ⌝ }
+{
+    let rows = FOLLOWS;
+    for i in 0..FOLLOWS.len() {
+        let row = rows[i];
+        if (row.tag == tag) & (row.last == last) {
+            return true;
+        }
+    }
+    false
+}

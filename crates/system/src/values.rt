@@ -1,0 +1,57 @@
+// The one place where the code makes a `System`: a later field is added here.
+ghost use mathlib.Core.Path.{_≡_};
+ghost use Prim.Native.Nat.{_<_};
+ghost use Rattle.system.specs.Limits.{typeLimit};
+ghost use Rattle.system.specs.Values.{noTask, blank, withPlatform, withType};
+use crate::System;
+use crate::TYPE_LIMIT;
+use crate::TaskType;
+
+// What stands for a type past k.
+pub fn no_task() -> TaskType
+    ensures { λ r. ⌜ r ≡ noTask ⌝ }
+{
+    TaskType {
+        time: 0,
+        memory: 0,
+        ceiling: 0,
+    }
+}
+
+// The system before any field was read, and the one that a refusal hands out.
+pub fn blank_system() -> System
+    ensures { λ r. ⌜ r ≡ blank ⌝ }
+{
+    System {
+        engines: 0,
+        rule: 0,
+        timecap: 0,
+        memorycap: 0,
+        typecount: 0,
+        types: [no_task(); TYPE_LIMIT],
+    }
+}
+
+// The system with a platform's m, rule, U and S.
+pub(crate) fn with_platform(m: usize, rule: u8, time: u32, memory: u32, y: System) -> System
+    ensures { λ r. ⌜ r ≡ withPlatform m rule time memory y ⌝ }
+{
+    let mut z = y;
+    z.engines = m;
+    z.rule = rule;
+    z.timecap = time;
+    z.memorycap = memory;
+    z
+}
+
+// The system with one type more, at the next type number.
+pub(crate) fn with_type(t: TaskType, y: System) -> System
+    requires { ⌜ y .typecount < typeLimit ⌝ }
+    ensures { λ r. ⌜ r ≡ withType t y ⌝ }
+{
+    let mut z = y;
+    let k = y.typecount;
+    z.types[k] = t;
+    z.typecount = k + 1;
+    z
+}

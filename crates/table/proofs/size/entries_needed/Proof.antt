@@ -1,0 +1,41 @@
+-- A file that was refused, and one that opened: its system keeps the limits, so that its entries can be counted.
+use mathlib.Core.Path.{_≡_, ap, _∙_}
+use mathlib.Core.Logic.{⊎-elim}
+use native.Mathlib.Omega.{arith}
+use borrow.Author.Needs.{needs}
+use Rattle.system.specs.declared.Answer.the-variants.{Accepted}
+use Rattle.system.specs.Layout.{readFile}
+use Rattle.table.proofs.Reading.{read-limits, needed-refused, needed-told}
+use Rattle.table.proofs.size.entries_needed.Statement.{statement}
+use Rattle.table.proofs.size.entries_needed.Tie as tie
+
+read-system-requires : tie.Need-read-system-requires
+read-system-requires c κs = search needs
+
+enum-told : tie.Need-enum-told
+enum-told c = search needs
+
+returns : tie.Need-returns
+returns c =
+    let start = c .before .before .before in
+    let r = c .before .read-system in
+    needed-refused (readFile (start .args .file .now)) (r .result) (r .ensures)
+    (λ e. ⊎-elim (λ t. absurd (omega (arith, rw e at t))) (λ t. absurd (omega (arith, rw e at t))) (c .match .keys2))
+
+is-accepted : (c : tie.After-enum-told) → c .before .before .read-system .result .answer ≡ Accepted
+is-accepted c = search needs
+
+entries-of-requires : tie.Need-entries-of-requires
+entries-of-requires c κs =
+    let r = c .before .before .read-system in
+    read-limits (c .before .before .before .before .args .file .now) (r .result) (r .ensures) (is-accepted c)
+
+returns-2 : tie.Need-returns-2
+returns-2 c =
+    let start = c .before .before .before .before .before in
+    let r = c .before .before .before .read-system in
+    rw (c .entries-of .ensures) (needed-told (readFile (start .args .file .now)) (r .result) (r .ensures) (is-accepted (c .before)))
+
+pub entries-needed-spec : {M : Type 1} → statement M
+entries-needed-spec =
+    tie.close (tie.spec read-system-requires enum-told returns entries-of-requires returns-2)
