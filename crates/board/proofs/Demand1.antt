@@ -2,7 +2,7 @@
 use Prim.Native.Nat.{ℕ, _-_}
 use mathlib.Core.Path.{_≡_, refl}
 use mathlib.Core.List.{List, [], _∷_}
-use mathlib.Core.Bool.{Bool, true, false, cond, true≢false}
+use mathlib.Core.Bool.{Bool, true, false, cond, true≢false, false≢true}
 use native.Mathlib.Omega.{arith}
 use borrow.Author.Tests.{ltb-true}
 use lib.ListN.{length}
@@ -37,40 +37,51 @@ early-then passes later h k = k
 early-then (fails s n) later h k = h
 
 module _ (b : Board) (table : List ℕ) where
+  abbrev full : List ℕ
+  full = filled (b .system) (enginesOf b) table
+
   -- intermediate: the three ways that a call can end
 
-  accepts : (ns : List ℕ) (after : Board) (left : List ℕ) → Demand1 b table (result (accepted ns) after left)
+  accepts : (ns : List ℕ) (after : Board) (left : List ℕ) → Demand1 b table left (result (accepted ns) after left)
   accepts ns after left = record {
     board = λ e. absurd (true≢false e);
     asLent = λ s n e p q. let z : _≡_ {A = ℕ} 0 1 = cc in absurd (omega arith);
-    leftFilled = λ s n e. let z : _≡_ {A = ℕ} 0 1 = cc in absurd (omega arith);
+    filledOn23 = λ s e. let z : _≡_ {A = ℕ} 0 1 = cc in absurd (omega arith);
+    filledOn24 = λ s e. let z : _≡_ {A = ℕ} 0 1 = cc in absurd (omega arith);
+    onAccept = λ e. refl;
   }
 
   -- refused before any work
-  refuses : (s : Source) (n : ℕ) → ltb n 23 ≡ true → Demand1 b table (result (refused s n) b table)
-  refuses s n h = record {
+  refuses : (left : List ℕ) (s : Source) (n : ℕ) → ltb n 23 ≡ true → Demand1 b table left (result (refused s n) b table)
+  refuses left s n h = record {
     board = λ e. refl;
     asLent = λ _ _ _ _ _. refl;
-    leftFilled = λ r k e. let same : n ≡ k = cc in let low = ltb-true n 23 h in (λ p. absurd (omega arith), λ p. absurd (omega arith));
+    filledOn23 = λ r e. let same : n ≡ 23 = cc in let low = ltb-true n 23 h in absurd (omega arith);
+    filledOn24 = λ r e. let same : n ≡ 24 = cc in let low = ltb-true n 23 h in absurd (omega arith);
+    onAccept = λ e. absurd (false≢true e);
   }
 
   -- refused 23 or 24 after the table was filled
-  leaves : (p : Bool) → Demand1 b table (result (refused fromState (cond p 23 24)) b (filled (b .system) (enginesOf b) table))
-  leaves true = record {
+  leaves : (left : List ℕ) (p : Bool) → Demand1 b table left (result (refused fromState (cond p 23 24)) b full)
+  leaves left true = record {
     board = λ e. refl;
     asLent = λ s n e p q. let same : 23 ≡ n = cc in absurd (omega arith);
-    leftFilled = λ s n e. (λ p. refl, λ p. refl);
+    filledOn23 = λ s e. refl;
+    filledOn24 = λ s e. refl;
+    onAccept = λ e. absurd (false≢true e);
   }
-  leaves false = record {
+  leaves left false = record {
     board = λ e. refl;
     asLent = λ s n e p q. let same : 24 ≡ n = cc in absurd (omega arith);
-    leftFilled = λ s n e. (λ p. refl, λ p. refl);
+    filledOn23 = λ s e. refl;
+    filledOn24 = λ s e. refl;
+    onAccept = λ e. absurd (false≢true e);
   }
 
-  checks : (c : Checked) (work : Result) → early c ≡ true → Demand1 b table work → Demand1 b table (checked c b table work)
+  checks : (left : List ℕ) (c : Checked) (work : Result) → early c ≡ true → Demand1 b table left work → Demand1 b table left (checked c b table work)
   unfolding early
-  checks passes work h d = d
-  checks (fails s n) work h d = refuses s n h
+  checks left passes work h d = d
+  checks left (fails s n) work h d = refuses left s n h
 
   early-newcomer : (t : ℕ) → early (checkNewcomer b t (length table)) ≡ true
   unfolding checkNewcomer
@@ -81,42 +92,42 @@ module _ (b : Board) (table : List ℕ) where
 
   -- main: the work of each call
 
-  reseats : (x : List ℕ) → Demand1 b table (reseated b x table)
+  reseats : (x : List ℕ) → Demand1 b table full (reseated b x table)
   unfolding reseated
-  reseats x = go (placeable (b .system) (enginesOf b) x) (boardOf (b .system) (recoveredFor engineLimit (b .system) (enginesOf b) x)) (filled (b .system) (enginesOf b) table) refl
+  reseats x = go (placeable (b .system) (enginesOf b) x) (boardOf (b .system) (recoveredFor engineLimit (b .system) (enginesOf b) x))
     where
-      go : (p : Bool) (after : Board) (left : List ℕ) → left ≡ filled (b .system) (enginesOf b) table
-          → Demand1 b table (cond p (result (accepted []) after left) (result (refused fromState 24) b (filled (b .system) (enginesOf b) table)))
-      go true after left e = accepts [] after left
-      go false after left e = leaves false
+      go : (p : Bool) (after : Board) → Demand1 b table full (cond p (result (accepted []) after full) (result (refused fromState 24) b full))
+      go true after = accepts [] after full
+      go false after = leaves full false
 
-  admits : (t : ℕ) (e : Place) → Demand1 b table (admitted b t table e)
+  admits : (t : ℕ) (e : Place) → Demand1 b table table (admitted b t table e)
   unfolding admitted
   admits t (Engine e) = accepts (e ∷ []) _ table
-  admits t Nowhere = leaves (placeable (b .system) (enginesOf b) (withNewcomer b t))
+  admits t Nowhere = leaves table (placeable (b .system) (enginesOf b) (withNewcomer b t))
 
 -- main: demand 1
 
-pub admit-demand1 : (b : Board) (t : ℕ) (table : List ℕ) → Demand1 b table (admitOf b t table)
+pub admit-demand1 : (b : Board) (t : ℕ) (table : List ℕ) → Demand1 b table table (admitOf b t table)
 unfolding admitOf
-admit-demand1 b t table = checks b table (checkNewcomer b t (length table)) (admitted b t table (firstEngine b t)) (early-newcomer b table t) (admits b table t (firstEngine b t))
+admit-demand1 b t table = checks b table table (checkNewcomer b t (length table)) (admitted b t table (firstEngine b t)) (early-newcomer b table t) (admits b table t (firstEngine b t))
 
-pub seat-demand1 : (b : Board) (t : ℕ) (table : List ℕ) → Demand1 b table (seatOf b t table)
+pub seat-demand1 : (b : Board) (t : ℕ) (table : List ℕ) → Demand1 b table (full b table) (seatOf b t table)
 unfolding seatOf
-seat-demand1 b t table = checks b table (checkNewcomer b t (length table)) (reseated b (withNewcomer b t) table) (early-newcomer b table t) (reseats b table (withNewcomer b t))
+seat-demand1 b t table =
+    checks b table (full b table) (checkNewcomer b t (length table)) (reseated b (withNewcomer b t) table) (early-newcomer b table t) (reseats b table (withNewcomer b t))
 
-pub retire-demand1 : (b : Board) (t e : ℕ) (table : List ℕ) → Demand1 b table (retireOf b t e table)
+pub retire-demand1 : (b : Board) (t e : ℕ) (table : List ℕ) → Demand1 b table table (retireOf b t e table)
 unfolding retireOf checkRetire
 retire-demand1 b t e table =
-    checks b table (checkRetire b t e) (result (accepted []) (withLoad b e (oneLess (t - 1) (loadAt b e))) table)
+    checks b table table (checkRetire b t e) (result (accepted []) (withLoad b e (oneLess (t - 1) (loadAt b e))) table)
     (early-then _ _ (early-check (trueBoard b) fromState 20 refl)
     (early-then _ _ (early-check (knownType (b .system) t) fromInput 13 refl)
     (early-then _ _ (early-check (knownEngine (b .system) e) fromInput 14 refl) (early-check (heldAt b t e) fromState 22 refl))))
     (accepts b table [] (withLoad b e (oneLess (t - 1) (loadAt b e))) table)
 
-pub repack-demand1 : (b : Board) (table : List ℕ) → Demand1 b table (repackOf b table)
+pub repack-demand1 : (b : Board) (table : List ℕ) → Demand1 b table (full b table) (repackOf b table)
 unfolding repackOf checkRepack
 repack-demand1 b table =
-    checks b table (checkRepack b (length table)) (reseated b (standing b) table)
+    checks b table (full b table) (checkRepack b (length table)) (reseated b (standing b) table)
     (early-then _ _ (early-check (trueBoard b) fromState 20 refl) (early-check (longEnough (b .system) table) fromInput 11 refl))
     (reseats b table (standing b))

@@ -1,58 +1,61 @@
--- What each call promises besides the equation with its definition: demand 1, and its meaning for a true board. Both hold of the definition, so of what the call gave.
+-- What each call promises besides the equation with its definition: demand 1, the order of the refusals, and its meaning for a true board. All hold of the definition,
+-- so of what the call gave.
 use Prim.Native.Nat.{ℕ}
-use mathlib.Core.Path.{_≡_}
+use mathlib.Core.Path.{_≡_, sym, ap, subst, _∙_}
 use mathlib.Core.List.{List, []}
-use mathlib.Core.Bool.{true}
-use Rattle.table.specs.Table.{longEnough}
+use Rattle.system.specs.declared.System.{System}
+use Rattle.system.specs.Layout.{readFile, readOutcome, opened}
+use Rattle.system.specs.Outcome.{Outcome}
+use Rattle.system.proofs.Laws.{read-keeps-limits}
 use Rattle.board.specs.declared.Board.{Board}
 use Rattle.board.specs.declared.Turn.{Turn}
-use Rattle.board.specs.Truth.{trueBoard}
+use Rattle.board.specs.Boards.{emptyBoard, openedBoard}
+use Rattle.board.specs.Words.{IsTrue, IsFresh}
 use Rattle.board.specs.Calls.{admitOf, seatOf, retireOf, repackOf, gave, Does}
-use Rattle.board.specs.Meaning.{Demand1, AdmitMeans, SeatMeans, RetireMeans, RepackMeans}
+use Rattle.board.specs.Meaning.{OpenMeans, AdmitPromises, SeatPromises, RetirePromises, RepackPromises}
 use Rattle.board.proofs.Demand1.{admit-demand1, seat-demand1, retire-demand1, repack-demand1}
+use Rattle.board.proofs.TrueMeans.{fresh-is, fresh-true}
 use Rattle.board.proofs.Means.{admit-means, seat-means, retire-means, repack-means}
+use Rattle.board.proofs.Order.{admit-in-order, seat-in-order, retire-in-order, repack-in-order}
 use Rattle.board.proofs.Exits.{of-given}
 
+-- opening
+pub open-means : (file : List ℕ) (o : Outcome) (b : Board) → o ≡ readOutcome (readFile file) → b ≡ openedBoard (readFile file) → OpenMeans file o b
+open-means file o b a s = record {
+  opens = λ y e. a ∙ ap readOutcome e;
+  fresh = λ y e. subst (IsFresh y) (sym (is y e)) (fresh-is y);
+  isTrue = λ y e. subst IsTrue (sym (is y e)) (fresh-true y (read-keeps-limits file y e));
+  refuses = λ n e. a ∙ ap readOutcome e;
+}
+  where
+    is : (y : System) → readFile file ≡ opened y → b ≡ emptyBoard y
+    is y e = s ∙ ap openedBoard e
+
+-- the calls: of their definitions
+
+admit-holds : (b : Board) (t : ℕ) (table : List ℕ) → AdmitPromises b t table (admitOf b t table)
+admit-holds b t table = record { demand1 = admit-demand1 b t table; order = admit-in-order b t table; means = λ w long. admit-means b w t table long }
+
+seat-holds : (b : Board) (t : ℕ) (table : List ℕ) → SeatPromises b t table (seatOf b t table)
+seat-holds b t table = record { demand1 = seat-demand1 b t table; order = seat-in-order b t table; means = λ w long. seat-means b w t table long }
+
+retire-holds : (b : Board) (t e : ℕ) → RetirePromises b t e (retireOf b t e [])
+retire-holds b t e = record { demand1 = retire-demand1 b t e []; order = retire-in-order b t e []; means = λ w. retire-means b w t e [] }
+
+repack-holds : (b : Board) (table : List ℕ) → RepackPromises b table (repackOf b table)
+repack-holds b table = record { demand1 = repack-demand1 b table; order = repack-in-order b table; means = λ w long. repack-means b w table long }
+
+-- main: of what they gave
+
 module _ (b : Board) (t : ℕ) (table : List ℕ) (r : Turn) (after : List ℕ) where
-  pub admit-promises : Does (admitOf b t table) r after
-      → Does (admitOf b t table) r after
-      × (Demand1 b table (gave r after) × (trueBoard b ≡ true → longEnough (b .system) table ≡ true → AdmitMeans b t (gave r after)))
-  admit-promises d = (
-    d,
-    (
-      of-given (Demand1 b table) (admitOf b t table) r after d (admit-demand1 b t table),
-      λ h long. of-given (AdmitMeans b t) (admitOf b t table) r after d (admit-means b t table h long),
-    ),
-  )
+  pub admit-promises : Does (admitOf b t table) r after → Does (admitOf b t table) r after × AdmitPromises b t table (gave r after)
+  admit-promises d = (d, of-given (AdmitPromises b t table) (admitOf b t table) r after d (admit-holds b t table))
 
-  pub seat-promises : Does (seatOf b t table) r after
-      → Does (seatOf b t table) r after
-      × (Demand1 b table (gave r after) × (trueBoard b ≡ true → longEnough (b .system) table ≡ true → SeatMeans b t (gave r after)))
-  seat-promises d = (
-    d,
-    (
-      of-given (Demand1 b table) (seatOf b t table) r after d (seat-demand1 b t table),
-      λ h long. of-given (SeatMeans b t) (seatOf b t table) r after d (seat-means b t table h long),
-    ),
-  )
+  pub seat-promises : Does (seatOf b t table) r after → Does (seatOf b t table) r after × SeatPromises b t table (gave r after)
+  seat-promises d = (d, of-given (SeatPromises b t table) (seatOf b t table) r after d (seat-holds b t table))
 
-pub retire-promises : (b : Board) (t e : ℕ) (r : Turn) → Does (retireOf b t e []) r []
-    → Does (retireOf b t e []) r [] × (Demand1 b [] (gave r []) × (trueBoard b ≡ true → RetireMeans b t e (gave r [])))
-retire-promises b t e r d = (
-  d,
-  (
-    of-given (Demand1 b []) (retireOf b t e []) r [] d (retire-demand1 b t e []),
-    λ h. of-given (RetireMeans b t e) (retireOf b t e []) r [] d (retire-means b t e [] h),
-  ),
-)
+pub retire-promises : (b : Board) (t e : ℕ) (r : Turn) → Does (retireOf b t e []) r [] → Does (retireOf b t e []) r [] × RetirePromises b t e (gave r [])
+retire-promises b t e r d = (d, of-given (RetirePromises b t e) (retireOf b t e []) r [] d (retire-holds b t e))
 
-pub repack-promises : (b : Board) (table : List ℕ) (r : Turn) (after : List ℕ) → Does (repackOf b table) r after
-    → Does (repackOf b table) r after
-    × (Demand1 b table (gave r after) × (trueBoard b ≡ true → longEnough (b .system) table ≡ true → RepackMeans b (gave r after)))
-repack-promises b table r after d = (
-  d,
-  (
-    of-given (Demand1 b table) (repackOf b table) r after d (repack-demand1 b table),
-    λ h long. of-given (RepackMeans b) (repackOf b table) r after d (repack-means b table h long),
-  ),
-)
+pub repack-promises : (b : Board) (table : List ℕ) (r : Turn) (after : List ℕ) → Does (repackOf b table) r after → Does (repackOf b table) r after × RepackPromises b table (gave r after)
+repack-promises b table r after d = (d, of-given (RepackPromises b table) (repackOf b table) r after d (repack-holds b table))

@@ -1,119 +1,284 @@
--- The test of refusal 20 says what the row of 20 says, and a true board is a good assignment of what stands: both from the board of valid loads.
-use Prim.Native.Nat.{ℕ, zero, suc, _-_, _≤_, _<_, zero-le}
+-- The test of refusal 20 says what the row of 20 says, and a true board is a good assignment of what stands: both from the board of valid loads. A fresh board is one.
+use Prim.Native.Nat.{ℕ, zero, suc, _+_, _-_, _≤_, _<_, zero-le}
 use mathlib.Core.Path.{_≡_, refl, sym, ap, subst, _∙_}
-use mathlib.Core.List.{List, [], _∷_}
+use mathlib.Core.List.{List, [], _∷_, _++_, map}
 use mathlib.Core.Bool.{Bool, true, false}
 use native.Mathlib.Omega.{arith}
-use borrow.Author.Tests.{ltb-true, ltb-false, eq-eqb}
-use lib.Dec.{ltb}
-use lib.ListN.{length, getD, List·getD-map, List·getD-eq-default}
-use Rattle.system.specs.declared.TaskType.{TaskType}
+use borrow.Author.Tests.{ltb-true, ltb-false, eqb-true, eqb-false, eq-eqb}
+use lib.Dec.{ltb, eqb}
+use lib.ListN.{length, getD, replicate, replicate-append-replicate, List·getD-eq-default}
 use Rattle.system.specs.declared.System.{System}
-use Rattle.system.specs.Values.{noTask, ceilingsOf}
+use Rattle.system.specs.Values.{ceilingsOf}
 use Rattle.system.specs.Limits.{keepsLimits, engineLimit, typeLimit}
-use Rattle.system.proofs.Laws.{limits-of}
+use Rattle.system.proofs.Laws.{Limits, limits-of}
 use Rattle.loads.specs.declared.EngineLoad.{EngineLoad}
-use Rattle.loads.specs.Load.{timeOf, memoryOf, fitsEngine, holdsNone, emptyLoad, engineWith, idleEngine}
+use Rattle.loads.specs.Load.{timeOf, memoryOf, holdsNone, emptyLoad, engineWith, idleEngine, within}
 use Rattle.loads.proofs.Order.{and-both, length-plus}
 use Rattle.loads.proofs.Laws.{engineWith-idle}
-use Rattle.loads.proofs.Change.{within-getD, within-of}
+use Rattle.loads.proofs.Change.{getD-plus, within-getD, within-of}
+use Rattle.partition.specs.Assignment.{every}
 use Rattle.partition.specs.Shares.{sumOf}
-use Rattle.partition.specs.ForSystem.{Placed}
+use Rattle.partition.specs.Plain.{recordNo, Stands}
+use Rattle.partition.proofs.Lists.{every-++, every-replicate, getD-inside, getD-padded, among-enginesTo}
+use Rattle.partition.proofs.Recovery.{sumOf-padded}
 use Rattle.partition.proofs.ForSystem.{length-ceilings}
-use Rattle.partition.proofs.Standing.{Valid, total, loadIn, length-loadIn, loadIn-fits, count-le-sum, valid-placed}
+use Rattle.partition.proofs.Standing.{Valid, total, loadIn, length-total, length-loadIn, loadIn-fits, count-le-sum, valid-empty, valid-placed}
+use Rattle.partition.proofs.Plain.{ceiling-out, limits-out, stands-out}
 use Rattle.board.specs.declared.Board.{Board}
-use Rattle.board.specs.Boards.{enginesOf, standingOf, standing}
+use Rattle.board.specs.Boards.{emptyBoard, enginesOf, standingOf, standing}
 use Rattle.board.specs.Truth.{trueEngine, zeroEngine, trueLoads, trueBoard}
-use Rattle.board.specs.Meaning.{engineAt, IsTrue, TrueMeans}
-use Rattle.board.proofs.Truth.{boardOn, standing-on, engine-on, length-on, truth-of}
+use Rattle.board.specs.Words.{countNo, countAt, totalNo, standsNo, IsEngine, EngineIn, SumsOut, FitsOut, HoldsNothing, IsTrue, IsFresh}
+use Rattle.board.specs.Meaning.{TrueMeans}
+use Rattle.board.proofs.Places.{engines-distinct, engines-known}
+use Rattle.board.proofs.Plain.{time-same, own-same, shared-same, fits-same, time-out, own-out, shared-out, fits-out, out-fits, RecordSame, record-same, total-out}
+use Rattle.board.proofs.Truth.{padded, boardOn, engine-on, length-on, truth-of}
 
--- intermediate: the board of valid loads is true in the row's words
+-- main: the board of valid loads in plain words
 
 module _ (y : System) (xs : List (List ℕ)) (keeps : keepsLimits y ≡ true) (v : Valid y xs) where
-  ceiling-past : (i : ℕ) → y .typecount ≤ i → getD (ceilingsOf y) i 0 ≡ 0
-  ceiling-past i h = List·getD-map (λ (t : TaskType). t .ceiling) (y .types) i noTask ∙ ap (λ (t : TaskType). t .ceiling) (limits-of y keeps .past i h)
+  abbrev b : Board
+  b = boardOn y xs
 
-  counts-on : (i : ℕ) → engineAt (boardOn y xs) i .counts ≡ loadIn xs i
-  counts-on i = ap (λ (l : EngineLoad). l .counts) (engine-on y xs i)
+  limits : Limits y
+  limits = limits-of y keeps
 
-  inside : (i : ℕ) → i < y .engines → i < length xs
-  inside i h = omega (arith, v .rows)
+  -- the record of engine e
+  record-on : (e : ℕ) → getD (b .loads) (e - 1) idleEngine ≡ engineWith y (loadIn xs (e - 1))
+  record-on e = engine-on y xs (e - 1)
 
-  words-on : IsTrue (boardOn y xs)
-  words-on = record {
+  length-row : (i : ℕ) → length (loadIn xs i) ≡ typeLimit
+  length-row i = go (ltb i (length xs)) refl
+    where
+      go : (p : Bool) → ltb i (length xs) ≡ p → length (loadIn xs i) ≡ typeLimit
+      go true q = length-loadIn v i (ltb-true i (length xs) q)
+      go false q = ap length (List·getD-eq-default xs emptyLoad (ltb-false i (length xs) q))
+
+  pub count-out : (e t : ℕ) → countAt b e t ≡ getD (loadIn xs (e - 1)) (t - 1) 0
+  count-out e t = record-same (b .loads) (e - 1) .counts t ∙ ap (λ (l : EngineLoad). getD (l .counts) (t - 1) 0) (record-on e)
+
+  sized-padded : every (λ (x : List ℕ). eqb (length x) typeLimit) (padded y xs) ≡ true
+  sized-padded =
+      every-++ (λ (x : List ℕ). eqb (length x) typeLimit) xs (replicate (engineLimit - y .engines) emptyLoad) (v .sized)
+      (every-replicate (λ (x : List ℕ). eqb (length x) typeLimit) (engineLimit - y .engines) emptyLoad refl)
+
+  pub stands-on : (t : ℕ) → standsNo b t ≡ getD (total xs) (t - 1) 0
+  stands-on t = total-out y (padded y xs) t sized-padded ∙ ap (λ (x : List ℕ). getD x (t - 1) 0) (sumOf-padded typeLimit (engineLimit - y .engines) xs)
+
+  inside : (e : ℕ) → IsEngine b e → e - 1 < length xs
+  inside e h = omega (arith, v .rows, h .0, h .1)
+
+  -- its stored sums are those of its load
+  sums-on : (e : ℕ) → SumsOut y (recordNo (b .loads) e)
+  sums-on e =
+      let x = loadIn xs (e - 1) in
+      let lx = length-row (e - 1) in
+      let same = record-same (b .loads) (e - 1) in
+      let back : (t : ℕ) → 1 ≤ t → getD x (t - 1) 0 ≡ countAt b e t = λ t h. sym (count-out e t) in
+      record {
+        time = same .time ∙ ap (λ (l : EngineLoad). l .time) (record-on e) ∙ time-out y (limits .six) x lx ∙ time-same y (λ (t : ℕ). getD x (t - 1) 0) (countAt b e) back;
+        ownCopies = λ r. same .memory ∙ ap (λ (l : EngineLoad). l .memory) (record-on e) ∙ own-out y (limits .six) x lx r ∙ own-same y (λ (t : ℕ). getD x (t - 1) 0) (countAt b e) back;
+        sharedCode = λ r. same .memory ∙ ap (λ (l : EngineLoad). l .memory) (record-on e) ∙ shared-out y (limits .six) x lx r ∙ shared-same y (λ (t : ℕ). getD x (t - 1) 0) (countAt b e) back;
+      }
+
+  -- nothing is past m
+  idle-on : (e : ℕ) → y .engines < e → HoldsNothing (recordNo (b .loads) e)
+  idle-on e h =
+      let same = record-same (b .loads) (e - 1) in
+      let idle : getD (b .loads) (e - 1) idleEngine ≡ idleEngine = record-on e ∙ ap (engineWith y) (List·getD-eq-default xs emptyLoad (omega (arith, v .rows))) ∙ engineWith-idle y in
+      record {
+        time = same .time ∙ ap (λ (l : EngineLoad). l .time) idle;
+        memory = same .memory ∙ ap (λ (l : EngineLoad). l .memory) idle;
+        counts = λ t. same .counts t ∙ ap (λ (l : EngineLoad). getD (l .counts) (t - 1) 0) idle ∙ getD-padded [] typeLimit (t - 1) 0;
+      }
+
+  -- of a type past k there is none
+  past-on : (e t : ℕ) → y .typecount < t → countAt b e t ≡ 0
+  past-on e t h = go (ltb (e - 1) (length xs)) refl
+    where
+      none : getD (ceilingsOf y) (t - 1) 0 ≡ 0
+      none = ceiling-out y t ∙ limits-out y .0 keeps .past t h .2
+
+      go : (p : Bool) → ltb (e - 1) (length xs) ≡ p → countAt b e t ≡ 0
+      go true q =
+          omega (
+            arith,
+            count-out e t,
+            count-le-sum typeLimit xs (e - 1) (t - 1) (v .sized) (ltb-true (e - 1) (length xs) q),
+            within-getD (total xs) (ceilingsOf y) (t - 1) (v .ceiling),
+            none,
+          )
+      go false q =
+          count-out e t ∙ ap (λ (x : List ℕ). getD x (t - 1) 0) (List·getD-eq-default xs emptyLoad (ltb-false (e - 1) (length xs) q)) ∙ getD-padded [] typeLimit (t - 1) 0
+
+  pub true-on : IsTrue b
+  true-on = record {
     sixteen = length-on y xs keeps v;
-    six = λ i h. ap length (counts-on i) ∙ length-loadIn v i (inside i h);
-    limits = keeps;
-    pastEngines = λ i h. engine-on y xs i ∙ ap (engineWith y) (List·getD-eq-default xs emptyLoad (omega (arith, v .rows))) ∙ engineWith-idle y;
-    pastTypes =
-        λ i j h k.
-        omega (
-          arith,
-          ap (λ (x : List ℕ). getD x j 0) (counts-on i),
-          count-le-sum typeLimit xs i j (v .sized) (inside i h),
-          within-getD (total xs) (ceilingsOf y) j (v .ceiling),
-          ceiling-past j k,
-        );
-    ceilings = λ j. rw (standing-on y xs) (within-getD (total xs) (ceilingsOf y) j (v .ceiling));
-    sums = λ i h. engine-on y xs i ∙ ap (engineWith y) (sym (counts-on i));
-    fit = λ i h. ap (fitsEngine y) (counts-on i) ∙ loadIn-fits v i (inside i h);
+    six = λ e low high.
+        ap (λ (l : EngineLoad). length (l .counts)) (getD-inside (b .loads) (e - 1) (record { time = 0; memory = 0; counts = [] }) idleEngine (omega (arith, length-on y xs keeps v)) ∙ record-on e)
+        ∙ length-row (e - 1);
+    limits = limits-out y .0 keeps;
+    pastEngines = idle-on;
+    pastTypes = past-on;
+    ceilings = λ t low. omega (arith, stands-on t, within-getD (total xs) (ceilingsOf y) (t - 1) (v .ceiling), ceiling-out y t);
+    sums = λ e h. sums-on e;
+    fit = λ e h.
+        fits-same y (λ (t : ℕ). getD (loadIn xs (e - 1)) (t - 1) 0) (countAt b e) (λ t k. sym (count-out e t))
+        (fits-out y (limits .six) (loadIn xs (e - 1)) (length-row (e - 1)) (loadIn-fits v (e - 1) (inside e h)));
   }
+
+  -- and it is a partition of what stands
+  pub parted-on : Stands y (EngineIn b) (standsNo b) (b .loads)
+  parted-on =
+      stands-out y (limits .rule) (enginesOf b) (engines-distinct b) (engines-known b) (EngineIn b) (among-enginesTo (y .engines)) (total xs) (length-total v) (standsNo b)
+      (λ t low. sym (stands-on t))
+      (b .loads)
+      (valid-placed v (engineLimit - y .engines))
 
 -- intermediate: the test from the row's words
 
-engine-of : (y : System) (l : EngineLoad) → length (l .counts) ≡ typeLimit → l ≡ engineWith y (l .counts) → fitsEngine y (l .counts) ≡ true → trueEngine y l ≡ true
-engine-of y l six sums fit =
-    let time = timeOf (y .types) (l .counts) in
-    let memory = memoryOf (y .rule) (y .types) (l .counts) in
-    rw (eq-eqb (length (l .counts)) typeLimit six, eq-eqb (l .time) time (ap (λ (k : EngineLoad). k .time) sums), eq-eqb (l .memory) memory (ap (λ (k : EngineLoad). k .memory) sums)) fit
-
-zero-of : (l : EngineLoad) → l ≡ idleEngine → zeroEngine l ≡ true
+zeros-none : (x : List ℕ) → ((j : ℕ) → getD x j 0 ≡ 0) → holdsNone x ≡ true
 unfolding holdsNone
-zero-of l e = ap zeroEngine e
-
-loads-of : (y : System) (m : ℕ) (ls : List EngineLoad) → ((i : ℕ) → i < m → trueEngine y (getD ls i idleEngine) ≡ true) → ((i : ℕ) → m ≤ i → zeroEngine (getD ls i idleEngine) ≡ true)
-    → trueLoads y m ls ≡ true
-unfolding trueLoads
-loads-of y m [] h k = refl
-loads-of y zero (l ∷ ls) h k = and-both (zeroEngine l) (trueLoads y zero ls) (k zero zero-le) (loads-of y zero ls (λ i s. absurd (omega arith)) (λ i s. k (suc i) zero-le))
-loads-of y (suc m) (l ∷ ls) h k =
-    and-both (trueEngine y l) (trueLoads y m ls) (h zero (omega arith)) (loads-of y m ls (λ i s. h (suc i) (omega arith)) (λ i s. k (suc i) (omega arith)))
+zeros-none [] h = refl
+zeros-none (a ∷ x) h = and-both (eqb a 0) (holdsNone x) (eq-eqb a 0 (h 0)) (zeros-none x (λ j. h (suc j)))
 
 length-standing : (ls : List EngineLoad) → ((i : ℕ) → length (getD ls i idleEngine .counts) ≡ typeLimit) → length (standingOf ls) ≡ typeLimit
 unfolding sumOf
 length-standing [] h = refl
 length-standing (l ∷ ls) h = length-plus (l .counts) (standingOf ls) (h 0 ∙ sym (length-standing ls (λ i. h (suc i)))) ∙ h 0
 
-test-of : (b : Board) → IsTrue b → trueBoard b ≡ true
-unfolding trueBoard
-test-of b w = rw (w .limits, eq-eqb (length (b .loads)) engineLimit (w .sixteen), loads) (within-of (standing b) (ceilingsOf (b .system)) types (w .ceilings))
-  where
-    sized : (i : ℕ) (p : Bool) → ltb i (b .system .engines) ≡ p → length (engineAt b i .counts) ≡ typeLimit
-    sized i true e = w .six i (ltb-true i (b .system .engines) e)
-    sized i false e = ap (λ (l : EngineLoad). length (l .counts)) (w .pastEngines i (ltb-false i (b .system .engines) e))
+standing-out : (ls : List EngineLoad) (t : ℕ) → ((i : ℕ) → length (getD ls i idleEngine .counts) ≡ typeLimit) → totalNo t ls ≡ getD (standingOf ls) (t - 1) 0
+unfolding sumOf totalNo
+standing-out [] t h = sym (getD-padded [] typeLimit (t - 1) 0)
+standing-out (l ∷ ls) t h =
+    ap (λ (n : ℕ). countNo l t + n) (standing-out ls t (λ i. h (suc i))) ∙ sym (getD-plus (l .counts) (standingOf ls) (t - 1) (h 0 ∙ sym (length-standing ls (λ i. h (suc i)))))
 
-    types : length (standing b) ≡ length (ceilingsOf (b .system))
-    types =
-        length-standing (b .loads) (λ i. sized i (ltb i (b .system .engines)) refl)
-        ∙ sym (length-ceilings (b .system) (limits-of (b .system) (w .limits)))
+module _ (b : Board) (w : IsTrue b) where
+  -- the record at an index
+  at : (i : ℕ) → EngineLoad
+  at i = getD (b .loads) i idleEngine
 
-    loads : trueLoads (b .system) (b .system .engines) (b .loads) ≡ true
-    loads =
-        loads-of (b .system) (b .system .engines) (b .loads)
-        (λ i h. engine-of (b .system) (engineAt b i) (w .six i h) (w .sums i h) (w .fit i h))
-        (λ i h. zero-of (engineAt b i) (w .pastEngines i h))
+  six-at : (i : ℕ) → length (at i .counts) ≡ typeLimit
+  unfolding at
+  six-at i = go (ltb i (length (b .loads))) refl
+    where
+      go : (p : Bool) → ltb i (length (b .loads)) ≡ p → length (getD (b .loads) i idleEngine .counts) ≡ typeLimit
+      go true q =
+          let small = ltb-true i (length (b .loads)) q in
+          let same : suc i - 1 ≡ i = omega arith in
+          ap (λ (l : EngineLoad). length (l .counts)) (getD-inside (b .loads) i idleEngine (record { time = 0; memory = 0; counts = [] }) small)
+          ∙ subst (λ (j : ℕ). length (getD (b .loads) j (record { time = 0; memory = 0; counts = [] }) .counts) ≡ typeLimit) same (w .six (suc i) (omega arith) (omega (arith, small, w .sixteen)))
+      go false q = ap (λ (l : EngineLoad). length (l .counts)) (List·getD-eq-default (b .loads) idleEngine (ltb-false i (length (b .loads)) q))
+
+  engine-test : (i : ℕ) → i < b .system .engines → trueEngine (b .system) (at i) ≡ true
+  unfolding at
+  engine-test i h =
+      let e = suc i in
+      let same : e - 1 ≡ i = omega arith in
+      subst (λ (j : ℕ). trueEngine (b .system) (at j) ≡ true) same (go e (record-same (b .loads) (e - 1)) (w .sums e (omega arith, omega arith)) (w .fit e (omega arith, omega arith)))
+    where
+      go : (e : ℕ) → RecordSame (b .loads) (e - 1) → SumsOut (b .system) (recordNo (b .loads) e) → FitsOut (b .system) (countAt b e) → trueEngine (b .system) (at (e - 1)) ≡ true
+      go e same s f =
+          let l = at (e - 1) in
+          let x = l .counts in
+          let lx = six-at (e - 1) in
+          let ls = w .limits .six in
+          let back : (t : ℕ) → 1 ≤ t → countAt b e t ≡ getD x (t - 1) 0 = λ t h. same .counts t in
+          let time : l .time ≡ timeOf (b .system .types) x = sym (same .time) ∙ s .time ∙ time-same (b .system) (countAt b e) (λ (t : ℕ). getD x (t - 1) 0) back ∙ sym (time-out (b .system) ls x lx) in
+          let memory : l .memory ≡ memoryOf (b .system .rule) (b .system .types) x = sym (same .memory) ∙ stored e x lx s back (eqb (b .system .rule) 0) refl in
+          rw (eq-eqb (length x) typeLimit lx, eq-eqb (l .time) _ time, eq-eqb (l .memory) _ memory)
+          (out-fits (b .system) ls x lx (w .limits .rule) (fits-same (b .system) (countAt b e) (λ (t : ℕ). getD x (t - 1) 0) back f))
+        where
+          stored : (d : ℕ) (x : List ℕ) (lx : length x ≡ typeLimit) → SumsOut (b .system) (recordNo (b .loads) d) → ((t : ℕ) → 1 ≤ t → countAt b d t ≡ getD x (t - 1) 0)
+              → (q : Bool) → eqb (b .system .rule) 0 ≡ q → recordNo (b .loads) d .memory ≡ memoryOf (b .system .rule) (b .system .types) x
+          stored d x lx s back true q =
+              let r = eqb-true (b .system .rule) 0 q in
+              s .ownCopies r ∙ own-same (b .system) (countAt b d) (λ (t : ℕ). getD x (t - 1) 0) back ∙ sym (own-out (b .system) (w .limits .six) x lx r)
+          stored d x lx s back false q =
+              let n = eqb-false (b .system .rule) 0 q in
+              let r : b .system .rule ≡ 1 = omega (arith, w .limits .rule) in
+              s .sharedCode r ∙ shared-same (b .system) (countAt b d) (λ (t : ℕ). getD x (t - 1) 0) back ∙ sym (shared-out (b .system) (w .limits .six) x lx r)
+
+  -- an index is that of the engine after it
+  by-number : (P : EngineLoad → Type 0) (i : ℕ) → P (at (suc i - 1)) → P (at i)
+  by-number P i p = let same : suc i - 1 ≡ i = omega arith in subst (λ (j : ℕ). P (at j)) same p
+
+  zero-test : (i : ℕ) → b .system .engines ≤ i → zeroEngine (at i) ≡ true
+  unfolding at
+  zero-test i h = by-number (λ (l : EngineLoad). zeroEngine l ≡ true) i (go (record-same (b .loads) (suc i - 1)) (w .pastEngines (suc i) (omega arith)) (six-at (suc i - 1)))
+    where
+      go : RecordSame (b .loads) (suc i - 1) → HoldsNothing (recordNo (b .loads) (suc i)) → length (at (suc i - 1) .counts) ≡ typeLimit → zeroEngine (at (suc i - 1)) ≡ true
+      go same none six =
+          let l = at (suc i - 1) in
+          rw (eq-eqb (length (l .counts)) typeLimit six, eq-eqb (l .time) 0 (sym (same .time) ∙ none .time), eq-eqb (l .memory) 0 (sym (same .memory) ∙ none .memory))
+          (zeros-none (l .counts) (λ j. let back : suc j - 1 ≡ j = omega arith in subst (λ (k : ℕ). getD (l .counts) k 0 ≡ 0) back (sym (same .counts (suc j)) ∙ none .counts (suc j))))
+
+  loads-test : (m : ℕ) (ls : List EngineLoad) → ((i : ℕ) → i < m → trueEngine (b .system) (getD ls i idleEngine) ≡ true) → ((i : ℕ) → m ≤ i → zeroEngine (getD ls i idleEngine) ≡ true)
+      → trueLoads (b .system) m ls ≡ true
+  unfolding trueLoads
+  loads-test m [] h k = refl
+  loads-test zero (l ∷ ls) h k = and-both (zeroEngine l) (trueLoads (b .system) zero ls) (k zero zero-le) (loads-test zero ls (λ i s. absurd (omega arith)) (λ i s. k (suc i) zero-le))
+  loads-test (suc m) (l ∷ ls) h k =
+      and-both (trueEngine (b .system) l) (trueLoads (b .system) m ls) (h zero (omega arith)) (loads-test m ls (λ i s. h (suc i) (omega arith)) (λ i s. k (suc i) (omega arith)))
+
+  within-test : within (standing b) (ceilingsOf (b .system)) ≡ true
+  unfolding at
+  within-test =
+      within-of (standing b) (ceilingsOf (b .system)) (length-standing (b .loads) six-at ∙ sym (length-ceilings (b .system) (limits-of (b .system) (limits-out (b .system) .1 (w .limits)))))
+      (λ j. let back : suc j - 1 ≡ j = omega arith in subst (λ (k : ℕ). getD (standing b) k 0 ≤ getD (ceilingsOf (b .system)) k 0) back
+      (omega (arith, standing-out (b .loads) (suc j) six-at, w .ceilings (suc j) (omega arith), ceiling-out (b .system) (suc j))))
+
+  test-of : trueBoard b ≡ true
+  unfolding trueBoard at
+  test-of =
+      rw (limits-out (b .system) .1 (w .limits), eq-eqb (length (b .loads)) engineLimit (w .sixteen), loads-test (b .system .engines) (b .loads) engine-test zero-test) within-test
 
 -- main
 
+-- what stands on a true board, by the code's word
+pub stands-said : (b : Board) → IsTrue b → (t : ℕ) → standsNo b t ≡ getD (standing b) (t - 1) 0
+unfolding at
+stands-said b w t = standing-out (b .loads) t (six-at b w)
+
 pub true-means : (b : Board) → TrueMeans b
-true-means b = record { tests = (words, test-of b); placed = placed }
+true-means b = record { tests = (words, test-of b); placed = λ w. parted (test-of b w) }
   where
     words : trueBoard b ≡ true → IsTrue b
-    words h = let f = truth-of b h in subst IsTrue (sym (f .same)) (words-on (b .system) (f .rows) (f .keeps) (f .valid))
+    words h = let f = truth-of b h in subst IsTrue (sym (f .same)) (true-on (b .system) (f .rows) (f .keeps) (f .valid))
 
-    placed : trueBoard b ≡ true → Placed (b .system) (enginesOf b) (standing b) (b .loads)
-    placed h =
+    parted : trueBoard b ≡ true → Stands (b .system) (EngineIn b) (standsNo b) (b .loads)
+    parted h =
         let f = truth-of b h in
-        subst (λ (a : Board). Placed (b .system) (enginesOf b) (standing a) (a .loads)) (sym (f .same))
-        (subst (λ (x : List ℕ). Placed (b .system) (enginesOf b) x (boardOn (b .system) (f .rows) .loads)) (sym (standing-on (b .system) (f .rows)))
-        (valid-placed (f .valid) (engineLimit - b .system .engines)))
+        subst (λ (a : Board). Stands (b .system) (EngineIn b) (standsNo a) (a .loads)) (sym (f .same)) (parted-on (b .system) (f .rows) (f .keeps) (f .valid))
+
+-- main: a fresh board
+
+pub fresh-on : (y : System) → Limits y → emptyBoard y ≡ boardOn y (replicate (y .engines) emptyLoad)
+fresh-on y limits =
+    ap (λ (ls : List EngineLoad). record { system = y; loads = ls })
+    (ap (replicate engineLimit) (sym (engineWith-idle y))
+    ∙ ap (map (engineWith y)) (ap (λ (n : ℕ). replicate n emptyLoad) all ∙ sym (replicate-append-replicate (y .engines) (engineLimit - y .engines) emptyLoad)))
+  where
+    all : engineLimit ≡ y .engines + (engineLimit - y .engines)
+    all = omega (arith, limits .engines)
+
+pub fresh-true : (y : System) → keepsLimits y ≡ true → IsTrue (emptyBoard y)
+fresh-true y keeps =
+    let limits = limits-of y keeps in
+    subst IsTrue (sym (fresh-on y limits)) (true-on y (replicate (y .engines) emptyLoad) keeps (valid-empty y limits))
+
+pub fresh-is : (y : System) → IsFresh y (emptyBoard y)
+fresh-is y = record { system = refl; sixteen = refl; nothing = λ e. nothing-at (e - 1) }
+  where
+    idle : (n i : ℕ) → getD (replicate n idleEngine) i idleEngine ≡ idleEngine
+    idle zero i = refl
+    idle (suc n) zero = refl
+    idle (suc n) (suc i) = idle n i
+
+    nothing-at : (i : ℕ) → HoldsNothing (getD (replicate engineLimit idleEngine) i (record { time = 0; memory = 0; counts = [] }))
+    nothing-at i =
+        let same = record-same (replicate engineLimit idleEngine) i in
+        record {
+          time = same .time ∙ ap (λ (l : EngineLoad). l .time) (idle engineLimit i);
+          memory = same .memory ∙ ap (λ (l : EngineLoad). l .memory) (idle engineLimit i);
+          counts = λ t. same .counts t ∙ ap (λ (l : EngineLoad). getD (l .counts) (t - 1) 0) (idle engineLimit i) ∙ getD-padded [] typeLimit (t - 1) 0;
+        }

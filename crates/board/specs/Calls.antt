@@ -8,6 +8,7 @@ use lib.Dec.{leb, ltb}
 use Rattle.system.specs.declared.System.{System}
 use Rattle.system.specs.Values.{ceilingsOf}
 use Rattle.system.specs.Limits.{engineLimit}
+use Rattle.system.specs.Layout.{readFile, readOutcome}
 use Rattle.system.specs.Outcome.{Outcome, accepted, refused, fromInput, fromState, outcomeOf, Checked, passes, fails, check, andThen}
 use Rattle.loads.specs.Load.{fitsEngine, oneMore, oneLess}
 use Rattle.partition.specs.ForSystem.{placeable, recoveredFor}
@@ -16,7 +17,7 @@ use Rattle.board.specs.declared.Board.{Board}
 use Rattle.board.specs.declared.Turn.{Turn}
 use Rattle.board.specs.declared.Place.{Place}
 use Rattle.board.specs.declared.Place.the-variants.{Engine, Nowhere}
-use Rattle.board.specs.Boards.{boardOf, withLoad, enginesOf, loadAt, standing}
+use Rattle.board.specs.Boards.{openedBoard, boardOf, withLoad, enginesOf, loadAt, standing}
 use Rattle.board.specs.Truth.{trueBoard}
 
 -- the answer of a call, the board after it, and what the lent table then holds
@@ -138,6 +139,11 @@ repackOf b table = checked (checkRepack b (length table)) b table (reseated b (s
 -- what a call gave: its answer, the board that it returned, and what the table then held
 abbrev pub gave : Turn → List ℕ → Result
 gave r after = result (outcomeOf (r .answer)) (r .board) after
+
+-- what opening a file promises of its whole result
+pub record Opens (file : List ℕ) (r : Turn) : Type 0 where
+  pub answer : outcomeOf (r .answer) ≡ readOutcome (readFile file)
+  pub board : r .board ≡ openedBoard (readFile file)
 
 -- what a call promises of its whole result, and of the table
 pub record Does (x : Result) (r : Turn) (after : List ℕ) : Type 0 where

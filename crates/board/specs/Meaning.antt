@@ -1,152 +1,122 @@
--- What a true board is and what each call means for one, in the words of document 01 and demand 3, apart from how the test and the calls are defined;
--- and demand 1 for every board. Of the calls only `Result` is known here.
-use Prim.Native.Nat.{ℕ, _-_, _≤_, _<_}
+-- What each call promises besides the equation with its definition: demand 1 for every board, the order of the refusals, and what the call means for a true board,
+-- in the plain words of `Words`. Of the calls only `Result` is known here.
+use Prim.Native.Nat.{ℕ, _+_, _*_, _≤_, _<_}
 use mathlib.Core.List.{List, [], _∷_}
-use mathlib.Core.Bool.{true, false, cond}
+use mathlib.Core.Bool.{true, false}
 use mathlib.Core.Path.{_≡_}
 use mathlib.Core.Logic.{_↔_}
-use lib.ListN.{length, getD}
-use lib.Dec.{eqb}
-use Rattle.system.specs.Values.{ceilingsOf}
-use Rattle.system.specs.Limits.{keepsLimits, engineLimit, typeLimit}
-use Rattle.system.specs.Outcome.{Source, accepted, refused, fromInput, fromState, isAccepted}
-use Rattle.loads.specs.declared.EngineLoad.{EngineLoad}
-use Rattle.loads.specs.Load.{fitsEngine, oneMore, oneLess, engineWith, idleEngine}
-use Rattle.partition.specs.Assignment.{among}
-use Rattle.partition.specs.Shares.{usedLoads}
-use Rattle.partition.specs.ForSystem.{FeasibleOn, Placed, OnFewest}
-use Rattle.table.specs.Table.{longEnough, filled}
+use lib.ListN.{length}
+use Rattle.system.specs.declared.System.{System}
+use Rattle.system.specs.Layout.{readFile, opened, unread}
+use Rattle.system.specs.Outcome.{Outcome, Source, accepted, refused, fromInput, fromState, isAccepted}
+use Rattle.partition.specs.Assignment.{enginesTo}
+use Rattle.partition.specs.Plain.{columnsOut, LongEnough, Stands}
+use Rattle.table.specs.Table.{filled}
+use Rattle.table.specs.Meaning.{FilledMeans}
 use Rattle.board.specs.declared.Board.{Board}
-use Rattle.board.specs.Boards.{enginesOf, loadAt, countsOf, standing}
 use Rattle.board.specs.Truth.{trueBoard}
 use Rattle.board.specs.Calls.{Result}
+use Rattle.board.specs.Words.{standsNo, plusOne, IsType, IsEngine, EngineIn, HoldsType, BelowCeiling, TakesType, Room, NoRoom, OneMoreOn, IsTrue, Packed, IsFresh}
 
--- the record of the engine at index i, engine number i + 1
-abbrev pub engineAt : Board → ℕ → EngineLoad
-engineAt b i = getD (b .loads) i idleEngine
-
--- the row of refusal 20: a board is true where none of it is so. That there are sixteen engines with six counts each is what arrays of the code always have
-pub record IsTrue (b : Board) : Type 0 where
-  pub sixteen : length (b .loads) ≡ engineLimit
-  pub six : (i : ℕ) → i < b .system .engines → length (engineAt b i .counts) ≡ typeLimit
-  -- "its system breaks a limit", "the system's own u, s and n too"
-  pub limits : keepsLimits (b .system) ≡ true
-  -- "an entry for an engine past m or a type past k is not 0"
-  pub pastEngines : (i : ℕ) → b .system .engines ≤ i → engineAt b i ≡ idleEngine
-  pub pastTypes : (i j : ℕ) → i < b .system .engines → b .system .typecount ≤ j → getD (engineAt b i .counts) j 0 ≡ 0
-  -- "a type's standing total passes its ceiling"
-  pub ceilings : (j : ℕ) → getD (standing b) j 0 ≤ getD (ceilingsOf (b .system)) j 0
-  -- "stored sums differ from the load, or a load doesn't fit"
-  pub sums : (i : ℕ) → i < b .system .engines → engineAt b i ≡ engineWith (b .system) (engineAt b i .counts)
-  pub fit : (i : ℕ) → i < b .system .engines → fitsEngine (b .system) (engineAt b i .counts) ≡ true
-
--- the test says so exactly, and a true board is a good assignment of what stands on it
+-- the test of refusal 20 says so exactly, and a true board is a good assignment of what stands on it
 pub record TrueMeans (b : Board) : Type 0 where
   pub tests : (trueBoard b ≡ true) ↔ IsTrue b
-  pub placed : trueBoard b ≡ true → Placed (b .system) (enginesOf b) (standing b) (b .loads)
+  pub placed : IsTrue b → Stands (b .system) (EngineIn b) (standsNo b) (b .loads)
 
--- t is a type number, 1 to k; e an engine number, 1 to m
-abbrev pub IsType : Board → ℕ → Type 0
-IsType b t = (1 ≤ t) × (t ≤ b .system .typecount)
+-- opening: of a file that opens, the fresh board of its system, which is true; of any other, the number of the refusal
+pub record OpenMeans (file : List ℕ) (o : Outcome) (b : Board) : Type 0 where
+  pub opens : (y : System) → readFile file ≡ opened y → o ≡ accepted []
+  pub fresh : (y : System) → readFile file ≡ opened y → IsFresh y b
+  pub isTrue : (y : System) → readFile file ≡ opened y → IsTrue b
+  pub refuses : (n : ℕ) → readFile file ≡ unread n → o ≡ refused fromInput n
 
-abbrev pub IsEngine : Board → ℕ → Type 0
-IsEngine b e = (1 ≤ e) × (e ≤ b .system .engines)
+-- What each call means for a true board and a table that 11 passes
 
--- engine e holds an instance of type t
-pub record HoldsType (b : Board) (t e : ℕ) : Type 0 where
-  pub isType : IsType b t
-  pub isEngine : IsEngine b e
-  pub some : 1 ≤ getD (loadAt b e) (t - 1) 0
-
--- "A type is below its ceiling while fewer than n(t) of it stand"
-pub record BelowCeiling (b : Board) (t : ℕ) : Type 0 where
-  pub isType : IsType b t
-  pub fewer : getD (standing b) (t - 1) 0 < getD (ceilingsOf (b .system)) (t - 1) 0
-
--- "An engine takes a newcomer if its load with it fits"
-pub record TakesType (b : Board) (t e : ℕ) : Type 0 where
-  pub engine : among (enginesOf b) e ≡ true
-  pub fit : fitsEngine (b .system) (oneMore (t - 1) (loadAt b e)) ≡ true
-
--- the standing instances and the newcomer
-abbrev pub allWith : Board → ℕ → List ℕ
-allWith b t = oneMore (t - 1) (standing b)
-
--- a good assignment of them exists
-abbrev pub Room : Board → ℕ → Type 0
-Room b t = FeasibleOn (b .system) (enginesOf b) (allWith b t)
-
--- the board after differs from b by this load on engine e alone, and is true: its stored sums are those of its loads
-pub record Changed (b : Board) (e : ℕ) (x : List ℕ) (after : Board) : Type 0 where
-  pub isTrue : trueBoard after ≡ true
-  pub system : after .system ≡ b .system
-  pub loads : (d : ℕ) → 1 ≤ d → loadAt after d ≡ cond (eqb d e) x (loadAt b d)
-
--- the board after is a true board of this load on the fewest engines
-pub record Packed (b : Board) (x : List ℕ) (after : Board) : Type 0 where
-  pub isTrue : trueBoard after ≡ true
-  pub system : after .system ≡ b .system
-  pub stands : standing after ≡ x
-  pub fewest : OnFewest (b .system) (enginesOf b) x (after .loads) (usedLoads (countsOf (after .loads)))
-
--- admit: the newcomer is on the engine that was answered, the lowest that takes it
-pub record AdmitMeans (b : Board) (t : ℕ) (r : Result) : Type 0 where
+-- admit: the newcomer is on the engine that was answered, the lowest that takes it. The table is filled only if there is none
+pub record AdmitMeans (b : Board) (t : ℕ) (table : List ℕ) (r : Result) : Type 0 where
   pub admits : BelowCeiling b t → (isAccepted (r .outcome) ≡ true) ↔ ((e : ℕ) × TakesType b t e)
-  pub noRoom : BelowCeiling b t → (r .outcome ≡ refused fromState 24) ↔ (Room b t → ⊥)
+  -- 23: "no engine takes it, but a good assignment of all with the newcomer exists"; 24: "no room: none exists"
+  pub tight : BelowCeiling b t → (r .outcome ≡ refused fromState 23) ↔ (((e : ℕ) → TakesType b t e → ⊥) × Room b t)
+  pub noRoom : BelowCeiling b t → (r .outcome ≡ refused fromState 24) ↔ NoRoom b t
   pub engine : isAccepted (r .outcome) ≡ true → (e : ℕ) × (r .outcome ≡ accepted (e ∷ []))
-  pub joins : (e : ℕ) → r .outcome ≡ accepted (e ∷ []) → Changed b e (oneMore (t - 1) (loadAt b e)) (r .board)
-  pub stands : isAccepted (r .outcome) ≡ true → standing (r .board) ≡ allWith b t
   pub takesIt : (e : ℕ) → r .outcome ≡ accepted (e ∷ []) → TakesType b t e
   pub lowest : (e d : ℕ) → r .outcome ≡ accepted (e ∷ []) → TakesType b t d → e ≤ d
+  pub joins : (e : ℕ) → r .outcome ≡ accepted (e ∷ []) → OneMoreOn b t e (r .board)
+  pub stands : isAccepted (r .outcome) ≡ true → (u : ℕ) → 1 ≤ u → standsNo (r .board) u ≡ plusOne t (standsNo b) u
+  pub isTrue : isAccepted (r .outcome) ≡ true → IsTrue (r .board)
+  pub asLent : isAccepted (r .outcome) ≡ true → r .table ≡ table
+  pub leftFilled : BelowCeiling b t → isAccepted (r .outcome) ≡ false → FilledMeans (b .system) (b .system .engines) table (r .table)
 
 -- seat: succeeds exactly when there is room, and packs all with the newcomer on the fewest engines
-pub record SeatMeans (b : Board) (t : ℕ) (r : Result) : Type 0 where
+pub record SeatMeans (b : Board) (t : ℕ) (table : List ℕ) (r : Result) : Type 0 where
   pub seats : BelowCeiling b t → (isAccepted (r .outcome) ≡ true) ↔ Room b t
-  pub noRoom : BelowCeiling b t → (r .outcome ≡ refused fromState 24) ↔ (Room b t → ⊥)
-  pub packs : isAccepted (r .outcome) ≡ true → Packed b (allWith b t) (r .board)
+  pub noRoom : BelowCeiling b t → (r .outcome ≡ refused fromState 24) ↔ NoRoom b t
+  pub answer : isAccepted (r .outcome) ≡ true → r .outcome ≡ accepted []
+  pub packs : isAccepted (r .outcome) ≡ true → Packed b (plusOne t (standsNo b)) (r .board)
+  pub leftFilled : BelowCeiling b t → FilledMeans (b .system) (b .system .engines) table (r .table)
 
 -- retire: succeeds exactly when that engine holds that type, and one instance leaves it
 pub record RetireMeans (b : Board) (t e : ℕ) (r : Result) : Type 0 where
   pub retires : (isAccepted (r .outcome) ≡ true) ↔ HoldsType b t e
-  pub leaves : isAccepted (r .outcome) ≡ true → Changed b e (oneLess (t - 1) (loadAt b e)) (r .board)
-  pub stands : isAccepted (r .outcome) ≡ true → standing (r .board) ≡ oneLess (t - 1) (standing b)
+  pub answer : isAccepted (r .outcome) ≡ true → r .outcome ≡ accepted []
+  pub leaves : isAccepted (r .outcome) ≡ true → OneMoreOn (r .board) t e b
+  pub stands : isAccepted (r .outcome) ≡ true → (u : ℕ) → 1 ≤ u → standsNo b u ≡ plusOne t (standsNo (r .board)) u
+  pub isTrue : isAccepted (r .outcome) ≡ true → IsTrue (r .board)
 
 -- repack: always succeeds, and packs what stands on the fewest engines
-pub record RepackMeans (b : Board) (r : Result) : Type 0 where
-  pub repacks : isAccepted (r .outcome) ≡ true
-  pub packs : Packed b (standing b) (r .board)
+pub record RepackMeans (b : Board) (table : List ℕ) (r : Result) : Type 0 where
+  pub repacks : r .outcome ≡ accepted []
+  pub packs : Packed b (standsNo b) (r .board)
+  pub leftFilled : FilledMeans (b .system) (b .system .engines) table (r .table)
 
--- The orders of refusal, for every board and table: each number with its list, where all that stand before it pass
+-- The orders of refusal, for every board and table: each number with its list is said exactly where its row says so and all that stand before it pass
 
--- "admit 20, 13, 11, 21, ..; seat 20, 13, 11, 21, ..": what both begin with
-pub record NewcomerInOrder (b : Board) (t : ℕ) (table : List ℕ) (r : Result) : Type 0 where
-  pub boardFirst : trueBoard b ≡ false → r .outcome ≡ refused fromState 20
-  pub thenType : trueBoard b ≡ true → (IsType b t → ⊥) → r .outcome ≡ refused fromInput 13
-  pub thenTable : trueBoard b ≡ true → IsType b t → longEnough (b .system) table ≡ false → r .outcome ≡ refused fromInput 11
-  pub thenCeiling : trueBoard b ≡ true → IsType b t → longEnough (b .system) table ≡ true → (BelowCeiling b t → ⊥) → r .outcome ≡ refused fromState 21
-
--- "admit 20, 13, 11, 21, 23 or 24": 23 is "no engine takes it, but a good assignment of all with the newcomer exists". `AdmitMeans` says when it is 24
-pub record AdmitInOrder (b : Board) (t : ℕ) (table : List ℕ) (r : Result) : Type 0 where
-  pub newcomer : NewcomerInOrder b t table r
-  pub thenTight : trueBoard b ≡ true → longEnough (b .system) table ≡ true → BelowCeiling b t
-      → ((e : ℕ) → TakesType b t e → ⊥)
-      → Room b t
-      → r .outcome ≡ refused fromState 23
+-- "admit 20, 13, 11, 21, 23 or 24; seat 20, 13, 11, 21, 24": what both begin with. Their meanings say when it is 23 or 24
+pub record NewcomerInOrder (b : Board) (t : ℕ) (table : List ℕ) (o : Outcome) : Type 0 where
+  pub boardFirst : (o ≡ refused fromState 20) ↔ (IsTrue b → ⊥)
+  pub thenType : IsTrue b → (o ≡ refused fromInput 13) ↔ (IsType b t → ⊥)
+  pub thenTable : IsTrue b → IsType b t → (o ≡ refused fromInput 11) ↔ (length table < (b .system .engines + 1) * columnsOut (b .system))
+  pub thenCeiling : IsTrue b → IsType b t → LongEnough (b .system) table → (o ≡ refused fromState 21) ↔ (BelowCeiling b t → ⊥)
 
 -- "retire 20, 13, 14, 22"
-pub record RetireInOrder (b : Board) (t e : ℕ) (r : Result) : Type 0 where
-  pub boardFirst : trueBoard b ≡ false → r .outcome ≡ refused fromState 20
-  pub thenType : trueBoard b ≡ true → (IsType b t → ⊥) → r .outcome ≡ refused fromInput 13
-  pub thenEngine : trueBoard b ≡ true → IsType b t → (IsEngine b e → ⊥) → r .outcome ≡ refused fromInput 14
-  pub thenHeld : trueBoard b ≡ true → IsType b t → IsEngine b e → (HoldsType b t e → ⊥) → r .outcome ≡ refused fromState 22
+pub record RetireInOrder (b : Board) (t e : ℕ) (o : Outcome) : Type 0 where
+  pub boardFirst : (o ≡ refused fromState 20) ↔ (IsTrue b → ⊥)
+  pub thenType : IsTrue b → (o ≡ refused fromInput 13) ↔ (IsType b t → ⊥)
+  pub thenEngine : IsTrue b → IsType b t → (o ≡ refused fromInput 14) ↔ (IsEngine b e → ⊥)
+  pub thenHeld : IsTrue b → IsType b t → IsEngine b e → (o ≡ refused fromState 22) ↔ (HoldsType b t e → ⊥)
 
 -- "repack 20, 11"
-pub record RepackInOrder (b : Board) (table : List ℕ) (r : Result) : Type 0 where
-  pub boardFirst : trueBoard b ≡ false → r .outcome ≡ refused fromState 20
-  pub thenTable : trueBoard b ≡ true → longEnough (b .system) table ≡ false → r .outcome ≡ refused fromInput 11
+pub record RepackInOrder (b : Board) (table : List ℕ) (o : Outcome) : Type 0 where
+  pub boardFirst : (o ≡ refused fromState 20) ↔ (IsTrue b → ⊥)
+  pub thenTable : IsTrue b → (o ≡ refused fromInput 11) ↔ (length table < (b .system .engines + 1) * columnsOut (b .system))
 
--- demand 1, for every board, true or not: a refused call hands back the board it was given, and the table as lent, except that 23 and 24 leave it filled
-pub record Demand1 (b : Board) (table : List ℕ) (r : Result) : Type 0 where
+-- Demand 1, for every board, true or not: a refused call hands back the board it was given, and the table as lent, except that 23 and 24 leave it filled.
+-- `left` is what the table holds after an accepted call: what it held before, or the table filled
+pub record Demand1 (b : Board) (table left : List ℕ) (r : Result) : Type 0 where
   pub board : isAccepted (r .outcome) ≡ false → r .board ≡ b
   pub asLent : (s : Source) (n : ℕ) → r .outcome ≡ refused s n → (n ≡ 23 → ⊥) → (n ≡ 24 → ⊥) → r .table ≡ table
-  pub leftFilled : (s : Source) (n : ℕ) → r .outcome ≡ refused s n → (n ≡ 23 → r .table ≡ filled (b .system) (enginesOf b) table) × (n ≡ 24 → r .table ≡ filled (b .system) (enginesOf b) table)
+  pub filledOn23 : (s : Source) → r .outcome ≡ refused s 23 → r .table ≡ filled (b .system) (enginesTo (b .system .engines)) table
+  pub filledOn24 : (s : Source) → r .outcome ≡ refused s 24 → r .table ≡ filled (b .system) (enginesTo (b .system .engines)) table
+  pub onAccept : isAccepted (r .outcome) ≡ true → r .table ≡ left
+
+-- What the contracts cite
+
+pub record AdmitPromises (b : Board) (t : ℕ) (table : List ℕ) (r : Result) : Type 0 where
+  pub demand1 : Demand1 b table table r
+  pub order : NewcomerInOrder b t table (r .outcome)
+  pub means : IsTrue b → LongEnough (b .system) table → AdmitMeans b t table r
+
+pub record SeatPromises (b : Board) (t : ℕ) (table : List ℕ) (r : Result) : Type 0 where
+  pub demand1 : Demand1 b table (filled (b .system) (enginesTo (b .system .engines)) table) r
+  pub order : NewcomerInOrder b t table (r .outcome)
+  pub means : IsTrue b → LongEnough (b .system) table → SeatMeans b t table r
+
+pub record RetirePromises (b : Board) (t e : ℕ) (r : Result) : Type 0 where
+  pub demand1 : Demand1 b [] [] r
+  pub order : RetireInOrder b t e (r .outcome)
+  pub means : IsTrue b → RetireMeans b t e r
+
+pub record RepackPromises (b : Board) (table : List ℕ) (r : Result) : Type 0 where
+  pub demand1 : Demand1 b table (filled (b .system) (enginesTo (b .system .engines)) table) r
+  pub order : RepackInOrder b table (r .outcome)
+  pub means : IsTrue b → LongEnough (b .system) table → RepackMeans b table r

@@ -1,14 +1,8 @@
 // Opening a board, and the four calls: admit, seat, retire, repack. Each checks first and works second.
-ghost use mathlib.Core.Path.{_≡_};
-ghost use mathlib.Core.Bool.{true};
 ghost use mathlib.Core.List.{[]};
-ghost use Rattle.system.specs.Layout.{readFile, readOutcome};
 ghost use Rattle.system.specs.Outcome.{outcomeOf};
-ghost use Rattle.table.specs.Table.{longEnough};
-ghost use Rattle.board.specs.Boards.{openedBoard};
-ghost use Rattle.board.specs.Truth.{trueBoard};
-ghost use Rattle.board.specs.Calls.{admitOf, seatOf, retireOf, repackOf, gave, Does};
-ghost use Rattle.board.specs.Meaning.{Demand1, AdmitMeans, SeatMeans, RetireMeans, RepackMeans};
+ghost use Rattle.board.specs.Calls.{admitOf, seatOf, retireOf, repackOf, gave, Opens, Does};
+ghost use Rattle.board.specs.Meaning.{OpenMeans, AdmitPromises, SeatPromises, RetirePromises, RepackPromises};
 use crate::Board;
 use crate::Place;
 use crate::Turn;
@@ -19,7 +13,8 @@ use system::Check;
 
 // The fresh board of a system file, or the blank board where the file is refused.
 pub fn open_board(file: &[u8]) -> Turn
-    ensures { λ r. ⌜ (outcomeOf (r .answer) ≡ readOutcome (readFile (now (file .entry)))) × (r .board ≡ openedBoard (readFile (now (file .entry)))) ⌝ }
+    ensures { λ r. ⌜ Opens (now (file .entry)) r ⌝ }
+    ensures { λ r. ⌜ OpenMeans (now (file .entry)) (outcomeOf (r .answer)) (r .board) ⌝ }
 {
     let o = system::read_system(file);
     let y = o.system;
@@ -33,8 +28,7 @@ pub fn open_board(file: &[u8]) -> Turn
 // Admit: the newcomer goes to the lowest-numbered engine that takes it; the table is filled only if there is none.
 pub fn admit(b: Board, t: usize, table: &mut [u16]) -> Turn
     ensures { λ r. ⌜ Does (admitOf b t (now (table .entry))) r (now (table .exit)) ⌝ }
-    ensures { λ r. ⌜ Demand1 b (now (table .entry)) (gave r (now (table .exit))) ⌝ }
-    ensures { λ r. ⌜ (trueBoard b ≡ true → longEnough (b .system) (now (table .entry)) ≡ true → AdmitMeans b t (gave r (now (table .exit)))) ⌝ }
+    ensures { λ r. ⌜ AdmitPromises b t (now (table .entry)) (gave r (now (table .exit))) ⌝ }
 {
     let check = checks::check_newcomer(b, t, table.len());
     if let Check::Fails(why) = check {
@@ -49,8 +43,7 @@ pub fn admit(b: Board, t: usize, table: &mut [u16]) -> Turn
 // Seat: the whole board becomes the recovery of what stands with the newcomer.
 pub fn seat(b: Board, t: usize, table: &mut [u16]) -> Turn
     ensures { λ r. ⌜ Does (seatOf b t (now (table .entry))) r (now (table .exit)) ⌝ }
-    ensures { λ r. ⌜ Demand1 b (now (table .entry)) (gave r (now (table .exit))) ⌝ }
-    ensures { λ r. ⌜ (trueBoard b ≡ true → longEnough (b .system) (now (table .entry)) ≡ true → SeatMeans b t (gave r (now (table .exit)))) ⌝ }
+    ensures { λ r. ⌜ SeatPromises b t (now (table .entry)) (gave r (now (table .exit))) ⌝ }
 {
     let check = checks::check_newcomer(b, t, table.len());
     if let Check::Fails(why) = check {
@@ -63,8 +56,7 @@ pub fn seat(b: Board, t: usize, table: &mut [u16]) -> Turn
 // Retire: one instance of type t leaves engine e.
 pub fn retire(b: Board, t: usize, e: usize) -> Turn
     ensures { λ r. ⌜ Does (retireOf b t e []) r [] ⌝ }
-    ensures { λ r. ⌜ Demand1 b [] (gave r []) ⌝ }
-    ensures { λ r. ⌜ (trueBoard b ≡ true → RetireMeans b t e (gave r [])) ⌝ }
+    ensures { λ r. ⌜ RetirePromises b t e (gave r []) ⌝ }
 {
     let check = checks::check_retire(b, t, e);
     if let Check::Fails(why) = check {
@@ -76,8 +68,7 @@ pub fn retire(b: Board, t: usize, e: usize) -> Turn
 // Repack: the board becomes the recovery of what stands.
 pub fn repack(b: Board, table: &mut [u16]) -> Turn
     ensures { λ r. ⌜ Does (repackOf b (now (table .entry))) r (now (table .exit)) ⌝ }
-    ensures { λ r. ⌜ Demand1 b (now (table .entry)) (gave r (now (table .exit))) ⌝ }
-    ensures { λ r. ⌜ (trueBoard b ≡ true → longEnough (b .system) (now (table .entry)) ≡ true → RepackMeans b (gave r (now (table .exit)))) ⌝ }
+    ensures { λ r. ⌜ RepackPromises b (now (table .entry)) (gave r (now (table .exit))) ⌝ }
 {
     let check = checks::check_repack(b, table.len());
     if let Check::Fails(why) = check {

@@ -1,4 +1,4 @@
-// Systems made part by part, document 01's systems A and B, and whether two systems are the same.
+// Systems made part by part, document 01's systems A and B, systems at the limits, and whether two systems are the same.
 use system::System;
 use system::TYPE_LIMIT;
 use system::TaskType;
@@ -36,6 +36,36 @@ pub fn system_a(engines: usize) -> System {
 // Document 01's system B, with this many engines and this memory rule.
 pub fn system_b(engines: usize, rule: u8) -> System {
     with_type(platform_of(engines, rule, 10, 8), 2, 5, 4)
+}
+
+// One type: m, rule, one capacity for time and memory, one cost for both, n.
+pub fn single(engines: usize, rule: u8, capacity: u32, cost: u32, ceiling: u16) -> System {
+    with_type(
+        platform_of(engines, rule, capacity, capacity),
+        cost,
+        cost,
+        ceiling,
+    )
+}
+
+// Six types of these ceilings, that cost nothing.
+pub fn six_of(engines: usize, ceilings: [u16; TYPE_LIMIT]) -> System {
+    let one = with_type(platform_of(engines, 0, 0, 0), 0, 0, ceilings[0]);
+    let two = with_type(one, 0, 0, ceilings[1]);
+    let three = with_type(two, 0, 0, ceilings[2]);
+    let four = with_type(three, 0, 0, ceilings[3]);
+    let five = with_type(four, 0, 0, ceilings[4]);
+    with_type(five, 0, 0, ceilings[5])
+}
+
+// Six types, 1,024 columns, 16 engines: two of type 1 take most of an engine's time, and the others go between them.
+pub fn system_full(rule: u8) -> System {
+    let one = with_type(platform_of(16, rule, 987654, 765432), 411111, 98765, 31);
+    let two = with_type(one, 432109, 87654, 1);
+    let three = with_type(two, 150001, 345678, 1);
+    let four = with_type(three, 123456, 456789, 1);
+    let five = with_type(four, 76543, 321098, 1);
+    with_type(five, 65432, 210987, 1)
 }
 
 // Two entries for a type say the same.

@@ -1,2 +1,4 @@
--- The theorem of crate `cases`.
+-- The theorems of crate `cases`.
 pub mod Shown
+pub mod OursShown
+pub mod EdgesShown

@@ -12,9 +12,9 @@ use Rattle.planner.specs.Plan.{verdictOf}
 use Rattle.board.specs.Truth.{trueLoads, trueBoard}
 use Rattle.board.specs.Calls.{checkNewcomer, firstOf, admitted, admitOf, reseated, seatOf, checkRetire, retireOf}
 use Rattle.ledger.specs.Ledger.{passing, countedOn, admitEntry, seatEntry, retireEntry, repackEntry, step, ledgerAfter, ledgerAnswers}
-use Rattle.ledger.specs.Demand3.{boardAfter, boardAnswers}
+use Rattle.ledger.specs.Demand3.{boardAfter, played}
 use Rattle.cases.specs.Cases.{yesOf, cases, AllHold}
 
 pub shown : AllHold cases
-unfolding columnsOf typesKeep keepsLimits ruleOf platformFrom typeFrom ruledHead headOf bodyOf ruledField fieldOf endOf fieldsFrom readFile sumOver fitsEngine holdsNone within plus less columnFrom loadOf countOn among every anyOf good numbersFrom eachBefore placesOf assignmentsOf someGood lowest precedes cell lowestRow recover recovery upTo filledTo verdictOf trueLoads trueBoard firstOf checkNewcomer admitted admitOf reseated seatOf checkRetire retireOf sumOf rowOn passing countedOn admitEntry seatEntry retireEntry repackEntry step ledgerAfter ledgerAnswers boardAfter boardAnswers yesOf cases
+unfolding columnsOf typesKeep keepsLimits ruleOf platformFrom typeFrom ruledHead headOf bodyOf ruledField fieldOf endOf fieldsFrom readFile sumOver fitsEngine holdsNone within plus less columnFrom loadOf countOn among every anyOf good numbersFrom eachBefore placesOf assignmentsOf someGood lowest precedes cell lowestRow recover recovery upTo filledTo verdictOf trueLoads trueBoard firstOf checkNewcomer admitted admitOf reseated seatOf checkRetire retireOf sumOf rowOn passing countedOn admitEntry seatEntry retireEntry repackEntry step ledgerAfter ledgerAnswers boardAfter played yesOf cases
 shown = refl

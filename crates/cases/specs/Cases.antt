@@ -14,9 +14,9 @@ use Rattle.partition.specs.Cell.{saysYes}
 use Rattle.partition.specs.ForSystem.{cellFor}
 use Rattle.table.specs.Table.{filled}
 use Rattle.planner.specs.Plan.{Verdict, verdictOf, planOutcome, planLoads}
-use Rattle.board.specs.Boards.{emptyBoard}
+use Rattle.board.specs.Boards.{openedBoard}
 use Rattle.ledger.specs.Ledger.{Call, admit, seat, retire, freshLedger, ledgerAfter, ledgerAnswers}
-use Rattle.ledger.specs.Demand3.{Request, boardAfter, boardAnswers}
+use Rattle.ledger.specs.Demand3.{Request, boardAfter, answersOf, played}
 
 -- The files
 
@@ -86,10 +86,10 @@ abbrev pub requests : List Call → List Request
 requests calls = map (λ (c : Call). record { call = c; table = lent }) calls
 
 abbrev pub answers : List ℕ → List Call → List Outcome
-answers file calls = boardAnswers (emptyBoard (systemOf file)) (requests calls)
+answers file calls = answersOf (played (openedBoard (readFile file)) (requests calls))
 
 abbrev pub boardLines : ℕ → List ℕ → List Call → List (List ℕ)
-boardLines engines file calls = map lineOf (take engines (boardAfter (emptyBoard (systemOf file)) (requests calls) .loads))
+boardLines engines file calls = map lineOf (take engines (boardAfter (openedBoard (readFile file)) (played (openedBoard (readFile file)) (requests calls)) .loads))
 
 -- and in the ledger
 abbrev pub entered : List ℕ → List Call → List Outcome

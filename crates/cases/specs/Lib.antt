@@ -1,2 +1,4 @@
 -- The definitions of crate `cases`.
 pub mod Cases
+pub mod Ours
+pub mod Edges

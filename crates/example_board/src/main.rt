@@ -9,6 +9,7 @@ use libc::STDOUT_FILENO;
 use loads::EngineLoad;
 use system::Answer;
 use system::Refusal;
+use table::entries_needed;
 
 // Opens a board, makes ten calls, and says what each answered. Each call takes the board that the call before it handed back, also
 // where that call was refused.
@@ -23,7 +24,8 @@ fn main() {
     let Answer::Accepted = answer else {
         return;
     };
-    // Admit and seat work in this table: (2 + 1) × (3 + 1) × (2 + 1) entries or more. 17,408 are enough for every system.
+    // Admit and seat work in a lent table of (2 + 1) × (3 + 1) × (2 + 1) entries or more. 17,408 are enough for every system.
+    say_entries(entries_needed(file));
     let mut table = [0u16; 36];
     let b = opened.board;
     let b = admitted(b, 1, &mut table);
@@ -79,6 +81,14 @@ fn say_answer(a: Answer) {
         Answer::Refused(why) => say_refusal(why),
     }
     say(b"\n");
+}
+
+// How many entries a table must have; nothing where the file is refused, which opening it has said.
+fn say_entries(a: Answer) {
+    if let Answer::Number(n) = a {
+        say_named(b"table: entries needed", n);
+        say(b"\n");
+    }
 }
 
 // A refusal comes from the input (1 to 15) or from the state of the board (20 to 24).

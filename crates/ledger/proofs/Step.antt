@@ -18,20 +18,21 @@ use Rattle.loads.specs.Load.{oneLess}
 use Rattle.loads.proofs.Order.{and-parts}
 use Rattle.loads.proofs.Change.{getD-oneMore, getD-oneLess}
 use Rattle.partition.specs.Assignment.{among, every}
-use Rattle.partition.specs.Shares.{usedLoads}
-use Rattle.partition.specs.ForSystem.{placeable, recoveredFor, OnFewest}
+use Rattle.partition.specs.ForSystem.{placeable, recoveredFor}
+use Rattle.partition.specs.Plain.{ceilingNo, LongEnough}
 use Rattle.partition.proofs.Lists.{not-both, or-cases, among-here, among-more, among-tested}
 use Rattle.partition.proofs.ForSystem.{someGood-placeable}
+use Rattle.partition.proofs.Plain.{ceiling-out}
 use Rattle.partition.proofs.Standing.{Valid, total, length-total, count-le-sum, total-joined, valid-joined, total-left, valid-left, total-recovered, valid-recovered}
 use Rattle.table.specs.Table.{longEnough, filled}
 use Rattle.board.specs.declared.Board.{Board}
-use Rattle.board.specs.Boards.{countsOf, standing}
 use Rattle.board.specs.Calls.{Result, result, knownType}
-use Rattle.board.specs.Meaning.{Packed}
-use Rattle.board.proofs.Truth.{boardOn, board-true}
+use Rattle.board.proofs.Plain.{same-number}
+use Rattle.board.proofs.Truth.{boardOn}
+use Rattle.board.proofs.TrueMeans.{true-on}
 use Rattle.board.proofs.Places.{rising, engines-distinct, engines-known, engines-rising}
 use Rattle.board.proofs.Views.{underIn, joinedAt, takesIn, withOne, countIn, leftAt, Newcomer, AdmitView, SeatView, RetireView, known-type, known-engine, first-index, length-withOne, withOne-within, admit-view, seat-view, retire-view, total-placeable, repack-view}
-use Rattle.board.proofs.Means.{admit-means, seat-means, retire-means, repack-means}
+use Rattle.board.proofs.Means.{long-out, admit-means, seat-means, retire-means, repack-means}
 use Rattle.ledger.specs.Ledger.{Call, admit, seat, retire, repack, Ledger, ledgerWith, engines, exists, isFull, passing, Entry, entry, countedOn, admitEntry, seatEntry, retireEntry, repackEntry, step}
 use Rattle.ledger.specs.Demand3.{callOn, lendsTable, addsType, retiresType, CallKept}
 
@@ -45,6 +46,13 @@ pub record Step (y : System) (xs : List (List ℕ)) (c : Call) (table : List ℕ
   pub stand : (t : ℕ) → 1 ≤ t
       → getD (total rows) (t - 1) 0 + cond (retiresType t c && isAccepted (callOn (boardOn y xs) c table .outcome)) 1 0
       ≡ getD (total xs) (t - 1) 0 + cond (addsType t c && isAccepted (callOn (boardOn y xs) c table .outcome)) 1 0
+
+eqb-sym : (a b : ℕ) → eqb a b ≡ eqb b a
+eqb-sym a b = go (eqb b a) refl
+  where
+    go : (p : Bool) → eqb b a ≡ p → eqb a b ≡ p
+    go true e = eq-eqb a b (sym (eqb-true b a e))
+    go false e = ne-eqb a b (λ q. eqb-false b a e (sym q))
 
 -- the lowest of some rising numbers that passes is the first of those that pass
 first-passing : (p : ℕ → Bool) (es : List ℕ) (e : ℕ) → rising es ≡ true → among es e ≡ true → p e ≡ true → ((d : ℕ) → among es d ≡ true → p d ≡ true → e ≤ d)
@@ -76,14 +84,6 @@ none-passing p (c ∷ es) h = go (p c) refl (none-passing p es (λ d m. h d (amo
     go : (q : Bool) → p c ≡ q → passing p es ≡ [] → cond q (c ∷ passing p es) (passing p es) ≡ []
     go true q rest = absurd (h c (among-here c es) q)
     go false q rest = rest
-
--- type numbers and their indexes
-same-number : (t u : ℕ) → 1 ≤ t → 1 ≤ u → eqb (t - 1) (u - 1) ≡ eqb t u
-same-number t u h k = go (eqb t u) refl
-  where
-    go : (p : Bool) → eqb t u ≡ p → eqb (t - 1) (u - 1) ≡ p
-    go true e = eq-eqb (t - 1) (u - 1) (ap (λ (n : ℕ). n - 1) (eqb-true t u e))
-    go false e = ne-eqb (t - 1) (u - 1) (λ q. eqb-false t u e (omega arith))
 
 module _ (y : System) (xs : List (List ℕ)) (keeps : keepsLimits y ≡ true) (v : Valid y xs) where
   abbrev b : Board
@@ -129,14 +129,16 @@ module _ (y : System) (xs : List (List ℕ)) (keeps : keepsLimits y ≡ true) (v
       add-zero (getD (total rows) (u - 1) 0)
       ∙ ap (λ (x : List ℕ). getD x (u - 1) 0) e
       ∙ getD-oneMore (t - 1) (u - 1) (total xs) (omega (arith, p .0, p .1, limits .typecount, length-total v))
-      ∙ ap (λ (q : Bool). getD (total xs) (u - 1) 0 + cond q 1 0) (same-number t u (p .0) h)
+      ∙ ap (λ (q : Bool). getD (total xs) (u - 1) 0 + cond q 1 0) (same-number t u (p .0) h ∙ eqb-sym u t)
 
   -- 21 is said where not fewer than n(t) stand
   not-full : (t : ℕ) → Newcomer y xs t → isFull l t ≡ false
-  not-full t n = let n-t = getD (ceilingsOf y) (t - 1) 0 in lt-leb n-t (getD (total xs) (t - 1) 0) (ltb-true (getD (total xs) (t - 1) 0) n-t (n .below))
+  not-full t n =
+      lt-leb (ceilingNo y t) (getD (total xs) (t - 1) 0) (omega (arith, ltb-true (getD (total xs) (t - 1) 0) (getD (ceilingsOf y) (t - 1) 0) (n .below), ceiling-out y t))
 
   is-full : (t : ℕ) → underIn y xs t ≡ false → isFull l t ≡ true
-  is-full t h = let n-t = getD (ceilingsOf y) (t - 1) 0 in le-leb n-t (getD (total xs) (t - 1) 0) (ltb-false (getD (total xs) (t - 1) 0) n-t h)
+  is-full t h =
+      le-leb (ceilingNo y t) (getD (total xs) (t - 1) 0) (omega (arith, ltb-false (getD (total xs) (t - 1) 0) (getD (ceilingsOf y) (t - 1) 0) h, ceiling-out y t))
 
   exists-one : (t : ℕ) → Newcomer y xs t → exists l (withOne xs t) ≡ placeable y (engines l) (withOne xs t)
   exists-one t n = someGood-placeable y limits (engines l) (engines-distinct b) (withOne xs t) (length-withOne y xs keeps v t) (withOne-within y xs keeps v t n)
@@ -187,21 +189,21 @@ module _ (y : System) (xs : List (List ℕ)) (keeps : keepsLimits y ≡ true) (v
 
   retire-step : (t e : ℕ) (table : List ℕ) → Step y xs (retire t e) table
   unfolding step retireEntry
-  retire-step t e table = by-view (retire-view y xs keeps v t e table)
+  retire-step t e table = by-view (retire-view y xs keeps v t e [])
     where
-      by-view : RetireView y xs t table (callOn b (retire t e) table) e → Step y xs (retire t e) table
-      by-view (RetireView.unknown k s) = refused-step (retire t e) table fromInput 13 table s (rw k)
-      by-view (RetireView.noEngine k d s) = refused-step (retire t e) table fromInput 14 table s (rw (k, d))
+      by-view : RetireView y xs t [] (callOn b (retire t e) table) e → Step y xs (retire t e) table
+      by-view (RetireView.unknown k s) = refused-step (retire t e) table fromInput 13 [] s (rw k)
+      by-view (RetireView.noEngine k d s) = refused-step (retire t e) table fromInput 14 [] s (rw (k, d))
       by-view (RetireView.noneThere k d none s) =
-          refused-step (retire t e) table fromState 22 table s (rw (k, d, eq-eqb (countIn xs t e) 0 (let z = leb-false 1 (countIn xs t e) none in omega arith)))
+          refused-step (retire t e) table fromState 22 [] s (rw (k, d, eq-eqb (countIn xs t e) 0 (let z = leb-false 1 (countIn xs t e) none in omega arith)))
       by-view (RetireView.leaves k d some s) =
-          accepted-step (retire t e) table [] (set xs (e - 1) (leftAt xs t e)) table
+          accepted-step (retire t e) table [] (set xs (e - 1) (leftAt xs t e)) []
           (valid-left y xs v (e - 1) (t - 1) index held)
           s
           (rw (k, d, ne-eqb (countIn xs t e) 0 (λ z. omega (arith, held))))
           (λ u h.
           ap (λ (x : List ℕ). getD x (u - 1) 0 + cond (eqb t u) 1 0) (total-left y xs v (e - 1) (t - 1) index held)
-          ∙ ap (λ (q : Bool). getD (oneLess (t - 1) (total xs)) (u - 1) 0 + cond q 1 0) (sym (same-number t u (known-type y xs keeps v t k .0) h))
+          ∙ ap (λ (q : Bool). getD (oneLess (t - 1) (total xs)) (u - 1) 0 + cond q 1 0) (sym (same-number t u (known-type y xs keeps v t k .0) h ∙ eqb-sym u t))
           ∙ getD-oneLess (t - 1) (u - 1) (total xs) (omega (arith, held, count-le-sum typeLimit xs (e - 1) (t - 1) (v .sized) (omega (arith, index, v .rows))))
           ∙ sym (add-zero (getD (total xs) (u - 1) 0)))
         where
@@ -225,24 +227,15 @@ module _ (y : System) (xs : List (List ℕ)) (keeps : keepsLimits y ≡ true) (v
 
   -- main: every call
 
-  pub step-of : (c : Call) (table : List ℕ) → (lendsTable c ≡ true → longEnough y table ≡ true) → Step y xs c table
-  step-of (admit t) table long = admit-step t table (long refl)
-  step-of (seat t) table long = seat-step t table (long refl)
+  pub step-of : (c : Call) (table : List ℕ) → (lendsTable c ≡ true → LongEnough y table) → Step y xs c table
+  step-of (admit t) table long = admit-step t table (long-out y table (limits .six) (long refl))
+  step-of (seat t) table long = seat-step t table (long-out y table (limits .six) (long refl))
   step-of (retire t e) table long = retire-step t e table
-  step-of repack table long = repack-step table (long refl)
+  step-of repack table long = repack-step table (long-out y table (limits .six) (long refl))
 
-  -- what demand 3 says of the call, on the board that it is given
-  packed-fewest : (x : List ℕ) (after : Board) → Packed b x after → OnFewest y (engines l) (standing after) (after .loads) (usedLoads (countsOf (after .loads)))
-  packed-fewest x after p = subst (λ (z : List ℕ). OnFewest y (engines l) z (after .loads) (usedLoads (countsOf (after .loads)))) (sym (p .stands)) (p .fewest)
-
-  pub kept-of : (c : Call) (table : List ℕ) → (lendsTable c ≡ true → longEnough y table ≡ true) → CallKept b c (callOn b c table)
-  kept-of (admit t) table long =
-      let m = admit-means b t table (board-true y xs keeps v) (long refl) in
-      λ h. (m .admits h, m .noRoom h)
-  kept-of (seat t) table long =
-      let m = seat-means b t table (board-true y xs keeps v) (long refl) in
-      ((λ h. (m .seats h, m .noRoom h)), (λ a. packed-fewest _ _ (m .packs a)))
-  kept-of (retire t e) table long = retire-means b t e table (board-true y xs keeps v) .retires
-  kept-of repack table long =
-      let m = repack-means b table (board-true y xs keeps v) (long refl) in
-      (m .repacks, packed-fewest _ _ (m .packs))
+  -- what the call means, on the board that it is given
+  pub kept-of : (c : Call) (table : List ℕ) → (lendsTable c ≡ true → LongEnough y table) → CallKept b c table (callOn b c table)
+  kept-of (admit t) table long = admit-means b (true-on y xs keeps v) t table (long refl)
+  kept-of (seat t) table long = seat-means b (true-on y xs keeps v) t table (long refl)
+  kept-of (retire t e) table long = retire-means b (true-on y xs keeps v) t e []
+  kept-of repack table long = repack-means b (true-on y xs keeps v) table (long refl)

@@ -1,22 +1,19 @@
--- Demand 3 as one statement: a list of calls on the fresh board of a system, each on the board that the one before returned, against the ledger of the same calls.
+-- Demand 3 as one statement: a list of calls from the fresh board of a system file, each on the board that the one before returned, against the ledger of the same calls.
+-- It speaks of boards in the plain words of board/specs/Words.
 use Prim.Native.Nat.{ℕ, _+_, _-_, _≤_}
 use mathlib.Core.List.{List, [], _∷_, _++_, map}
-use mathlib.Core.Bool.{Bool, true, false, cond, not, _&&_, _||_}
+use mathlib.Core.Bool.{Bool, true, false, cond, _&&_}
 use mathlib.Core.Path.{_≡_}
-use mathlib.Core.Logic.{_↔_}
 use lib.ListN.{getD}
 use lib.Dec.{eqb}
 use Rattle.system.specs.declared.System.{System}
-use Rattle.system.specs.Outcome.{Outcome, refused, fromState, isAccepted}
-use Rattle.loads.specs.Load.{engineWith, idleEngine}
-use Rattle.partition.specs.Assignment.{every}
-use Rattle.partition.specs.Shares.{usedLoads}
-use Rattle.partition.specs.ForSystem.{Placed, OnFewest}
-use Rattle.table.specs.Table.{longEnough}
+use Rattle.system.specs.Outcome.{Outcome, isAccepted}
+use Rattle.partition.specs.Plain.{LongEnough, EngineOf, Stands}
 use Rattle.board.specs.declared.Board.{Board}
-use Rattle.board.specs.Boards.{emptyBoard, enginesOf, countsOf, standing}
-use Rattle.board.specs.Calls.{Result, admitOf, seatOf, retireOf, repackOf}
-use Rattle.board.specs.Meaning.{HoldsType, BelowCeiling, TakesType, Room}
+use Rattle.board.specs.declared.Turn.{Turn}
+use Rattle.board.specs.Calls.{Result, admitOf, seatOf, retireOf, repackOf, gave, Does}
+use Rattle.board.specs.Words.{countAt, standsNo, IsTrue, IsFresh}
+use Rattle.board.specs.Meaning.{AdmitMeans, SeatMeans, RetireMeans, RepackMeans}
 use Rattle.ledger.specs.Ledger.{Call, admit, seat, retire, repack, countsAt, freshLedger, ledgerAfter, ledgerAnswers}
 
 -- a call with the table that is lent to it; a retire takes none, and its table is not looked at
@@ -24,38 +21,25 @@ pub record Request : Type 0 where
   pub call : Call
   pub table : List ℕ
 
--- the very definitions that the code's contracts cite
-abbrev pub callOn : Board → Call → List ℕ → Result
-callOn b (admit t) table = admitOf b t table
-callOn b (seat t) table = seatOf b t table
-callOn b (retire t e) table = retireOf b t e table
-callOn b repack table = repackOf b table
+-- a call that was made, and what it gave
+pub record Made : Type 0 where
+  pub asked : Request
+  pub gives : Result
 
-abbrev pub answerOn : Board → Request → Result
-answerOn b r = callOn b (r .call) (r .table)
+-- What is compared: the board at the end, the answers, and how many calls of a kind were accepted
 
--- each call gets the board that the call before it returned, after a refusal too
-unfoldable pub boardAfter : Board → List Request → Board
+unfoldable pub boardAfter : Board → List Made → Board
 boardAfter b [] = b
-boardAfter b (r ∷ rs) = boardAfter (answerOn b r .board) rs
+boardAfter b (m ∷ ms) = boardAfter (m .gives .board) ms
 
-unfoldable pub boardAnswers : Board → List Request → List Outcome
-boardAnswers b [] = []
-boardAnswers b (r ∷ rs) = answerOn b r .outcome ∷ boardAnswers (answerOn b r .board) rs
+abbrev pub requestsOf : List Made → List Request
+requestsOf ms = map (λ (m : Made). m .asked) ms
 
 abbrev pub callsOf : List Request → List Call
 callsOf rs = map (λ (r : Request). r .call) rs
 
--- every call but a retire is lent a table
-abbrev pub lendsTable : Call → Bool
-lendsTable (admit t) = true
-lendsTable (seat t) = true
-lendsTable (retire t e) = false
-lendsTable repack = true
-
--- "every table lent being long enough": 11 passes it
-abbrev pub longTables : System → List Request → Bool
-longTables y rs = every (λ (r : Request). not (lendsTable (r .call)) || longEnough y (r .table)) rs
+abbrev pub answersOf : List Made → List Outcome
+answersOf ms = map (λ (m : Made). m .gives .outcome) ms
 
 -- the call is an admit or a seat of type t, or a retire of type t
 abbrev pub addsType : ℕ → Call → Bool
@@ -70,31 +54,74 @@ retiresType t (seat u) = false
 retiresType t (retire u e) = eqb u t
 retiresType t repack = false
 
--- how many calls of this kind were accepted
-unfoldable pub acceptedOf : (Call → Bool) → Board → List Request → ℕ
-acceptedOf kind b [] = 0
-acceptedOf kind b (r ∷ rs) =
-    cond (kind (r .call) && isAccepted (answerOn b r .outcome)) 1 0 + acceptedOf kind (answerOn b r .board) rs
+unfoldable pub acceptedOf : (Call → Bool) → List Made → ℕ
+acceptedOf kind [] = 0
+acceptedOf kind (m ∷ ms) = cond (kind (m .asked .call) && isAccepted (m .gives .outcome)) 1 0 + acceptedOf kind ms
 
--- what demand 3 says of one call, of the board b that it was given and its result r
-abbrev pub CallKept : Board → Call → Result → Type 0
-CallKept b (admit t) r =
-    BelowCeiling b t → ((isAccepted (r .outcome) ≡ true) ↔ ((e : ℕ) × TakesType b t e)) × ((r .outcome ≡ refused fromState 24) ↔ (Room b t → ⊥))
-CallKept b (seat t) r =
-    (BelowCeiling b t → ((isAccepted (r .outcome) ≡ true) ↔ Room b t) × ((r .outcome ≡ refused fromState 24) ↔ (Room b t → ⊥)))
-    × (isAccepted (r .outcome) ≡ true → OnFewest (b .system) (enginesOf b) (standing (r .board)) (r .board .loads) (usedLoads (countsOf (r .board .loads))))
-CallKept b (retire t e) r = (isAccepted (r .outcome) ≡ true) ↔ HoldsType b t e
-CallKept b repack r =
-    (isAccepted (r .outcome) ≡ true) × OnFewest (b .system) (enginesOf b) (standing (r .board)) (r .board .loads) (usedLoads (countsOf (r .board .loads)))
+-- What is supposed: "every table lent being long enough". Every call but a retire is lent one
 
-pub record Demand3 (y : System) (rs : List Request) : Type 0 where
-  -- every engine holds what the ledger has there, and its stored time and memory are theirs
-  pub engines : (e : ℕ) → 1 ≤ e → e ≤ y .engines → getD (boardAfter (emptyBoard y) rs .loads) (e - 1) idleEngine ≡ engineWith y (countsAt (ledgerAfter (freshLedger y) (callsOf rs)) e)
-  -- and that is a good assignment of what stands
-  pub placed : Placed y (enginesOf (boardAfter (emptyBoard y) rs)) (standing (boardAfter (emptyBoard y) rs)) (boardAfter (emptyBoard y) rs .loads)
+abbrev pub lendsTable : Call → Bool
+lendsTable (admit t) = true
+lendsTable (seat t) = true
+lendsTable (retire t e) = false
+lendsTable repack = true
+
+abbrev pub LongTables : System → List Request → Type 0
+LongTables y rs = (before after : List Request) (r : Request) → rs ≡ before ++ r ∷ after → lendsTable (r .call) ≡ true → LongEnough y (r .table)
+
+-- The demand
+
+-- what it says of one call, of the board b that it was given and its result: all that the call means
+abbrev pub CallKept : Board → Call → List ℕ → Result → Type 0
+CallKept b (admit t) table r = AdmitMeans b t table r
+CallKept b (seat t) table r = SeatMeans b t table r
+CallKept b (retire t e) table r = RetireMeans b t e r
+CallKept b repack table r = RepackMeans b table r
+
+-- y is the file's system, `start` the board that opening the file gave, ms the calls that were made from it
+pub record Demand3 (y : System) (start : Board) (ms : List Made) : Type 0 where
+  -- the list starts from a fresh board: the file's system, its m engines, and nothing on any
+  pub starts : IsFresh y start
+  -- at the end every engine holds what the ledger has there
+  pub engines : (e t : ℕ) → 1 ≤ e → e ≤ y .engines → 1 ≤ t → countAt (boardAfter start ms) e t ≡ getD (countsAt (ledgerAfter (freshLedger y) (callsOf (requestsOf ms))) e) (t - 1) 0
+  -- its stored time and memory are the sums, nothing is on engines past m, and the board carries the file's system
+  pub isTrue : IsTrue (boardAfter start ms)
+  pub system : boardAfter start ms .system ≡ y
+  -- that is a good assignment of what stands
+  pub placed : Stands y (EngineOf y) (standsNo (boardAfter start ms)) (boardAfter start ms .loads)
   -- every call was answered as the ledger answers it
-  pub answers : boardAnswers (emptyBoard y) rs ≡ ledgerAnswers (freshLedger y) (callsOf rs)
+  pub answers : answersOf ms ≡ ledgerAnswers (freshLedger y) (callsOf (requestsOf ms))
   -- of each type there stand its accepted admits and seats less its accepted retires
-  pub stand : (t : ℕ) → 1 ≤ t → t ≤ y .typecount → getD (standing (boardAfter (emptyBoard y) rs)) (t - 1) 0 + acceptedOf (retiresType t) (emptyBoard y) rs ≡ acceptedOf (addsType t) (emptyBoard y) rs
-  -- and each call, on the board that it was given
-  pub calls : (before after : List Request) (r : Request) → rs ≡ before ++ r ∷ after → CallKept (boardAfter (emptyBoard y) before) (r .call) (answerOn (boardAfter (emptyBoard y) before) r)
+  pub stand : (t : ℕ) → 1 ≤ t → t ≤ y .typecount → standsNo (boardAfter start ms) t + acceptedOf (retiresType t) ms ≡ acceptedOf (addsType t) ms
+  -- and each call did, on the board that it was given, what it means
+  pub calls : (before after : List Made) (m : Made) → ms ≡ before ++ m ∷ after → CallKept (boardAfter start before) (m .asked .call) (m .asked .table) (m .gives)
+
+-- Two ways to come to such calls
+
+-- by the definitions that the code's contracts cite: each call gets the board that the call before it returned, after a refusal too
+abbrev pub callOn : Board → Call → List ℕ → Result
+callOn b (admit t) table = admitOf b t table
+callOn b (seat t) table = seatOf b t table
+callOn b (retire t e) table = retireOf b t e []
+callOn b repack table = repackOf b table
+
+abbrev pub answerOn : Board → Request → Result
+answerOn b r = callOn b (r .call) (r .table)
+
+unfoldable pub played : Board → List Request → List Made
+played b [] = []
+played b (r ∷ rs) = record { asked = r; gives = answerOn b r } ∷ played (answerOn b r .board) rs
+
+-- by the code: what a call answered with its board, and what the table held after it
+pub record Ran : Type 0 where
+  pub asked : Request
+  pub turn : Turn
+  pub after : List ℕ
+
+abbrev pub madeBy : Ran → Made
+madeBy r = record { asked = r .asked; gives = gave (r .turn) (r .after) }
+
+-- every one is what the contract of its call promises on the board that the one before it returned
+pub data Promised : Board → List Ran → Type 0 where
+  none : {b : Board} → Promised b []
+  next : {b : Board} {r : Ran} {rs : List Ran} → Does (answerOn b (r .asked)) (r .turn) (r .after) → Promised (r .turn .board) rs → Promised b (r ∷ rs)

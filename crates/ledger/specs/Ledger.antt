@@ -1,17 +1,18 @@
 -- Document 01's "Ledger": kept from the calls alone. It knows systems, loads, assignments and cells, and nothing of the board or the table.
 use Prim.Native.Nat.{ℕ, _-_}
 use mathlib.Core.List.{List, [], _∷_}
-use mathlib.Core.Bool.{Bool, cond, not, _&&_}
+use mathlib.Core.Bool.{Bool, false, cond, not, _&&_}
+use mathlib.Core.Path.{_≡_}
 use lib.ListN.{getD, set, replicate}
 use lib.Dec.{leb, eqb}
 use Rattle.system.specs.declared.System.{System}
-use Rattle.system.specs.Values.{ceilingsOf}
 use Rattle.system.specs.Limits.{typeLimit}
-use Rattle.system.specs.Outcome.{Outcome, accepted, refused, fromInput, fromState}
+use Rattle.system.specs.Outcome.{Outcome, accepted, refused, fromInput, fromState, isAccepted}
 use Rattle.loads.specs.Load.{fitsEngine, oneMore, oneLess, emptyLoad}
 use Rattle.partition.specs.Assignment.{enginesTo, someGood}
 use Rattle.partition.specs.Shares.{sumOf}
 use Rattle.partition.specs.ForSystem.{recoveredFor}
+use Rattle.partition.specs.Plain.{ceilingNo}
 
 -- a call, as the ledger hears of it: its kind, with its type number and engine number where it has them
 pub data Call : Type 0 where
@@ -71,7 +72,7 @@ isEngine l e = leb 1 e && leb e (l .system .engines)
 
 -- n(t) of t stand
 abbrev pub isFull : Ledger → ℕ → Bool
-isFull l t = leb (getD (ceilingsOf (l .system)) (t - 1) 0) (getD (stands l) (t - 1) 0)
+isFull l t = leb (ceilingNo (l .system) t) (getD (stands l) (t - 1) 0)
 
 -- those of a list that pass, in order
 unfoldable pub passing : (ℕ → Bool) → List ℕ → List ℕ
@@ -125,3 +126,7 @@ ledgerAfter l (c ∷ cs) = ledgerAfter (step l c .ledger) cs
 unfoldable pub ledgerAnswers : Ledger → List Call → List Outcome
 ledgerAnswers l [] = []
 ledgerAnswers l (c ∷ cs) = step l c .answer ∷ ledgerAnswers (step l c .ledger) cs
+
+-- "A refused call leaves the ledger as it was"
+abbrev pub RefusedKeeps : Type 0
+RefusedKeeps = (l : Ledger) (c : Call) → isAccepted (step l c .answer) ≡ false → step l c .ledger ≡ l

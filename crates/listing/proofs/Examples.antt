@@ -1,6 +1,6 @@
--- Document 01's listings come out of the definition: its example, W6's refusal and W7's `engines 0`. All by computation.
+-- Document 01's listings come out of the definition: its example, W6's refusal and W7's `engines 0`; and the listings of files that do not read. All by computation from the files' bytes.
 use Prim.Native.Nat.{ℕ}
-use mathlib.Core.List.{List, [], _∷_, map}
+use mathlib.Core.List.{List, [], _∷_, _++_, map}
 use mathlib.Core.Path.{_≡_, refl}
 use lib.ListN.{replicate}
 use Rattle.system.specs.Limits.{columnsOf}
@@ -12,6 +12,7 @@ use Rattle.partition.specs.Shares.{rowOn}
 use Rattle.partition.specs.Cell.{lowest, precedes, cell, lowestRow, recover, recovery}
 use Rattle.planner.specs.Plan.{verdictOf, recordsFrom}
 use Rattle.listing.specs.Listing.{decimalFrom, parted, engineLine, recordLines, listingOf, fileListing}
+use Rattle.listing.specs.Text.{readingVerdict, fileText}
 
 -- a table that is long enough for each of them
 abbrev table : List ℕ
@@ -30,6 +31,14 @@ systemB m =
     1 ∷ 0 ∷ 10 ∷ m ∷ 0 ∷ 0 ∷ 0 ∷ 0 ∷ 10 ∷ 0 ∷ 0 ∷ 0 ∷ 8
     ∷ 2 ∷ 0 ∷ 10 ∷ 0 ∷ 0 ∷ 0 ∷ 2 ∷ 0 ∷ 0 ∷ 0 ∷ 5 ∷ 0 ∷ 4 ∷ []
 
+-- a type with u 1, s 1 and n 3; six of them have 4,096 columns
+abbrev typeOfThree : List ℕ
+typeOfThree = 2 ∷ 0 ∷ 10 ∷ 0 ∷ 0 ∷ 0 ∷ 1 ∷ 0 ∷ 0 ∷ 0 ∷ 1 ∷ 0 ∷ 3 ∷ []
+
+abbrev sixTypes : List ℕ
+sixTypes =
+    1 ∷ 0 ∷ 10 ∷ 3 ∷ 0 ∷ 0 ∷ 0 ∷ 0 ∷ 10 ∷ 0 ∷ 0 ∷ 0 ∷ 8 ∷ (typeOfThree ++ typeOfThree ++ typeOfThree ++ typeOfThree ++ typeOfThree ++ typeOfThree)
+
 -- engines 2 | engine 1 util 8 mem 6 types 2 0 | engine 2 util 10 mem 7 types 1 2, byte by byte: the words too are fixed by this
 abbrev twoEngines : List ℕ
 twoEngines =
@@ -41,6 +50,22 @@ twoEngines =
 abbrev refused12 : List ℕ
 refused12 = 114 ∷ 101 ∷ 102 ∷ 117 ∷ 115 ∷ 101 ∷ 100 ∷ 32 ∷ 49 ∷ 50 ∷ 10 ∷ []
 
+-- refused 9
+abbrev refused9 : List ℕ
+refused9 = 114 ∷ 101 ∷ 102 ∷ 117 ∷ 115 ∷ 101 ∷ 100 ∷ 32 ∷ 57 ∷ 10 ∷ []
+
+-- refused 5
+abbrev refused5 : List ℕ
+refused5 = 114 ∷ 101 ∷ 102 ∷ 117 ∷ 115 ∷ 101 ∷ 100 ∷ 32 ∷ 53 ∷ 10 ∷ []
+
+-- refused 10
+abbrev refused10 : List ℕ
+refused10 = 114 ∷ 101 ∷ 102 ∷ 117 ∷ 115 ∷ 101 ∷ 100 ∷ 32 ∷ 49 ∷ 48 ∷ 10 ∷ []
+
+-- refused 11
+abbrev refused11 : List ℕ
+refused11 = 114 ∷ 101 ∷ 102 ∷ 117 ∷ 115 ∷ 101 ∷ 100 ∷ 32 ∷ 49 ∷ 49 ∷ 10 ∷ []
+
 -- engines 0
 abbrev noEngine : List ℕ
 noEngine = 101 ∷ 110 ∷ 103 ∷ 105 ∷ 110 ∷ 101 ∷ 115 ∷ 32 ∷ 48 ∷ 10 ∷ []
@@ -48,3 +73,16 @@ noEngine = 101 ∷ 110 ∷ 103 ∷ 105 ∷ 110 ∷ 101 ∷ 115 ∷ 32 ∷ 48 ∷
 pub examples : map (λ (file : List ℕ). fileListing file table) (systemA 3 2 ∷ systemB 3 ∷ systemA 0 0 ∷ []) ≡ twoEngines ∷ refused12 ∷ noEngine ∷ []
 unfolding fieldAt bodyAt ruleOf platformFrom typeFrom ruledHead headOf bodyOf ruledField fieldOf endOf fieldsFrom readFile columnsOf sumOver fitsEngine within less columnFrom loadOf lowest precedes cell lowestRow recover recovery rowOn numbersFrom verdictOf recordsFrom decimalFrom parted engineLine recordLines listingOf
 examples = refl
+
+-- an empty file is `refused 9`, m 17 is `refused 5`, six types of too many columns are `refused 10`, of program `plan` too; a table that is too short is `refused 11`
+pub refusal-examples : map (λ (file : List ℕ). fileListing file table) ([] ∷ systemB 17 ∷ sixTypes ∷ []) ≡ refused9 ∷ refused5 ∷ refused10 ∷ []
+unfolding fieldAt bodyAt ruleOf platformFrom typeFrom ruledHead headOf bodyOf ruledField fieldOf endOf fieldsFrom readFile columnsOf verdictOf decimalFrom parted listingOf
+refusal-examples = refl
+
+pub text-examples : map fileText ([] ∷ systemB 17 ∷ sixTypes ∷ []) ≡ refused9 ∷ refused5 ∷ refused10 ∷ []
+unfolding fieldAt bodyAt ruleOf platformFrom typeFrom ruledHead headOf bodyOf ruledField fieldOf endOf fieldsFrom readFile columnsOf readingVerdict decimalFrom parted listingOf
+text-examples = refl
+
+pub short-table-example : fileListing (systemA 3 2) (replicate 47 0) ≡ refused11
+unfolding fieldAt bodyAt ruleOf platformFrom typeFrom ruledHead headOf bodyOf ruledField fieldOf endOf fieldsFrom readFile columnsOf verdictOf decimalFrom parted listingOf
+short-table-example = refl

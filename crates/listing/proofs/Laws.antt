@@ -11,13 +11,12 @@ use lib.Seq.{take-suc, take-all, take-length}
 use lib.Dec.{leb, lit<}
 use borrow.Author.Tests.{lt-ltb, le-ltb, leb-true, leb-false}
 use Rattle.system.specs.Layout.{Reading}
-use Rattle.system.specs.Outcome.{outcomeOf}
 use Rattle.loads.specs.declared.EngineLoad.{EngineLoad}
 use Rattle.planner.specs.declared.Plan.{Plan}
 use Rattle.planner.specs.Plan.{recordsFrom, recordsOf, verdictOf}
 use Rattle.planner.specs.Demands.{PlanPromises}
 use Rattle.io.specs.Digits.{glyph, digits, Fewest}
-use Rattle.listing.specs.Listing.{engineWord, utilWord, memWord, typesWord, space, lineEnd, digit, decimalFrom, decimal, parted, line, engineLine, recordLine, recordLines, listingOf, verdictListing}
+use Rattle.listing.specs.Listing.{engineWord, utilWord, memWord, typesWord, space, lineEnd, digit, decimalFrom, decimal, parted, line, engineLine, recordLine, recordLines, planListing, verdictListing}
 use Rattle.listing.specs.Room.{numberRoom}
 
 -- decimal digits
@@ -131,5 +130,5 @@ line-parts word n = simp (append-assoc, append-nil)
 
 -- the listing of what a plan promises
 pub listing-planned : {x : Reading} {table : List ℕ} {room : ℕ} {p : Plan} {after : List ℕ} → PlanPromises x table room p after
-    → listingOf (outcomeOf (p .answer)) (p .used) (p .typecount) (p .loads) ≡ verdictListing (verdictOf x table room)
+    → planListing p ≡ verdictListing (verdictOf x table room)
 listing-planned h = rw (h .answers, h .uses, h .counts, h .places)

@@ -2,5 +2,6 @@
 pub mod Laws
 pub mod Examples
 pub mod Numbers
+pub mod Lines
 pub mod Demands
 pub mod Text

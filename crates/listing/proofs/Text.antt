@@ -1,29 +1,33 @@
 -- The listing of a file over any table that is long enough is the file's text, and what a reader finds in it.
 use Prim.Native.Nat.{ℕ, _+_, _*_, _≤_}
-use mathlib.Core.Path.{_≡_, refl, sym, ap, _∙_}
+use mathlib.Core.Path.{_≡_, refl, ap, _∙_}
 use mathlib.Core.Bool.{true}
 use mathlib.Core.List.{List}
 use native.Mathlib.Nat.{mul-le-mul}
 use native.Mathlib.Omega.{arith}
-use lib.ListN.{length, getD, take}
+use lib.ListN.{length, take}
 use borrow.Author.Tests.{le-leb}
 use Rattle.system.specs.declared.System.{System}
-use Rattle.system.specs.Limits.{engineLimit, columnLimit, columns}
+use Rattle.system.specs.Limits.{engineLimit}
 use Rattle.system.specs.Layout.{Reading, readFile, opened, unread}
-use Rattle.system.proofs.Laws.{Limits, read-limits}
+use Rattle.system.proofs.Laws.{read-limits, read-keeps-limits}
 use Rattle.system.proofs.Prefix.{read-prefix}
+use Rattle.partition.specs.Plain.{columnsOut, LongEnough}
+use Rattle.partition.proofs.Plain.{limits-out}
 use Rattle.table.specs.Table.{longEnough}
+use Rattle.table.proofs.Shown.{long-enough-out}
 use Rattle.planner.specs.Plan.{verdictOf}
-use Rattle.listing.specs.Listing.{enginesWord, refusalLine, verdictListing, listingOf, fileListing}
-use Rattle.listing.specs.Demands.{TellsPlan, ListingDemand2, ListingPromises}
-use Rattle.listing.specs.Text.{tableSize, readingVerdict, fileText, TellsFile, TextPromises}
+use Rattle.listing.specs.Listing.{verdictListing, fileListing}
+use Rattle.listing.specs.Demands.{ListingDemand2, ListingRefuses, ListingPromises}
+use Rattle.listing.specs.Text.{readingVerdict, fileText, TextPromises}
 
--- the limits keep every system within a table of `tableSize` entries
-own-long : (y : System) (table : List ℕ) → length table ≡ tableSize → Limits y → longEnough y table ≡ true
-own-long y table size limits =
-    let rows : y .engines + 1 ≤ engineLimit + 1 = omega (arith, limits .engines) in
-    let all : (y .engines + 1) * columns y ≤ (engineLimit + 1) * columnLimit = mul-le-mul rows (limits .columns) in
-    le-leb _ (length table) (rw size all)
+-- 17 × 1,024 entries, rows 0 to 16 of 1,024 columns, are enough for every system that a file gives
+pub long-for-all : (file : List ℕ) (y : System) (table : List ℕ) → readFile file ≡ opened y → 17 * 1024 ≤ length table → LongEnough y table
+long-for-all file y table opens size =
+    let limits = limits-out y .0 (read-keeps-limits file y opens) in
+    let rows : y .engines + 1 ≤ 17 = omega (arith, limits .engines .1) in
+    let all : (y .engines + 1) * columnsOut y ≤ 17 * 1024 = mul-le-mul rows (limits .columns) in
+    omega arith
 
 -- where 11 and 15 pass, the verdict does not know the table
 verdict-alone : (x : Reading) (table : List ℕ) → ((y : System) → x ≡ opened y → (longEnough y table ≡ true) × (y .engines ≤ engineLimit)) → verdictOf x table engineLimit ≡ readingVerdict x
@@ -31,37 +35,41 @@ unfolding verdictOf readingVerdict
 verdict-alone (unread n) table h = refl
 verdict-alone (opened y) table h = rw (h y refl .0, le-leb (y .engines) engineLimit (h y refl .1))
 
-pub listing-any-table : (file table : List ℕ) → ((y : System) → readFile file ≡ opened y → longEnough y table ≡ true) → fileListing file table ≡ fileText file
-listing-any-table file table long = ap verdictListing (verdict-alone (readFile file) table (λ y e. (long y e, read-limits file y e .engines)))
+pub listing-any-table : (file table : List ℕ) → ((y : System) → readFile file ≡ opened y → LongEnough y table) → fileListing file table ≡ fileText file
+listing-any-table file table long =
+    ap verdictListing (verdict-alone (readFile file) table (λ y e. (long-enough-out y table (read-keeps-limits file y e) .1 (long y e), read-limits file y e .engines)))
 
--- a listing that begins with `engines` is no refusal
-not-refused : {y : System} {text : List ℕ} (n : ℕ) → TellsPlan y text → text ≡ refusalLine n → ⊥
-not-refused n tells e =
-    let same : enginesWord ≡ take 7 (refusalLine n) = sym (tells .begins) ∙ ap (take 7) e in
-    let first : _≡_ {A = ℕ} 101 114 = ap (λ (l : List ℕ). getD l 0 0) same in
-    absurd (omega arith)
-
-unread-text : (n : ℕ) → verdictListing (readingVerdict (unread n)) ≡ refusalLine n
-unfolding readingVerdict listingOf
-unread-text n = refl
-
-pub text-tells : (file table : List ℕ) → length table ≡ tableSize → ListingDemand2 file table (fileListing file table) → TellsFile file (fileText file)
-text-tells file table size demand2 =
-    let long : (y : System) → readFile file ≡ opened y → longEnough y table ≡ true = λ y e. own-long y table size (read-limits file y e) in
-    let found : ListingDemand2 file table (fileText file) = rw (listing-any-table file table long) at demand2 in
+-- so such a table serves every file
+pub text-promised : {file table old new after : List ℕ} {r : ℕ} → 17 * 1024 ≤ length table → ListingPromises file table old new r after → TextPromises file old new r
+text-promised {file = file} {table = table} size promises =
+    let long : (y : System) → readFile file ≡ opened y → LongEnough y table = λ y e. long-for-all file y table e size in
+    let text = listing-any-table file table long in
+    let found : ListingDemand2 file table (fileText file) = rw text at (promises .demand2) in
+    let first : ListingRefuses file table (fileText file) = rw text at (promises .refuses) in
     record {
-      unreadable = λ n e. ap (λ (x : Reading). verdictListing (readingVerdict x)) e ∙ unread-text n;
-      impossible = λ y e. (λ refused can. not-refused 12 (found .given y e (long y e) can) refused, found .impossible y e (long y e));
-      given = λ y e can. found .given y e (long y e) can;
+      written = rw text at (promises .written);
+      tells = record {
+        unreadable = first .unreadable;
+        impossible = λ y e. found .impossible y e (long y e);
+        given = λ y e. found .given y e (long y e);
+      };
     }
 
--- so a table of `tableSize` entries serves every file
-pub text-promised : {file table old new after : List ℕ} {r : ℕ} → length table ≡ tableSize → ListingPromises file table old new r after → TextPromises file old new r
-text-promised {file = file} {table = table} size promises = record {
-  written = rw (listing-any-table file table (λ y e. own-long y table size (read-limits file y e))) at (promises .written);
-  tells = text-tells file table size (promises .demand2);
-}
-
--- the 128 bytes that program `plan` reads (the code's `FILE_BYTES`) are enough: their text is that of the whole file
+-- the first 128 bytes decide: their text is that of the whole file
 pub text-prefix : (file : List ℕ) → fileText (take 128 file) ≡ fileText file
 text-prefix file = ap (λ (x : Reading). verdictListing (readingVerdict x)) (read-prefix file)
+
+-- and so is all that is said of it
+pub prefix-promised : {front file old new : List ℕ} {r : ℕ} → front ≡ take 128 file → TextPromises front old new r → TextPromises file old new r
+prefix-promised {front = front} {file = file} first promises =
+    let same : readFile front ≡ readFile file = ap readFile first ∙ read-prefix file in
+    let text : fileText front ≡ fileText file = ap fileText first ∙ text-prefix file in
+    let tells = rw text at (promises .tells) in
+    record {
+      written = rw text at (promises .written);
+      tells = record {
+        unreadable = λ n e. tells .unreadable n (same ∙ e);
+        impossible = λ y e. tells .impossible y (same ∙ e);
+        given = λ y e. tells .given y (same ∙ e);
+      };
+    }

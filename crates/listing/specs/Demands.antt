@@ -1,63 +1,122 @@
--- Demand 2 of the listing: what a reader finds in it, stated over the numbers that stand in the text and over assignments, whatever a listing is defined as.
-use Prim.Native.Nat.{ℕ, _+_, _-_, _*_, _≤_}
+-- What a reader finds in a listing, in bytes, plain arithmetic and assignments of single instances (partition/specs/Plain), whatever a listing is defined as.
+use Prim.Native.Nat.{ℕ, zero, suc, _+_, _-_, _*_, _≤_, _<_}
 use mathlib.Core.List.{List, [], _∷_, _++_}
-use mathlib.Core.Bool.{Bool, true, false, cond, _&&_}
+use mathlib.Core.Bool.{Bool, true, cond, _&&_}
 use mathlib.Core.Path.{_≡_}
-use lib.ListN.{take}
-use lib.Dec.{leb}
+use mathlib.Core.Logic.{_↔_}
+use lib.ListN.{length, getD}
+use lib.Dec.{leb, eqb}
 use Rattle.buffer.specs.Written.{Written}
 use Rattle.system.specs.declared.System.{System}
-use Rattle.system.specs.Values.{ceilingsOf}
+use Rattle.system.specs.declared.Answer.the-variants.{Refused}
+use Rattle.system.specs.declared.Refusal.{Refusal}
+use Rattle.system.specs.declared.Refusal.the-variants.{Input, State}
 use Rattle.system.specs.Limits.{engineLimit}
-use Rattle.system.specs.Layout.{readFile, opened}
-use Rattle.loads.specs.Load.{timeOf, memoryOf}
-use Rattle.partition.specs.Assignment.{Assignment, loadOn, assigned, usedOf, enginesTo}
-use Rattle.partition.specs.ForSystem.{goodOn, FeasibleOn}
-use Rattle.table.specs.Table.{longEnough}
+use Rattle.system.specs.Layout.{readFile, opened, unread}
+use Rattle.loads.specs.declared.EngineLoad.{EngineLoad}
+use Rattle.partition.specs.Assignment.{Assignment}
+use Rattle.partition.specs.OwnWords.{overInstances, timeOn, memoryOn, sharedMemoryOn}
+use Rattle.partition.specs.Plain.{ceilingNo, columnsOut, LongEnough, EngineOf, placesNo, Partition, Impossible, usedTo, recordNo}
+use Rattle.planner.specs.declared.Plan.{Plan}
 use Rattle.planner.specs.Plan.{planTable}
-use Rattle.listing.specs.Listing.{enginesWord, refusalLine, fileListing}
+use Rattle.listing.specs.Listing.{planListing, fileListing}
 
-abbrev pub isDigit : ℕ → Bool
-isDigit b = leb 48 b && leb b 57
+-- the bytes of `0` to `9`
+unfoldable pub onlyDigits : List ℕ → Bool
+onlyDigits [] = true
+onlyDigits (b ∷ bs) = leb 48 b && leb b 57 && onlyDigits bs
 
--- the numbers that stand in a text, in order: every run of digits is one, in decimal. `begun` says that one has begun, and n is its value so far
-unfoldable pub numbersAfter : Bool → ℕ → List ℕ → List ℕ
-numbersAfter begun n [] = cond begun (n ∷ []) []
-numbersAfter begun n (b ∷ text) =
-    let more = numbersAfter true (n * 10 + (b - 48)) text in
-    let rest = numbersAfter false 0 text in
-    cond (isDigit b) more (cond begun (n ∷ rest) rest)
+-- what digits read as, after those that read as n
+unfoldable pub valueFrom : ℕ → List ℕ → ℕ
+valueFrom n [] = n
+valueFrom n (b ∷ bs) = valueFrom (n * 10 + (b - 48)) bs
 
-abbrev pub numbersIn : List ℕ → List ℕ
-numbersIn text = numbersAfter false 0 text
+-- n in decimal: digits that read as n, and of more than one the first is not `0`
+pub record InDecimal (n : ℕ) (digits : List ℕ) : Type 0 where
+  pub some : 1 ≤ length digits
+  pub only : onlyDigits digits ≡ true
+  pub value : valueFrom 0 digits ≡ n
+  pub noZero : 1 < length digits → 48 < getD digits 0 0
 
--- what f gives for each of the list, one after another
-unfoldable pub eachOf : {A : Type 0} → (A → List ℕ) → List A → List ℕ
-eachOf f [] = []
-eachOf f (x ∷ xs) = f x ++ eachOf f xs
+-- "A refusal is one line, as `refused 12`": the bytes of `refused`, a space, the number, 0A
+pub record TellsRefusal (n : ℕ) (text : List ℕ) : Type 0 where
+  pub digits : List ℕ
+  pub inDecimal : InDecimal n digits
+  pub bytes : text ≡ 114 ∷ 101 ∷ 102 ∷ 117 ∷ 115 ∷ 101 ∷ 100 ∷ 32 ∷ (digits ++ (10 ∷ []))
 
--- "its number, time, memory and a count per type", of engine e under the assignment χ
-abbrev pub engineNumbers : System → Assignment → ℕ → List ℕ
-engineNumbers y χ e = e ∷ timeOf (y .types) (loadOn e χ) ∷ memoryOf (y .rule) (y .types) (loadOn e χ) ∷ take (y .typecount) (loadOn e χ)
+-- what f gives for 1, for 2, .. and for n, one after another
+unfoldable pub eachTo : (ℕ → List ℕ) → ℕ → List ℕ
+eachTo f zero = []
+eachTo f (suc n) = eachTo f n ++ f (suc n)
 
--- the text is about a good assignment of all n(t) instances that uses the fewest engines, which are those from 1 on
+-- `engine`, its number, `util`, its time, `mem`, its memory, `types`, the counts of types 1 to k, each after a space, and 0A; `spelt` writes a number
+abbrev pub engineText : (ℕ → List ℕ) → ℕ → ℕ → ℕ → ℕ → (ℕ → ℕ) → List ℕ
+engineText spelt k e time memory count =
+    (101 ∷ 110 ∷ 103 ∷ 105 ∷ 110 ∷ 101 ∷ 32 ∷ spelt e)
+    ++ (32 ∷ 117 ∷ 116 ∷ 105 ∷ 108 ∷ 32 ∷ spelt time)
+    ++ (32 ∷ 109 ∷ 101 ∷ 109 ∷ 32 ∷ spelt memory)
+    ++ (32 ∷ 116 ∷ 121 ∷ 112 ∷ 101 ∷ 115 ∷ eachTo (λ (t : ℕ). 32 ∷ spelt (count t)) k)
+    ++ (10 ∷ [])
+
+-- `engines`, a space, their number, 0A, and then the lines of engines 1 to that number
+abbrev pub planText : (ℕ → List ℕ) → ℕ → (ℕ → List ℕ) → List ℕ
+planText spelt used lineOf = 101 ∷ 110 ∷ 103 ∷ 105 ∷ 110 ∷ 101 ∷ 115 ∷ 32 ∷ (spelt used ++ (10 ∷ eachTo lineOf used))
+
+-- the line of engine e as its record has it
+abbrev pub recordText : (ℕ → List ℕ) → ℕ → List EngineLoad → ℕ → List ℕ
+recordText spelt k loads e =
+    engineText spelt k e (recordNo loads e .time) (recordNo loads e .memory) (λ (t : ℕ). getD (recordNo loads e .counts) (t - 1) 0)
+
+-- the text is about the records of engines 1 to `used`, in this order
+pub record TellsRecords (used k : ℕ) (loads : List EngineLoad) (text : List ℕ) : Type 0 where
+  pub spelt : ℕ → List ℕ
+  pub inDecimal : (n : ℕ) → InDecimal n (spelt n)
+  pub lines : text ≡ planText spelt used (recordText spelt k loads)
+
+-- what the instances on engine e take of its memory: s of each instance under rule 0, s of each type of which one is there under rule 1
+abbrev pub memoryUnder : System → Assignment → ℕ → ℕ
+memoryUnder y χ e = cond (eqb (y .rule) 0) (memoryOn e (y .types) χ) (sharedMemoryOn e (y .types) χ)
+
+-- the line of engine e under the assignment χ: "its number, time, memory and a count per type"
+abbrev pub assignedText : (ℕ → List ℕ) → System → Assignment → ℕ → List ℕ
+assignedText spelt y χ e =
+    engineText spelt (y .typecount) e (timeOn e (y .types) χ) (memoryUnder y χ e) (λ (t : ℕ). overInstances e 1 (placesNo χ t))
+
+-- the text is about a partition of the n(t) instances of each type among the engines 1 to m that uses the fewest, which are those from 1 on
 pub record TellsPlan (y : System) (text : List ℕ) : Type 0 where
   pub mapping : Assignment
+  pub partition : Partition y (EngineOf y) (ceilingNo y) mapping
   pub used : ℕ
-  pub assigns : assigned mapping ≡ ceilingsOf y
-  pub isGood : goodOn y (enginesTo (y .engines)) mapping ≡ true
-  pub uses : usedOf (enginesTo (y .engines)) mapping ≡ used
-  pub fewest : (χ : Assignment) → assigned χ ≡ ceilingsOf y → goodOn y (enginesTo (y .engines)) χ ≡ true → used ≤ usedOf (enginesTo (y .engines)) χ
-  pub begins : take 7 text ≡ enginesWord
-  pub numbers : numbersIn text ≡ used ∷ eachOf (engineNumbers y mapping) (enginesTo used)
+  pub uses : usedTo (y .engines) mapping ≡ used
+  pub fewest : (χ : Assignment) → Partition y (EngineOf y) (ceilingNo y) χ → used ≤ usedTo (y .engines) χ
+  pub noneLater : (e t : ℕ) → used < e → e ≤ y .engines → 1 ≤ t → overInstances e 1 (placesNo mapping t) ≡ 0
+  pub spelt : ℕ → List ℕ
+  pub inDecimal : (n : ℕ) → InDecimal n (spelt n)
+  pub lines : text ≡ planText spelt used (assignedText spelt y mapping)
 
--- where the file reads and 11 passes: such a text if a good assignment exists, else `refused 12`
+-- Demand 2, where the file reads and 11 passes: such a text if there is a partition, and `refused 12` exactly if there is none
 pub record ListingDemand2 (file table text : List ℕ) : Type 0 where
-  pub given : (y : System) → readFile file ≡ opened y → longEnough y table ≡ true → FeasibleOn y (enginesTo (y .engines)) (ceilingsOf y) → TellsPlan y text
-  pub impossible : (y : System) → readFile file ≡ opened y → longEnough y table ≡ true → (FeasibleOn y (enginesTo (y .engines)) (ceilingsOf y) → ⊥) → text ≡ refusalLine 12
+  pub given : (y : System) → readFile file ≡ opened y → LongEnough y table → (χ : Assignment) → Partition y (EngineOf y) (ceilingNo y) χ → TellsPlan y text
+  pub impossible : (y : System) → readFile file ≡ opened y → LongEnough y table → TellsRefusal 12 text ↔ Impossible y (EngineOf y) (ceilingNo y)
 
--- what the call `listing` promises of its result, the buffer and the table, and with that demand 2
+-- before that the number of the file's own refusal, whichever it is, and `refused 11` exactly if the table is shorter than (m+1) × columns
+pub record ListingRefuses (file table text : List ℕ) : Type 0 where
+  pub unreadable : (n : ℕ) → readFile file ≡ unread n → TellsRefusal n text
+  pub shortTable : (y : System) → readFile file ≡ opened y → TellsRefusal 11 text ↔ (length table < (y .engines + 1) * columnsOut y)
+
+-- what the call `write_listing` promises of its result and the buffer: a refusal from either list with its number, and else the plan's records.
+-- There is a record for each used engine, and in it a count for each type: a plan has 16 records with 6 counts each
+pub record WritePromises (p : Plan) (old new : List ℕ) (r : ℕ) : Type 0 where
+  pub written : Written (planListing p) old new r
+  pub onInput : (n : ℕ) → p .answer ≡ Refused (Input n) → TellsRefusal n (planListing p)
+  pub onState : (n : ℕ) → p .answer ≡ Refused (State n) → TellsRefusal n (planListing p)
+  pub given : ((why : Refusal) → p .answer ≡ Refused why → ⊥) → p .used ≤ length (p .loads)
+      → ((e : ℕ) → 1 ≤ e → e ≤ p .used → p .typecount ≤ length (recordNo (p .loads) e .counts))
+      → TellsRecords (p .used) (p .typecount) (p .loads) (planListing p)
+
+-- what the call `listing` promises of its result, the buffer and the table, and with that the refusals and demand 2
 pub record ListingPromises (file table old new : List ℕ) (r : ℕ) (tableAfter : List ℕ) : Type 0 where
   pub written : Written (fileListing file table) old new r
   pub leavesTable : tableAfter ≡ planTable (readFile file) table engineLimit
+  pub refuses : ListingRefuses file table (fileListing file table)
   pub demand2 : ListingDemand2 file table (fileListing file table)

@@ -6,9 +6,10 @@ use lib.ListN.{take}
 use lib.Dec.{ltb}
 use Rattle.system.specs.Limits.{engineLimit}
 use Rattle.system.specs.Layout.{readFile}
-use Rattle.system.specs.Outcome.{Outcome, accepted, refused}
+use Rattle.system.specs.Outcome.{Outcome, accepted, refused, outcomeOf}
 use Rattle.loads.specs.declared.EngineLoad.{EngineLoad}
 use Rattle.planner.specs.declared.EngineRecord.{EngineRecord}
+use Rattle.planner.specs.declared.Plan.{Plan}
 use Rattle.planner.specs.Plan.{Verdict, verdictOf, planOutcome, usedEngines, plannedTypes, planLoads, recordsOf}
 
 -- the words of a listing, as bytes
@@ -83,6 +84,10 @@ refusalLine n = line refusedWord (decimal n ∷ [])
 unfoldable pub listingOf : Outcome → ℕ → ℕ → List EngineLoad → List ℕ
 listingOf (accepted ns) used k loads = planLines used k loads
 listingOf (refused s n) used k loads = refusalLine n
+
+-- the listing of a plan
+abbrev pub planListing : Plan → List ℕ
+planListing p = listingOf (outcomeOf (p .answer)) (p .used) (p .typecount) (p .loads)
 
 -- the listing of a verdict on a system file
 abbrev pub verdictListing : Verdict → List ℕ

@@ -5,21 +5,22 @@ ghost use mathlib.Core.Path.{_≡_};
 ghost use mathlib.Core.List.{_∷_, [], _++_, map};
 ghost use Prim.Native.Nat.{_+_, _≤_, _<_, min};
 ghost use lib.ListN.{length, take};
-ghost use Rattle.buffer.specs.Written.{Puts, Written};
-ghost use Rattle.system.specs.Outcome.{outcomeOf, refusalOf};
+ghost use Rattle.buffer.specs.Written.{Puts};
+ghost use Rattle.system.specs.Outcome.{refusalOf};
 ghost use Rattle.planner.specs.Plan.{recordsOf};
 ghost use Rattle.listing.specs.Listing.{refusedWord, space, decimal, parted, line, recordLine, recordLines, planLines, listingOf};
 ghost use Rattle.listing.specs.Room.{numberRoom, spacedRoom, entryRoom, shareRoom, lineRoom, countsRoom, engineRoom, enginesRoom, listingRoom};
-ghost use Rattle.listing.specs.Demands.{ListingPromises};
-ghost use Rattle.listing.specs.Text.{TextPromises};
+ghost use Rattle.listing.specs.Demands.{WritePromises, ListingPromises};
+ghost use Rattle.listing.specs.Text.{TextPromises, ReadPromises};
 use buffer::put_byte;
 use buffer::put_bytes;
 use loads::EngineLoad;
 use planner::Plan;
 use system::Answer;
-use system::COLUMN_LIMIT;
 use system::ENGINE_LIMIT;
+use system::FILE_BYTES;
 use system::Refusal;
+use system::TABLE_LIMIT;
 use system::TYPE_LIMIT;
 
 // The most digits of a number of 64 bits.
@@ -159,7 +160,7 @@ fn put_refusal(out: &mut [u8], why: Refusal) -> usize
 
 // Writes the listing of a plan at the start of the buffer, and answers its length. Every listing fits.
 pub fn write_listing(out: &mut [u8; 4096], p: Plan) -> usize
-    ensures { λ r. ⌜ Written (listingOf (outcomeOf (p .answer)) (p .used) (p .typecount) (p .loads)) (now (out .entry)) (now (out .exit)) r ⌝ }
+    ensures { λ r. ⌜ WritePromises p (now (out .entry)) (now (out .exit)) r ⌝ }
 {
     let answer = p.answer;
     let Answer::Refused(why) = answer else {
@@ -178,13 +179,18 @@ pub fn listing(file: &[u8], table: &mut [u16], out: &mut [u8; 4096]) -> usize
     write_listing(out, p)
 }
 
-// The entries of a table that is long enough for every system: rows 0 to m of all columns.
-const TABLE_SIZE: usize = (ENGINE_LIMIT + 1) * COLUMN_LIMIT;
-
 // Writes the listing of a system file at the start of the buffer, and answers its length. The table is the function's own.
 pub fn listing_of(file: &[u8], out: &mut [u8; 4096]) -> usize
     ensures { λ r. ⌜ TextPromises (now (file .entry)) (now (out .entry)) (now (out .exit)) r ⌝ }
 {
-    let mut table = [0u16; TABLE_SIZE];
+    let mut table = [0u16; TABLE_LIMIT];
     listing(file, &mut table, out)
+}
+
+// Writes the listing of a file of which `read` bytes were read, at most `FILE_BYTES` of them. A longer file has the same listing.
+pub fn listing_read(front: [u8; FILE_BYTES], read: usize, out: &mut [u8; 4096]) -> usize
+    ensures { λ r. ⌜ ReadPromises front read (now (out .entry)) (now (out .exit)) r ⌝ }
+{
+    let end = least(read, FILE_BYTES);
+    listing_of(&front[..end], out)
 }

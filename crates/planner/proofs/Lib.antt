@@ -2,5 +2,7 @@
 pub mod Front
 pub mod Records
 pub mod RecordType
-pub mod Demands
 pub mod Exits
+pub mod Cases
+pub mod Demands
+pub mod Listed

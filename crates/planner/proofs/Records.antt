@@ -6,9 +6,14 @@ use mathlib.Core.Path.{_≡_, refl, sym, _∙_, ap}
 use mathlib.Core.List.{List, [], _∷_}
 use lib.ListN.{length, getD, set}
 use Rattle.loads.specs.declared.EngineLoad.{EngineLoad}
+use Rattle.loads.specs.Load.{idleEngine}
 use Rattle.planner.specs.declared.EngineRecord.{EngineRecord}
 use Rattle.planner.specs.Plan.{recordOf, recordsFrom, recordsOf}
 use Rattle.planner.proofs.Front.{front, set-front}
+
+-- what stands for a record past the end of a list
+abbrev pub noRecord : EngineRecord
+noRecord = recordOf 0 idleEngine
 
 pub length-recordsFrom : (a : ℕ) (ls : List EngineLoad) → length (recordsFrom a ls) ≡ length ls
 unfolding recordsFrom

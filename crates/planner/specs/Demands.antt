@@ -1,45 +1,51 @@
--- Demands 1 and 2 of the plan, as the contracts of both plan calls cite them.
-use Prim.Native.Nat.{ℕ, _+_, _≤_, _<_}
+-- Demands 1 and 2 of the plan, as the contracts of both plan calls cite them. What they say of files that open is in plain arithmetic and in assignments of single instances
+-- (partition/specs/Plain; table/specs/Meaning for a filled table), so that no word of a contract can make them true.
+use Prim.Native.Nat.{ℕ, _+_, _-_, _*_, _≤_, _<_}
 use mathlib.Core.List.{List, [], _∷_}
-use mathlib.Core.Bool.{true, false}
 use mathlib.Core.Path.{_≡_}
 use mathlib.Core.Logic.{_↔_}
 use lib.ListN.{length, getD}
 use Rattle.system.specs.declared.System.{System}
 use Rattle.system.specs.declared.Answer.{Answer}
-use Rattle.system.specs.Values.{ceilingsOf}
 use Rattle.system.specs.Layout.{Reading, opened, unread}
 use Rattle.system.specs.Outcome.{Outcome, Source, accepted, refused, fromInput, outcomeOf}
 use Rattle.loads.specs.declared.EngineLoad.{EngineLoad}
-use Rattle.loads.specs.Load.{engineWith, idleEngine}
-use Rattle.partition.specs.ForSystem.{FeasibleOn, OnFewest}
-use Rattle.table.specs.Table.{longEnough, filled}
+use Rattle.partition.specs.Assignment.{Assignment}
+use Rattle.partition.specs.OwnWords.{overInstances}
+use Rattle.partition.specs.Plain.{ceilingNo, columnsOut, LongEnough, EngineOf, placesNo, Partition, Impossible, RecordIs, recordNo, StandsOnFewest}
+use Rattle.table.specs.Meaning.{FilledMeans}
 use Rattle.planner.specs.declared.Plan.{Plan}
 use Rattle.planner.specs.declared.EngineRecord.{EngineRecord}
-use Rattle.planner.specs.Plan.{planEngines, verdictOf, usedEngines, planOutcome, plannedTypes, planLoads, planTable, recordOf, planList}
+use Rattle.planner.specs.Plan.{verdictOf, usedEngines, planOutcome, plannedTypes, planLoads, planTable, planList}
 
--- what stands for a record past the end of a list
-abbrev pub noRecord : EngineRecord
-noRecord = recordOf 0 idleEngine
-
--- Demand 2: where the file reads and 11 and 15 pass, a plan is refused 12 exactly when no good assignment of all n(t) instances of each type to the engines exists;
--- a plan that is given is such an assignment on the fewest engines, and the engines past the answer hold nothing
-pub record Demand2 (x : Reading) (table : List ℕ) (room : ℕ) (outcome : Outcome) (loads : List EngineLoad) : Type 0 where
-  pub impossible : (y : System) → x ≡ opened y → longEnough y table ≡ true → y .engines ≤ room → (outcome ≡ refused fromInput 12) ↔ (FeasibleOn y (planEngines y) (ceilingsOf y) → ⊥)
-  pub given : (y : System) (used : ℕ) → x ≡ opened y → outcome ≡ accepted (used ∷ []) → OnFewest y (planEngines y) (ceilingsOf y) loads used
-  pub answered : (y : System) → x ≡ opened y → longEnough y table ≡ true → y .engines ≤ room → FeasibleOn y (planEngines y) (ceilingsOf y) → (used : ℕ) × (outcome ≡ accepted (used ∷ []))
-  pub idlePast : (used i : ℕ) → outcome ≡ accepted (used ∷ []) → used ≤ i → getD loads i idleEngine ≡ idleEngine
-
--- Demand 1: a refused plan leaves the table as it was lent, except that 12 leaves it filled
-pub record Demand1 (x : Reading) (table : List ℕ) (outcome : Outcome) (after : List ℕ) : Type 0 where
-  pub asLent : (s : Source) (n : ℕ) → outcome ≡ refused s n → (n ≡ 12 → ⊥) → after ≡ table
-  pub leftFilled : (y : System) (s : Source) → x ≡ opened y → outcome ≡ refused s 12 → after ≡ filled y (planEngines y) table
-
--- "Plan continues 11, 15, 12": 1 to 10 are judged before 11, and 11 before 15. Demand 2 says when it is 12
+-- "Plan continues 11, 15, 12": 1 to 10 are judged before 11, which is for a table shorter than (m+1) × columns, and 11 before 15, which is for a list shorter than m.
+-- Demand 2 says when it is 12
 pub record InOrder (x : Reading) (table : List ℕ) (room : ℕ) (outcome : Outcome) : Type 0 where
   pub fileFirst : (n : ℕ) → x ≡ unread n → outcome ≡ refused fromInput n
-  pub thenTable : (y : System) → x ≡ opened y → longEnough y table ≡ false → outcome ≡ refused fromInput 11
-  pub thenList : (y : System) → x ≡ opened y → longEnough y table ≡ true → room < y .engines → outcome ≡ refused fromInput 15
+  pub thenTable : (y : System) → x ≡ opened y → (outcome ≡ refused fromInput 11) ↔ (length table < (y .engines + 1) * columnsOut y)
+  pub thenList : (y : System) → x ≡ opened y → LongEnough y table → (outcome ≡ refused fromInput 15) ↔ (room < y .engines)
+
+-- Demand 1: a refused plan leaves the table as it was lent, except that 12 leaves it filled; a plan that is given leaves it filled
+pub record Demand1 (x : Reading) (table : List ℕ) (outcome : Outcome) (after : List ℕ) : Type 0 where
+  pub asLent : (s : Source) (n : ℕ) → outcome ≡ refused s n → (n ≡ 12 → ⊥) → after ≡ table
+  pub filledOn12 : (y : System) (s : Source) → x ≡ opened y → outcome ≡ refused s 12 → FilledMeans y (y .engines) table after
+  pub filledOnPlan : (y : System) (ns : List ℕ) → x ≡ opened y → outcome ≡ accepted ns → FilledMeans y (y .engines) table after
+
+-- an engine that holds nothing
+pub record HoldsNothing (l : EngineLoad) : Type 0 where
+  pub time : l .time ≡ 0
+  pub memory : l .memory ≡ 0
+  pub counts : (t : ℕ) → getD (l .counts) t 0 ≡ 0
+
+-- Demand 2: where the file reads and 11 and 15 pass, a plan is refused 12 exactly when the n(t) instances of each type cannot be partitioned among the engines 1 to m;
+-- a plan that is given is such a partition on the fewest engines, one load of six counts for each engine that a system can have, and the engines past the answer hold nothing
+pub record Demand2 (x : Reading) (table : List ℕ) (room : ℕ) (outcome : Outcome) (loads : List EngineLoad) : Type 0 where
+  pub impossible : (y : System) → x ≡ opened y → LongEnough y table → y .engines ≤ room → (outcome ≡ refused fromInput 12) ↔ Impossible y (EngineOf y) (ceilingNo y)
+  pub answered : (y : System) → x ≡ opened y → LongEnough y table → y .engines ≤ room → (χ : Assignment) → Partition y (EngineOf y) (ceilingNo y) χ → (used : ℕ) × (outcome ≡ accepted (used ∷ []))
+  pub given : (y : System) (used : ℕ) → x ≡ opened y → outcome ≡ accepted (used ∷ []) → StandsOnFewest y (EngineOf y) (ceilingNo y) loads used
+  pub sixteen : length loads ≡ 16
+  pub sixCounts : (y : System) (used e : ℕ) → x ≡ opened y → outcome ≡ accepted (used ∷ []) → 1 ≤ e → e ≤ 16 → length (recordNo loads e .counts) ≡ 6
+  pub idlePast : (used e : ℕ) → outcome ≡ accepted (used ∷ []) → used < e → HoldsNothing (recordNo loads e)
 
 -- what the call `plan_of` promises: its whole result and the table; with that demands 1 and 2, and that the two other numbers of a given plan are those of the answer and of the file
 pub record PlanPromises (x : Reading) (table : List ℕ) (room : ℕ) (r : Plan) (after : List ℕ) : Type 0 where
@@ -54,14 +60,28 @@ pub record PlanPromises (x : Reading) (table : List ℕ) (room : ℕ) (r : Plan)
   pub usedSame : (used : ℕ) → outcomeOf (r .answer) ≡ accepted (used ∷ []) → r .used ≡ used
   pub typesSame : (y : System) (used : ℕ) → x ≡ opened y → outcomeOf (r .answer) ≡ accepted (used ∷ []) → r .typecount ≡ y .typecount
 
--- Of the lent list, after a plan into it: refused, it is as it was lent. Otherwise record i - 1 is engine i's, with its number and its load, whose time and memory are its sums;
--- there is one for each used engine, and later records are unchanged
-pub record ListHolds (x : Reading) (list : List EngineRecord) (outcome : Outcome) (loads : List EngineLoad) (after : List EngineRecord) : Type 0 where
+-- the record of engine e in a list, counted from 1
+abbrev pub entryNo : List EngineRecord → ℕ → EngineRecord
+entryNo list e = getD list (e - 1) (record { number = 0; load = record { time = 0; memory = 0; counts = [] } })
+
+-- the first `used` records of a list are a partition of the n(t) instances of each type: each has its engine's number, six counts, 0 past k,
+-- and with these its time and memory what the mapping sends to that engine. Nothing is sent to a later engine
+pub record ListsPlan (y : System) (used : ℕ) (list : List EngineRecord) : Type 0 where
+  pub mapping : Assignment
+  pub partition : Partition y (EngineOf y) (ceilingNo y) mapping
+  pub number : (e : ℕ) → 1 ≤ e → e ≤ used → entryNo list e .number ≡ e
+  pub load : (e : ℕ) → 1 ≤ e → e ≤ used → RecordIs y mapping e (entryNo list e .load)
+  pub sixCounts : (e : ℕ) → 1 ≤ e → e ≤ used → length (entryNo list e .load .counts) ≡ 6
+  pub zeroPast : (e t : ℕ) → 1 ≤ e → e ≤ used → y .typecount < t → getD (entryNo list e .load .counts) (t - 1) 0 ≡ 0
+  pub noneLater : (e t : ℕ) → used < e → e ≤ y .engines → 1 ≤ t → overInstances e 1 (placesNo mapping t) ≡ 0
+
+-- Of the lent list, after a plan into it: refused, it is as it was lent. Otherwise its first records are the plan, one for each used engine, and later records are unchanged
+pub record ListHolds (x : Reading) (list : List EngineRecord) (outcome : Outcome) (after : List EngineRecord) : Type 0 where
   pub asLent : (s : Source) (n : ℕ) → outcome ≡ refused s n → after ≡ list
   pub asLong : length after ≡ length list
-  pub numbered : (used i : ℕ) → outcome ≡ accepted (used ∷ []) → i < used → getD after i noRecord ≡ recordOf (i + 1) (getD loads i idleEngine)
-  pub summed : (y : System) (used i : ℕ) → x ≡ opened y → outcome ≡ accepted (used ∷ []) → i < used → getD after i noRecord .load ≡ engineWith y (getD after i noRecord .load .counts)
-  pub laterKept : (used i : ℕ) → outcome ≡ accepted (used ∷ []) → used ≤ i → getD after i noRecord ≡ getD list i noRecord
+  pub inside : (used : ℕ) → outcome ≡ accepted (used ∷ []) → used ≤ length list
+  pub lists : (y : System) (used : ℕ) → x ≡ opened y → outcome ≡ accepted (used ∷ []) → ListsPlan y used after
+  pub laterKept : (used e : ℕ) → outcome ≡ accepted (used ∷ []) → used < e → entryNo after e ≡ entryNo list e
 
 -- what the call `plan_into` promises of its answer, the table and the list, and with that demands 1 and 2. The room is the list's length
 pub record ListPromises (x : Reading) (table : List ℕ) (list : List EngineRecord) (answer : Answer) (tableAfter : List ℕ) (listAfter : List EngineRecord) : Type 0 where
@@ -71,4 +91,4 @@ pub record ListPromises (x : Reading) (table : List ℕ) (list : List EngineReco
   pub order : InOrder x table (length list) (outcomeOf answer)
   pub demand1 : Demand1 x table (outcomeOf answer) tableAfter
   pub demand2 : Demand2 x table (length list) (outcomeOf answer) (planLoads (verdictOf x table (length list)))
-  pub holds : ListHolds x list (outcomeOf answer) (planLoads (verdictOf x table (length list))) listAfter
+  pub holds : ListHolds x list (outcomeOf answer) listAfter

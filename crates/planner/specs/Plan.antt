@@ -37,10 +37,12 @@ pub data Verdict : Type 0 where
   planned : System → Verdict
   unplanned : Source → ℕ → Verdict
 
+-- by the checks of a file that opens
 abbrev pub judged : System → Checked → Verdict
 judged y passes = planned y
 judged y (fails s n) = unplanned s n
 
+-- 1 to 10 as the file is read, then 11, 15, 12
 unfoldable pub verdictOf : Reading → List ℕ → ℕ → Verdict
 verdictOf (unread n) table room = unplanned fromInput n
 verdictOf (opened y) table room = judged y (andThen (lentCheck y table room) (placeCheck y))
@@ -50,10 +52,12 @@ abbrev pub usedEngines : Verdict → ℕ
 usedEngines (planned y) = rowFor y (planEngines y) (ceilingsOf y)
 usedEngines (unplanned s n) = 0
 
+-- "The answer is the number of used engines"
 abbrev pub planOutcome : Verdict → Outcome
 planOutcome (planned y) = accepted (usedEngines (planned y) ∷ [])
 planOutcome (unplanned s n) = refused s n
 
+-- the number of types, for the listing
 abbrev pub plannedTypes : Verdict → ℕ
 plannedTypes (planned y) = y .typecount
 plannedTypes (unplanned s n) = 0

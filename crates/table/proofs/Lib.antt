@@ -12,3 +12,4 @@ pub mod Recovered
 pub mod Spread
 pub mod Placed
 pub mod Reading
+pub mod Meaning

@@ -2,3 +2,4 @@
 pub mod Table
 pub mod Search
 pub mod Recovery
+pub mod Meaning

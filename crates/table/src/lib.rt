@@ -1,8 +1,8 @@
 // The lent table: filling it, the lowest yes row, and recovery from it.
 ghost use mathlib.Core.Path.{_≡_};
 ghost use Rattle.system.specs.Layout.{readFile};
-ghost use Rattle.system.specs.Outcome.{outcomeOf};
-ghost use Rattle.table.specs.Table.{filled, placement, fillOutcome, fillTable};
+ghost use Rattle.table.specs.Table.{filled, placement};
+ghost use Rattle.table.specs.Meaning.{FillPromises};
 ghost use Rattle.table.specs.Recovery.{listed, MayPlace};
 use loads::EngineLoad;
 use system::Answer;
@@ -52,7 +52,7 @@ pub fn place(table: &mut [u16], y: System, engines: Engines, counts: [u16; TYPE_
 
 // Fills the table for a system file: refused 1 to 10 as the file is read, 11 where the table is too short.
 pub fn fill_table(file: &[u8], table: &mut [u16]) -> Answer
-    ensures { λ r. ⌜ (outcomeOf r ≡ fillOutcome (readFile (now (file .entry))) (now (table .entry))) × (now (table .exit) ≡ fillTable (readFile (now (file .entry))) (now (table .entry))) ⌝ }
+    ensures { λ r. ⌜ FillPromises (readFile (now (file .entry))) (now (table .entry)) r (now (table .exit)) ⌝ }
 {
     let opened = system::read_system(file);
     let answer = opened.answer;

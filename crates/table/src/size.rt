@@ -3,8 +3,9 @@ ghost use mathlib.Core.Path.{_≡_};
 ghost use mathlib.Core.Bool.{true};
 ghost use Rattle.system.specs.Limits.{columns, keepsLimits};
 ghost use Rattle.system.specs.Layout.{readFile};
-ghost use Rattle.system.specs.Outcome.{outcomeOf, checkedOf};
-ghost use Rattle.table.specs.Table.{entries, roomCheck, entriesNeeded};
+ghost use Rattle.system.specs.Outcome.{checkedOf};
+ghost use Rattle.table.specs.Table.{entries, roomCheck};
+ghost use Rattle.table.specs.Meaning.{NeedPromises};
 use system::Answer;
 use system::Check;
 use system::Refusal;
@@ -40,7 +41,7 @@ pub fn table_check(y: System, room: usize) -> Check
 
 // The entries that the table of a system file must have, (m + 1) × columns: refused 1 to 10 as the file is read.
 pub fn entries_needed(file: &[u8]) -> Answer
-    ensures { λ r. ⌜ outcomeOf r ≡ entriesNeeded (readFile (now (file .entry))) ⌝ }
+    ensures { λ r. ⌜ NeedPromises (readFile (now (file .entry))) r ⌝ }
 {
     let opened = system::read_system(file);
     let answer = opened.answer;

@@ -1,6 +1,6 @@
 -- `listing`: the listing of the plan is that of the file, by what a plan promises.
 use Rattle.listing.proofs.Laws.{listing-planned}
-use Rattle.listing.proofs.Demands.{listing-demand2}
+use Rattle.listing.proofs.Demands.{listing-demand2, listing-refuses}
 use borrow.Author.Needs.{needs}
 use Rattle.listing.proofs.listing.Statement.{statement}
 use Rattle.listing.proofs.listing.Tie as tie
@@ -20,10 +20,12 @@ returns c =
     let args = planned .before .before .before .before .args in
     let promises = planned .plan-of .ensures in
     let text = listing-planned promises in
+    let wrote = c .write-listing .ensures in
     record {
-      written = rw text at (c .write-listing .ensures);
+      written = rw text at (wrote .written);
       leavesTable = promises .leavesTable;
-      demand2 = rw text at (listing-demand2 (args .file .now) (args .table .now) (planned .plan-of .result) (planned .plan-of .last .1 .0) promises);
+      refuses = rw text at (listing-refuses (args .file .now) (args .table .now) (planned .plan-of .result) (planned .plan-of .last .1 .0) promises (wrote .given));
+      demand2 = rw text at (listing-demand2 (args .file .now) (args .table .now) (planned .plan-of .result) (planned .plan-of .last .1 .0) promises (wrote .given));
     }
 
 pub listing-spec : {M : Type 1} → statement M

@@ -14,6 +14,7 @@ use Rattle.system.specs.Outcome.{outcomeOf, refusalOf}
 use Rattle.loads.specs.declared.EngineLoad.{EngineLoad}
 use Rattle.listing.specs.Listing.{planLines, listingOf}
 use Rattle.buffer.proofs.Laws.{written}
+use Rattle.listing.proofs.Lines.{write-promised}
 use borrow.Author.Needs.{needs}
 use Rattle.listing.proofs.write_listing.Statement.{statement}
 use Rattle.listing.proofs.write_listing.Tie as tie
@@ -40,8 +41,9 @@ put-plan-requires c κs = search needs
 returns : tie.Need-returns
 returns c =
     let start = c .before .before .before .before in
-    rw (listing-given (start .args .p .answer) (start .args .p .used) (start .args .p .typecount) (start .args .p .loads) (c .before .before .before .match .keys2))
-    (written (omega arith) (c .put-plan .kept .0) (c .put-plan .ensures .0))
+    write-promised (start .args .p)
+    (rw (listing-given (start .args .p .answer) (start .args .p .used) (start .args .p .typecount) (start .args .p .loads) (c .before .before .before .match .keys2))
+    (written (omega arith) (c .put-plan .kept .0) (c .put-plan .ensures .0)))
 
 put-refusal-requires : tie.Need-put-refusal-requires
 put-refusal-requires c κs = search needs
@@ -50,8 +52,9 @@ returns-2 : tie.Need-returns-2
 unfolding listingOf
 returns-2 c =
     let start = c .before .before .before .before .before in
-    rw (c .before .before .before .answer .given .1, listing-refused _ (start .args .p .used) (start .args .p .typecount) (start .args .p .loads))
-    (written (omega arith) (c .put-refusal .kept .0) (c .put-refusal .ensures .0))
+    write-promised (start .args .p)
+    (rw (c .before .before .before .answer .given .1, listing-refused _ (start .args .p .used) (start .args .p .typecount) (start .args .p .loads))
+    (written (omega arith) (c .put-refusal .kept .0) (c .put-refusal .ensures .0)))
 
 pub write-listing-spec : {M : Type 1} → statement M
 write-listing-spec =

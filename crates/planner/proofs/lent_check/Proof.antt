@@ -1,8 +1,8 @@
 -- A check of the table that failed is the answer, one that passed leaves it to the list.
 use mathlib.Core.Path.{sym, ap, _∙_}
 use borrow.Author.Needs.{needs}
-use Rattle.system.specs.Outcome.{Checked, andThen, checkedOf}
-use Rattle.system.proofs.Checks.{fails-first}
+use Rattle.system.specs.Outcome.{checkedOf}
+use Rattle.system.proofs.Checks.{fails-andThen, passes-andThen}
 use Rattle.planner.specs.Plan.{listCheck}
 use Rattle.planner.proofs.lent_check.Statement.{statement}
 use Rattle.planner.proofs.lent_check.Tie as tie
@@ -18,7 +18,7 @@ returns c =
     let p = c .before .check .given in
     let failed = ap checkedOf (sym (p .1)) ∙ c .before .before .before .table-check .ensures in
     let start = c .before .before .before .before in
-    sym (fails-first (p .0 .0) (listCheck (start .args .y) (start .args .room))) ∙ rw failed
+    fails-andThen (p .0 .0) _ (listCheck (start .args .y) (start .args .room)) failed
 
 enum-told : tie.Need-enum-told
 enum-told c = search needs
@@ -30,7 +30,7 @@ returns-2 : tie.Need-returns-2
 returns-2 c =
     let passed = ap checkedOf (sym (c .before .enum-told .given .1)) ∙ c .before .before .before .table-check .ensures in
     let start = c .before .before .before .before in
-    c .list-check .ensures ∙ ap (λ (first : Checked). andThen first (listCheck (start .args .y) (start .args .room))) passed
+    passes-andThen _ (listCheck (start .args .y) (start .args .room)) _ passed (c .list-check .ensures)
 
 pub lent-check-spec : {M : Type 1} → statement M
 lent-check-spec =

@@ -17,7 +17,8 @@ use Rattle.table.specs.Table.{filled, placement}
 use Rattle.table.proofs.Placed.{may-place-on-all}
 use Rattle.planner.specs.Plan.{planEngines, lentCheck}
 use Rattle.planner.proofs.Exits.{unread-plans, lent-plans, none-plans, placed-plans}
-use Rattle.planner.proofs.Demands.{promises-of, lent-passed}
+use Rattle.planner.proofs.Cases.{lent-passed}
+use Rattle.planner.proofs.Demands.{promises-of}
 use Rattle.planner.proofs.plan_for.Statement.{statement}
 use Rattle.planner.proofs.plan_for.Tie as tie
 
@@ -119,13 +120,13 @@ given-length c = search needs
 
 returns-4 : tie.Need-returns-4
 returns-4 c =
-    let placing = c .before .before .before .before .before in
-    let checked = placing .before .before .before .before in
+    let placed = c .before .before .before .before .before in
+    let checked = placed .before .before .before .before in
     let told = checked .before .before .before .before in
     let start = told .before .before .before .before .before in
-    promises-of (start .args .file .now) _ _ _ _ (rw (table-is placing)
+    promises-of (start .args .file .now) _ _ _ _ (rw (table-is placed)
     (placed-plans (readFile (start .args .file .now)) (told .before .before .read-system .result .system) (is-opened told) (start .args .table .now) (start .args .room)
-    (passed checked) _ (placement-is placing) (not-false _ (c .before .if1 .left))))
+    (passed checked) _ (placement-is placed) (not-false _ (c .before .if1 .left))))
 
 pub plan-for-spec : {M : Type 1} → statement M
 plan-for-spec =

@@ -50,7 +50,8 @@ use Rattle.planner.specs.declared.ListPlan.{ListPlan}
 use Rattle.planner.specs.Plan.{verdictOf}
 use Rattle.planner.specs.Demands.{ListPromises}
 use Rattle.planner.specs.Inner.{Lists}
-use Rattle.planner.proofs.Demands.{list-promises-of, used-within, list-written}
+use Rattle.planner.proofs.Demands.{used-within}
+use Rattle.planner.proofs.Listed.{list-promises-of, list-written}
 use Rattle.planner.proofs.RecordType.{R, Rs, recordVals, recordsVal, answerVal, field-records}
 use Rattle.planner.proofs.EngineRecord as T
 use Rattle.planner.proofs.EngineRecord.Laws as T′

@@ -50,8 +50,8 @@ use denote.Triple.Table.{entered}
 use denote.Triple.Walked.{says, needs, Stays, stay-none, stay-slice, walkOf, goes-none, goes-slice, Walks, ends-at, walked, walk-meets}
 use denote.Exit.{yes}
 use Rattle.planner.specs.declared.EngineRecord.{EngineRecord}
-use Rattle.planner.specs.Demands.{noRecord}
 use Rattle.planner.proofs.Front.{front, length-front-of, set-front}
+use Rattle.planner.proofs.Records.{noRecord}
 use Rattle.planner.proofs.RecordType.{R, Rs, recordVals, recordsVal}
 use Rattle.planner.proofs.EngineRecord as T
 use Rattle.planner.proofs.EngineRecord.Laws as T′

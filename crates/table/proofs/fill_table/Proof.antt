@@ -12,6 +12,7 @@ use Rattle.system.proofs.Checks.{check-passed}
 use Rattle.system.proofs.Laws.{limits-of}
 use Rattle.table.specs.Table.{entries, tableCheck}
 use Rattle.table.proofs.Reading.{read-limits, fill-refused, fill-short, fill-done}
+use Rattle.table.proofs.Meaning.{file-fills}
 use Rattle.table.proofs.fill_table.Statement.{statement}
 use Rattle.table.proofs.fill_table.Tie as tie
 
@@ -25,8 +26,9 @@ returns : tie.Need-returns
 returns c =
     let start = c .before .before .before .before in
     let r = c .before .read-system in
-    fill-refused (readFile (start .args .file .now)) (r .result) (r .ensures) (start .args .table .now)
-    (λ e. ⊎-elim (λ t. absurd (omega (arith, rw e at t))) (λ t. absurd (omega (arith, rw e at t))) (c .match .keys2))
+    file-fills (start .args .file .now) _ (start .args .table .now) _
+    (fill-refused (readFile (start .args .file .now)) (r .result) (r .ensures) (start .args .table .now)
+    (λ e. ⊎-elim (λ t. absurd (omega (arith, rw e at t))) (λ t. absurd (omega (arith, rw e at t))) (c .match .keys2)))
 
 is-accepted : (c : tie.After-enum-told) → c .before .before .read-system .result .answer ≡ Accepted
 is-accepted c = search needs
@@ -44,8 +46,9 @@ returns-2 c =
     let start = c .before .before .before .before .before .before .before .before .before .before in
     let r = c .before .before .before .before .before .before .before .read-system in
     let p = c .before .check .given in
-    fill-short (readFile (start .args .file .now)) (r .result) (r .ensures) (start .args .table .now) (is-accepted (c .before .before .before .before .before)) (p .0 .0)
-    (ap checkedOf (sym (p .1)) ∙ c .before .before .before .table-check .ensures)
+    file-fills (start .args .file .now) _ (start .args .table .now) _
+    (fill-short (readFile (start .args .file .now)) (r .result) (r .ensures) (start .args .table .now) (is-accepted (c .before .before .before .before .before)) (p .0 .0)
+    (ap checkedOf (sym (p .1)) ∙ c .before .before .before .table-check .ensures))
 
 enum-told-2 : tie.Need-enum-told-2
 enum-told-2 c = search needs
@@ -70,9 +73,10 @@ returns-3 c =
     let h = c .before .before .before in
     let start = h .before .before .before .before .before .before .before .before .before .before in
     let r = h .before .before .before .before .before .before .before .read-system in
-    fill-done (readFile (start .args .file .now)) (r .result) (r .ensures) (start .args .table .now) (is-accepted (h .before .before .before .before .before)) (passed (h .before))
+    file-fills (start .args .file .now) _ (start .args .table .now) _
+    (fill-done (readFile (start .args .file .now)) (r .result) (r .ensures) (start .args .table .now) (is-accepted (h .before .before .before .before .before)) (passed (h .before))
     (c .before .before .fill .last .0)
-    (c .before .before .fill .ensures)
+    (c .before .before .fill .ensures))
 
 pub fill-table-spec : {M : Type 1} → statement M
 fill-table-spec =

@@ -4,6 +4,7 @@ use borrow.Author.Needs.{needs}
 use Rattle.system.specs.Layout.{readFile}
 use Rattle.board.specs.Boards.{emptyBoard}
 use Rattle.board.proofs.Exits.{opened-board}
+use Rattle.board.proofs.Promises.{open-means}
 use Rattle.board.proofs.calls.open_board.Statement.{statement}
 use Rattle.board.proofs.calls.open_board.Tie as tie
 
@@ -16,7 +17,9 @@ empty-board-requires c κs = search needs
 returns : tie.Need-returns
 returns c =
     let read = c .before .before .read-system .ensures in
-    (read .answer, c .empty-board .ensures ∙ ap emptyBoard (read .system) ∙ opened-board (readFile (c .before .before .before .before .args .file .now)))
+    let file = c .before .before .before .before .args .file .now in
+    let board = c .empty-board .ensures ∙ ap emptyBoard (read .system) ∙ opened-board (readFile file) in
+    (record { answer = read .answer; board = board }, open-means file _ _ (read .answer) board)
 
 pub open-board-spec : {M : Type 1} → statement M
 open-board-spec = tie.close (tie.spec read-system-requires empty-board-requires returns)

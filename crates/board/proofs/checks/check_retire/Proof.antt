@@ -80,9 +80,9 @@ held-check-requires c κs = (record { isTrue = is-true (c .before .before .befor
 returns-4 : tie.Need-returns-4
 unfolding checkRetire
 returns-4 c =
-    passes-andThen _ _ _ (board-passed (c .before .before .before .before .before .before .before .before))
-    (passes-andThen _ _ _ (type-passed (c .before .before .before .before))
-    (passes-andThen _ _ _ (engine-passed (c .before)) (c .held-check .ensures)))
+    let d = c .before in
+    passes-andThen _ _ _ (board-passed (d .before .before .before .before .before .before .before))
+    (passes-andThen _ _ _ (type-passed (d .before .before .before)) (passes-andThen _ _ _ (engine-passed d) (c .held-check .ensures)))
 
 pub check-retire-spec : {M : Type 1} → statement M
 check-retire-spec =

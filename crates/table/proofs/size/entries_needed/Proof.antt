@@ -6,6 +6,7 @@ use borrow.Author.Needs.{needs}
 use Rattle.system.specs.declared.Answer.the-variants.{Accepted}
 use Rattle.system.specs.Layout.{readFile}
 use Rattle.table.proofs.Reading.{read-limits, needed-refused, needed-told}
+use Rattle.table.proofs.Meaning.{file-needs}
 use Rattle.table.proofs.size.entries_needed.Statement.{statement}
 use Rattle.table.proofs.size.entries_needed.Tie as tie
 
@@ -19,8 +20,9 @@ returns : tie.Need-returns
 returns c =
     let start = c .before .before .before in
     let r = c .before .read-system in
-    needed-refused (readFile (start .args .file .now)) (r .result) (r .ensures)
-    (λ e. ⊎-elim (λ t. absurd (omega (arith, rw e at t))) (λ t. absurd (omega (arith, rw e at t))) (c .match .keys2))
+    file-needs (start .args .file .now) _
+    (needed-refused (readFile (start .args .file .now)) (r .result) (r .ensures)
+    (λ e. ⊎-elim (λ t. absurd (omega (arith, rw e at t))) (λ t. absurd (omega (arith, rw e at t))) (c .match .keys2)))
 
 is-accepted : (c : tie.After-enum-told) → c .before .before .read-system .result .answer ≡ Accepted
 is-accepted c = search needs
@@ -34,7 +36,7 @@ returns-2 : tie.Need-returns-2
 returns-2 c =
     let start = c .before .before .before .before .before in
     let r = c .before .before .before .read-system in
-    rw (c .entries-of .ensures) (needed-told (readFile (start .args .file .now)) (r .result) (r .ensures) (is-accepted (c .before)))
+    file-needs (start .args .file .now) _ (rw (c .entries-of .ensures) (needed-told (readFile (start .args .file .now)) (r .result) (r .ensures) (is-accepted (c .before))))
 
 pub entries-needed-spec : {M : Type 1} → statement M
 entries-needed-spec =

@@ -1,0 +1,162 @@
+-- The plain words in which the meaning of the calls and demand 3 speak of a board: counts, totals, sums, fit, room, and the engines that are used.
+-- As with partition/specs/Plain, no contract of a function cites them, and they go through no word that one cites; laws say that the code's words mean the same.
+use Prim.Native.Nat.{ℕ, _+_, _-_, _*_, _≤_, _<_}
+use mathlib.Core.List.{List, [], _∷_}
+use mathlib.Core.Bool.{cond, _&&_}
+use mathlib.Core.Path.{_≡_}
+use lib.ListN.{length, getD}
+use lib.Dec.{eqb}
+use Rattle.system.specs.declared.System.{System}
+use Rattle.loads.specs.declared.EngineLoad.{EngineLoad}
+use Rattle.partition.specs.Assignment.{Assignment, enginesTo}
+use Rattle.partition.specs.ForSystem.{rowsFor}
+use Rattle.partition.specs.Plain.{typeNo, ceilingNo, LimitsOut, EngineOf, Partition, Impossible, recordNo, StandsOnFewest}
+use Rattle.board.specs.declared.Board.{Board}
+
+-- Counts, type numbers and engine numbers from 1
+
+-- how many instances of type t a record has
+abbrev pub countNo : EngineLoad → ℕ → ℕ
+countNo l t = getD (l .counts) (t - 1) 0
+
+-- how many engine e of the board has
+abbrev pub countAt : Board → ℕ → ℕ → ℕ
+countAt b e t = countNo (recordNo (b .loads) e) t
+
+-- how many of type t there are on all the records together
+unfoldable pub totalNo : ℕ → List EngineLoad → ℕ
+totalNo t [] = 0
+totalNo t (l ∷ ls) = countNo l t + totalNo t ls
+
+-- what stands: for each type, the sum over the engines
+abbrev pub standsNo : Board → ℕ → ℕ
+standsNo b t = totalNo t (b .loads)
+
+-- as many of each type, and one more of type t
+abbrev pub plusOne : ℕ → (ℕ → ℕ) → ℕ → ℕ
+plusOne t count u = count u + cond (eqb u t) 1 0
+
+-- Time, memory and fit: document 01's "Words", over the six types, of which those past k are 0
+
+abbrev pub sumSix : (ℕ → ℕ) → ℕ
+sumSix f = f 1 + (f 2 + (f 3 + (f 4 + (f 5 + f 6))))
+
+-- "Its time is the sum of count × u(t)"
+abbrev pub timeOut : System → (ℕ → ℕ) → ℕ
+timeOut y count = sumSix (λ (t : ℕ). count t * typeNo y t .time)
+
+-- "Its memory under rule 0 .. is the sum of count × s(t)"
+abbrev pub ownOut : System → (ℕ → ℕ) → ℕ
+ownOut y count = sumSix (λ (t : ℕ). count t * typeNo y t .memory)
+
+-- "Under rule 1 .. it is the sum of s(t) over the types whose count is not 0"
+abbrev pub sharedOut : System → (ℕ → ℕ) → ℕ
+sharedOut y count = sumSix (λ (t : ℕ). cond (eqb (count t) 0) 0 (typeNo y t .memory))
+
+-- "A load fits an engine if its time is at most U and its memory at most S"
+pub record FitsOut (y : System) (count : ℕ → ℕ) : Type 0 where
+  pub time : timeOut y count ≤ y .timecap
+  pub ownCopies : y .rule ≡ 0 → ownOut y count ≤ y .memorycap
+  pub sharedCode : y .rule ≡ 1 → sharedOut y count ≤ y .memorycap
+
+-- the stored time and memory of a record are the sums of its own counts
+pub record SumsOut (y : System) (l : EngineLoad) : Type 0 where
+  pub time : l .time ≡ timeOut y (countNo l)
+  pub ownCopies : y .rule ≡ 0 → l .memory ≡ ownOut y (countNo l)
+  pub sharedCode : y .rule ≡ 1 → l .memory ≡ sharedOut y (countNo l)
+
+-- a record that holds nothing
+pub record HoldsNothing (l : EngineLoad) : Type 0 where
+  pub time : l .time ≡ 0
+  pub memory : l .memory ≡ 0
+  pub counts : (t : ℕ) → countNo l t ≡ 0
+
+-- how many of the records hold an instance, even one with u = s = 0
+unfoldable pub usedRecords : List EngineLoad → ℕ
+usedRecords [] = 0
+usedRecords (l ∷ ls) = cond (eqb (sumSix (countNo l)) 0) 0 1 + usedRecords ls
+
+-- Numbers in range
+
+-- t is a type number, 1 to k; e an engine number, 1 to m
+abbrev pub IsType : Board → ℕ → Type 0
+IsType b t = (1 ≤ t) × (t ≤ b .system .typecount)
+
+abbrev pub IsEngine : Board → ℕ → Type 0
+IsEngine b e = (1 ≤ e) × (e ≤ b .system .engines)
+
+-- the engines that instances may be on: 1 to m
+abbrev pub EngineIn : Board → ℕ → Type 0
+EngineIn b e = EngineOf (b .system) e
+
+-- The words of demand 3
+
+-- engine e holds an instance of type t
+pub record HoldsType (b : Board) (t e : ℕ) : Type 0 where
+  pub isType : IsType b t
+  pub isEngine : IsEngine b e
+  pub some : 1 ≤ countAt b e t
+
+-- "A type is below its ceiling while fewer than n(t) of it stand"
+pub record BelowCeiling (b : Board) (t : ℕ) : Type 0 where
+  pub isType : IsType b t
+  pub fewer : standsNo b t < ceilingNo (b .system) t
+
+-- "An engine takes a newcomer if its load with it fits"
+pub record TakesType (b : Board) (t e : ℕ) : Type 0 where
+  pub engine : EngineIn b e
+  pub fit : FitsOut (b .system) (plusOne t (countAt b e))
+
+-- the standing instances and the newcomer can be partitioned among the engines, by source 001, Definition 1; and they cannot
+abbrev pub Room : Board → ℕ → Type 0
+Room b t = (χ : Assignment) × Partition (b .system) (EngineIn b) (plusOne t (standsNo b)) χ
+
+abbrev pub NoRoom : Board → ℕ → Type 0
+NoRoom b t = Impossible (b .system) (EngineIn b) (plusOne t (standsNo b))
+
+-- the board after has one instance of type t more on engine e than b, and is otherwise the same
+pub record OneMoreOn (b : Board) (t e : ℕ) (after : Board) : Type 0 where
+  pub system : after .system ≡ b .system
+  pub counts : (d u : ℕ) → 1 ≤ d → 1 ≤ u → countAt after d u ≡ countAt b d u + cond (eqb d e && eqb u t) 1 0
+
+-- The truth of a board
+
+-- the row of refusal 20: a board is true where none of it is so. That there are sixteen engines with six counts each is what arrays of the code always have
+pub record IsTrue (b : Board) : Type 0 where
+  pub sixteen : length (b .loads) ≡ 16
+  pub six : (e : ℕ) → 1 ≤ e → e ≤ 16 → length (recordNo (b .loads) e .counts) ≡ 6
+  -- "its system breaks a limit", "the system's own u, s and n too"
+  pub limits : LimitsOut (b .system)
+  -- "an entry for an engine past m or a type past k is not 0"
+  pub pastEngines : (e : ℕ) → b .system .engines < e → HoldsNothing (recordNo (b .loads) e)
+  pub pastTypes : (e t : ℕ) → b .system .typecount < t → countAt b e t ≡ 0
+  -- "a type's standing total passes its ceiling"
+  pub ceilings : (t : ℕ) → 1 ≤ t → standsNo b t ≤ ceilingNo (b .system) t
+  -- "stored sums differ from the load, or a load doesn't fit"
+  pub sums : (e : ℕ) → IsEngine b e → SumsOut (b .system) (recordNo (b .loads) e)
+  pub fit : (e : ℕ) → IsEngine b e → FitsOut (b .system) (countAt b e)
+
+-- The recovery on a board
+
+-- the load of six counts
+abbrev pub loadOut : (ℕ → ℕ) → List ℕ
+loadOut count = count 1 ∷ count 2 ∷ count 3 ∷ count 4 ∷ count 5 ∷ count 6 ∷ []
+
+-- engine i holds row i of document 01's recovery of count(t) instances of each type; "Engines past i hold nothing"
+abbrev pub IsRecovery : System → (ℕ → ℕ) → Board → Type 0
+IsRecovery y count after =
+    (e t : ℕ) → 1 ≤ e → 1 ≤ t → countAt after e t ≡ getD (getD (rowsFor y (enginesTo (y .engines)) (loadOut count)) (e - 1) []) (t - 1) 0
+
+-- the board after is a true board of count(t) instances of each type on the fewest engines, by the recovery
+pub record Packed (b : Board) (count : ℕ → ℕ) (after : Board) : Type 0 where
+  pub isTrue : IsTrue after
+  pub system : after .system ≡ b .system
+  pub stands : (t : ℕ) → 1 ≤ t → standsNo after t ≡ count t
+  pub fewest : StandsOnFewest (b .system) (EngineIn b) count (after .loads) (usedRecords (after .loads))
+  pub recovery : IsRecovery (b .system) count after
+
+-- a fresh board of the system y: it carries that system, with its m engines, and nothing stands on any
+pub record IsFresh (y : System) (b : Board) : Type 0 where
+  pub system : b .system ≡ y
+  pub sixteen : length (b .loads) ≡ 16
+  pub nothing : (e : ℕ) → HoldsNothing (recordNo (b .loads) e)

@@ -1,0 +1,89 @@
+-- Document 01's "Edges", and a file for every row of "From the input" that a file can be refused by: what it reads as against the number that 01 writes.
+use Prim.Native.Nat.{ℕ, zero, suc, _/_, _%_}
+use mathlib.Core.List.{List, [], _∷_, _++_, map}
+use mathlib.Core.Path.{_≡_}
+use lib.ListN.{replicate}
+use Rattle.system.specs.Layout.{readFile, readOutcome}
+use Rattle.system.specs.Outcome.{Outcome, accepted, refused, fromInput}
+
+-- numbers of two and of four bytes, most significant byte first
+abbrev pub two : ℕ → List ℕ
+two n = (n / 256) ∷ (n % 256) ∷ []
+
+abbrev pub four : ℕ → List ℕ
+four n = two (n / 65536) ++ two (n % 65536)
+
+-- a field of this tag and length, with this body
+abbrev pub field : ℕ → ℕ → List ℕ → List ℕ
+field tag size body = (tag ∷ two size) ++ body
+
+abbrev pub platformWith : ℕ → ℕ → ℕ → ℕ → List ℕ
+platformWith m rule u s = field 1 10 ((m ∷ rule ∷ []) ++ (four u ++ four s))
+
+abbrev pub typeWith : ℕ → ℕ → ℕ → List ℕ
+typeWith u s n = field 2 10 (four u ++ (four s ++ two n))
+
+-- a good platform and a good type
+abbrev pub goodPlatform : List ℕ
+goodPlatform = platformWith 3 0 10 8
+
+abbrev pub goodType : List ℕ
+goodType = typeWith 4 3 1
+
+-- the file with this many good types
+unfoldable pub typesOf : List (List ℕ) → List ℕ
+typesOf [] = []
+typesOf (t ∷ ts) = t ++ typesOf ts
+
+abbrev pub withTypes : List (List ℕ) → List ℕ
+withTypes ts = goodPlatform ++ typesOf ts
+
+-- a file, and what it comes to: 0 where it opens, else the number of its refusal
+pub record Edge : Type 0 where
+  pub file : List ℕ
+  pub comesTo : ℕ
+
+abbrev pub edge : List ℕ → ℕ → Edge
+edge file n = record { file = file; comesTo = n }
+
+unfoldable pub edges : List Edge
+edges =
+    edge (platformWith 1 0 10 8 ++ goodType) 0
+    ∷ edge (platformWith 16 0 10 8 ++ goodType) 0
+    ∷ edge (platformWith 16 1 1000000 1000000 ++ typeWith 1000000 1000000 1023) 0
+    ∷ edge (withTypes (typeWith 4 3 31 ∷ typeWith 4 3 31 ∷ [])) 0
+    ∷ edge (withTypes (replicate 6 goodType)) 0
+    ∷ edge (withTypes (typeWith 0 0 0 ∷ [])) 0
+    ∷ edge (1 ∷ []) 1
+    ∷ edge (withTypes (goodType ∷ (2 ∷ 0 ∷ []) ∷ [])) 1
+    ∷ edge (field 1 10 (3 ∷ 0 ∷ four 10)) 1
+    ∷ edge (withTypes (field 2 10 (four 4 ++ four 3) ∷ [])) 1
+    ∷ edge (field 0 10 [] ++ goodType) 2
+    ∷ edge (withTypes (field 3 10 [] ∷ [])) 2
+    ∷ edge goodType 3
+    ∷ edge (goodPlatform ++ goodPlatform) 3
+    ∷ edge (withTypes (goodType ∷ goodPlatform ∷ [])) 3
+    ∷ edge (field 1 9 []) 4
+    ∷ edge (withTypes (field 2 11 [] ∷ [])) 4
+    ∷ edge (platformWith 0 2 1000001 8 ++ goodType) 5
+    ∷ edge (platformWith 17 0 10 8 ++ goodType) 5
+    ∷ edge (platformWith 3 2 1000001 8 ++ goodType) 6
+    ∷ edge (withTypes (replicate 7 goodType)) 7
+    ∷ edge (platformWith 3 0 1000001 8 ++ goodType) 8
+    ∷ edge (platformWith 3 0 10 1000001 ++ goodType) 8
+    ∷ edge (withTypes (typeWith 1000001 3 1 ∷ [])) 8
+    ∷ edge (withTypes (typeWith 4 1000001 1 ∷ [])) 8
+    ∷ edge [] 9
+    ∷ edge goodPlatform 9
+    ∷ edge (withTypes (typeWith 4 3 1024 ∷ [])) 10
+    ∷ edge (withTypes (typeWith 4 3 31 ∷ typeWith 4 3 32 ∷ [])) 10
+    ∷ []
+
+-- what 01 writes, as an outcome
+abbrev pub told : ℕ → Outcome
+told zero = accepted []
+told (suc n) = refused fromInput (suc n)
+
+-- every file comes to what 01 writes
+abbrev pub EdgesHold : List Edge → Type 0
+EdgesHold es = map (λ (e : Edge). readOutcome (readFile (e .file))) es ≡ map (λ (e : Edge). told (e .comesTo)) es

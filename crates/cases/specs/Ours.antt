@@ -1,0 +1,57 @@
+-- Worked examples of our own beside W1 to W12: a recovery with three different loads, and what a cell holds that says no.
+use Prim.Native.Nat.{ℕ}
+use mathlib.Core.List.{List, [], _∷_, _++_, map}
+use lib.ListN.{take, replicate}
+use Rattle.system.specs.Layout.{readFile}
+use Rattle.system.specs.Outcome.{Outcome}
+use Rattle.loads.specs.declared.EngineLoad.{EngineLoad}
+use Rattle.planner.specs.Plan.{verdictOf, planOutcome, planLoads}
+use Rattle.board.specs.Boards.{openedBoard}
+use Rattle.ledger.specs.Ledger.{Call, admit, seat, repack, freshLedger, ledgerAfter}
+use Rattle.ledger.specs.Demand3.{Request, Made, boardAfter, answersOf, played}
+use Rattle.cases.specs.Cases.{platform, taskType, systemOf, systemA, entryAt, Case, case, number, lines, outcome, outcomes, done, on}
+
+-- system C: m 4, rule 0, U 10, S 9, and three types, each with n 2: u 5, s 2; u 2, s 3; u 4, s 4
+abbrev pub fileC : List ℕ
+fileC = platform 4 0 10 9 ++ taskType 5 2 2 ++ taskType 2 3 2 ++ taskType 4 4 2
+
+-- long enough: (4 + 1) × 27 entries are needed
+abbrev pub lentC : List ℕ
+lentC = replicate 135 7
+
+-- engine by engine: time, memory and the counts of types 1 to 3
+abbrev pub lineOfC : EngineLoad → List ℕ
+lineOfC l = l .time ∷ l .memory ∷ take 3 (l .counts)
+
+abbrev pub madeC : List Call → List Made
+madeC calls = played (openedBoard (readFile fileC)) (map (λ (c : Call). record { call = c; table = lentC }) calls)
+
+abbrev pub linesC : List Call → List (List ℕ)
+linesC calls = map lineOfC (take 4 (boardAfter (openedBoard (readFile fileC)) (madeC calls) .loads))
+
+abbrev pub countedC : List Call → List (List ℕ)
+countedC calls = map (take 3) (ledgerAfter (freshLedger (systemOf fileC)) calls .counts)
+
+-- all but the last of type 3, in turn
+abbrev pub fiveC : List Call
+fiveC = admit 1 ∷ admit 2 ∷ admit 3 ∷ admit 1 ∷ admit 2 ∷ []
+
+-- what first-fit comes to, and what the recovery is: engine 1 gets what is left last, engine 4 nothing
+abbrev pub fitted : List (List ℕ)
+fitted = (9 ∷ 8 ∷ 1 ∷ 2 ∷ 0 ∷ []) ∷ (9 ∷ 6 ∷ 1 ∷ 0 ∷ 1 ∷ []) ∷ (4 ∷ 4 ∷ 0 ∷ 0 ∷ 1 ∷ []) ∷ (0 ∷ 0 ∷ 0 ∷ 0 ∷ 0 ∷ []) ∷ []
+
+abbrev pub recoveredC : List (List ℕ)
+recoveredC = (5 ∷ 2 ∷ 1 ∷ 0 ∷ 0 ∷ []) ∷ (9 ∷ 8 ∷ 1 ∷ 2 ∷ 0 ∷ []) ∷ (8 ∷ 8 ∷ 0 ∷ 0 ∷ 2 ∷ []) ∷ (0 ∷ 0 ∷ 0 ∷ 0 ∷ 0 ∷ []) ∷ []
+
+unfoldable pub ours : List Case
+ours =
+    case 1 (outcome (planOutcome (verdictOf (readFile fileC) lentC 4))) (outcome (on 3))
+    ∷ case 1 (lines (map lineOfC (take 4 (planLoads (verdictOf (readFile fileC) lentC 4))))) (lines recoveredC)
+    ∷ case 2 (outcomes (answersOf (madeC (fiveC ++ (admit 3 ∷ repack ∷ []))))) (outcomes (on 1 ∷ on 1 ∷ on 2 ∷ on 2 ∷ on 1 ∷ on 3 ∷ done ∷ []))
+    ∷ case 2 (lines (linesC (fiveC ++ (admit 3 ∷ [])))) (lines fitted)
+    ∷ case 2 (lines (linesC (fiveC ++ (admit 3 ∷ repack ∷ [])))) (lines recoveredC)
+    ∷ case 3 (lines (linesC (fiveC ++ (seat 3 ∷ [])))) (lines recoveredC)
+    ∷ case 3 (lines (countedC (fiveC ++ (seat 3 ∷ [])))) (lines ((1 ∷ 0 ∷ 0 ∷ []) ∷ (1 ∷ 2 ∷ 0 ∷ []) ∷ (0 ∷ 0 ∷ 2 ∷ []) ∷ (0 ∷ 0 ∷ 0 ∷ []) ∷ []))
+    -- W1 again: row 1 of system A does not say yes at column 3
+    ∷ case 4 (number (entryAt systemA 1 3)) (number 65535)
+    ∷ []

@@ -1,0 +1,133 @@
+-- The verdict on a file that opens, and the table after it, by cases: each case with its evidence in plain arithmetic and assignments.
+use Prim.Native.Nat.{ℕ, _+_, _-_, _*_, _<_, _≤_}
+use mathlib.Core.Path.{_≡_, refl, sym, ap, _∙_}
+use mathlib.Core.List.{List, []}
+use mathlib.Core.Bool.{Bool, true, false}
+use mathlib.Core.Logic.{_↔_}
+use native.Mathlib.Nat.{le-refl}
+use native.Mathlib.Omega.{arith}
+use borrow.Author.Tests.{leb-true, leb-false, le-leb}
+use lib.ListN.{length, getD, length-map, List·getD-map}
+use lib.Dec.{leb}
+use Rattle.system.specs.declared.System.{System}
+use Rattle.system.specs.Values.{ceilingsOf}
+use Rattle.system.specs.Limits.{engineLimit, typeLimit}
+use Rattle.system.specs.Layout.{opened}
+use Rattle.system.specs.Outcome.{fromInput, passes, check, andThen}
+use Rattle.system.proofs.Checks.{check-passed, both-passed}
+use Rattle.system.proofs.Laws.{Limits}
+use Rattle.loads.specs.declared.EngineLoad.{EngineLoad}
+use Rattle.loads.specs.Load.{engineWith, idleEngine, emptyLoad}
+use Rattle.loads.proofs.Laws.{engineWith-idle}
+use Rattle.loads.proofs.Order.{within-refl}
+use Rattle.partition.specs.Assignment.{countOn}
+use Rattle.partition.specs.ForSystem.{FeasibleOn, OnFewest, placeable, recoveredFor}
+use Rattle.partition.specs.Plain.{ceilingNo, columnsOut, LongEnough, EngineOf, Impossible, recordNo, StandsOnFewest}
+use Rattle.partition.proofs.Lists.{not-both, length-enginesTo, distinct-enginesTo, every-among, among-enginesTo, getD-inside}
+use Rattle.partition.proofs.ForSystem.{length-ceilings, feasible-iff-placeable, length-recoveredFor, recoveredFor-past, recovered-on-fewest}
+use Rattle.partition.proofs.Plain.{columns-out, ceiling-out, impossible-out, fewest-out}
+use Rattle.table.specs.Table.{entries, longEnough, tableCheck, filled}
+use Rattle.table.specs.Meaning.{FilledMeans}
+use Rattle.table.proofs.Meaning.{filled-means}
+use Rattle.planner.specs.Plan.{planEngines, listCheck, lentCheck, Verdict, planned, unplanned, judged, verdictOf, usedEngines, planLoads, tableLeft, planTable}
+
+-- all instances can be placed on the engines
+abbrev pub canPlace : System → Bool
+canPlace y = placeable y (planEngines y) (ceilingsOf y)
+
+-- where 11 and 15 pass
+pub lent-passed : (y : System) (table : List ℕ) (room : ℕ) → passes ≡ lentCheck y table room → (longEnough y table ≡ true) × (leb (y .engines) room ≡ true)
+lent-passed y table room e =
+    let both = both-passed (tableCheck y table) (listCheck y room) e in
+    (check-passed (longEnough y table) fromInput 11 (both .0), check-passed (leb (y .engines) room) fromInput 15 (both .1))
+
+-- ---- the tests in plain words
+
+module _ (y : System) (limits : Limits y) where
+  long-out : (table : List ℕ) → longEnough y table ≡ true → LongEnough y table
+  long-out table h = rw (columns-out y (limits .six)) (leb-true (entries y (y .engines)) (length table) h)
+
+  long-back : (table : List ℕ) → LongEnough y table → longEnough y table ≡ true
+  long-back table h = le-leb (entries y (y .engines)) (length table) (rw (columns-out y (limits .six)) at h)
+
+  short-out : (table : List ℕ) → longEnough y table ≡ false → length table < (y .engines + 1) * columnsOut y
+  short-out table h = rw (columns-out y (limits .six)) (leb-false (entries y (y .engines)) (length table) h)
+
+  -- the ceilings are a load within the ceilings
+  feasible : FeasibleOn y (planEngines y) (ceilingsOf y) ↔ (canPlace y ≡ true)
+  feasible = feasible-iff-placeable y limits (planEngines y) (distinct-enginesTo (y .engines)) (ceilingsOf y) (length-ceilings y limits) (within-refl (ceilingsOf y))
+
+  none-out : canPlace y ≡ false → Impossible y (EngineOf y) (ceilingNo y)
+  none-out cannot =
+      impossible-out y (limits .rule) (planEngines y) (distinct-enginesTo (y .engines)) (every-among (planEngines y)) (EngineOf y) (among-enginesTo (y .engines)) (ceilingsOf y) (length-ceilings y limits) (ceilingNo y) (λ t low. ceiling-out y t)
+      .0 (λ f. not-both (feasible .0 f) cannot)
+
+  -- the table after a plan, and after 12
+  pub plan-fills : (table : List ℕ) → LongEnough y table → FilledMeans y (y .engines) table (filled y (planEngines y) table)
+  plan-fills table long = rw (length-enginesTo (y .engines)) (filled-means y limits (y .engines) table (le-refl (y .engines)) long)
+
+  -- ---- a plan that is given
+
+  module _ (can : canPlace y ≡ true) where
+    recovered : OnFewest y (planEngines y) (ceilingsOf y) (planLoads (planned y)) (usedEngines (planned y))
+    recovered = recovered-on-fewest y limits (planEngines y) (distinct-enginesTo (y .engines)) (ceilingsOf y) (length-ceilings y limits) (within-refl (ceilingsOf y)) can engineLimit
+
+    pub on-fewest : StandsOnFewest y (EngineOf y) (ceilingNo y) (planLoads (planned y)) (usedEngines (planned y))
+    on-fewest =
+        fewest-out y (limits .rule) (planEngines y) (distinct-enginesTo (y .engines)) (every-among (planEngines y)) (EngineOf y) (among-enginesTo (y .engines)) (ceilingsOf y) (length-ceilings y limits) (ceilingNo y) (λ t low. ceiling-out y t)
+        (planLoads (planned y)) (usedEngines (planned y)) recovered
+
+    -- the lowest yes row is that of an engine
+    pub few-used : usedEngines (planned y) ≤ y .engines
+    few-used = omega (arith, leb-true (usedEngines (planned y)) (length (planEngines y)) can, length-enginesTo (y .engines))
+
+    -- a load for each engine that a system can have
+    pub length-loads : length (planLoads (planned y)) ≡ engineLimit
+    length-loads =
+        length-map (recoveredFor engineLimit y (planEngines y) (ceilingsOf y)) (engineWith y)
+        ∙ length-recoveredFor y limits (planEngines y) (distinct-enginesTo (y .engines)) (ceilingsOf y) (length-ceilings y limits) (within-refl (ceilingsOf y)) can engineLimit
+
+    -- each of six counts
+    pub six-counts : (e : ℕ) → 1 ≤ e → e ≤ engineLimit → length (recordNo (planLoads (planned y)) e .counts) ≡ typeLimit
+    six-counts e low high =
+        let p = recovered .placed in
+        let inside : e - 1 < length (planLoads (planned y)) = omega (arith, length-loads) in
+        ap (λ (l : EngineLoad). length (l .counts)) (getD-inside (planLoads (planned y)) (e - 1) (record { time = 0; memory = 0; counts = [] }) idleEngine inside ∙ p .holds (e - 1) inside)
+        ∙ length-map (p .mapping) (countOn ((e - 1) + 1))
+        ∙ sym (length-map (p .mapping) length)
+        ∙ ap length (p .assigns)
+        ∙ length-ceilings y limits
+
+-- the load of an engine past the lowest yes row
+pub idle-load : (y : System) (i : ℕ) → usedEngines (planned y) ≤ i → getD (planLoads (planned y)) i idleEngine ≡ idleEngine
+idle-load y i h =
+    ap (getD (planLoads (planned y)) i) (sym (engineWith-idle y))
+    ∙ List·getD-map (engineWith y) (recoveredFor engineLimit y (planEngines y) (ceilingsOf y)) i emptyLoad
+    ∙ ap (engineWith y) (recoveredFor-past y (y .engines) (ceilingsOf y) engineLimit i h)
+    ∙ engineWith-idle y
+
+-- ---- the cases
+
+pub data Case (y : System) (table : List ℕ) (room : ℕ) : Verdict → List ℕ → Type 0 where
+  tooShort : length table < (y .engines + 1) * columnsOut y → Case y table room (unplanned fromInput 11) table
+  tooSmall : LongEnough y table → room < y .engines → Case y table room (unplanned fromInput 15) table
+  noPlace : LongEnough y table → y .engines ≤ room → Impossible y (EngineOf y) (ceilingNo y) → Case y table room (unplanned fromInput 12) (filled y (planEngines y) table)
+  isPlanned : LongEnough y table → y .engines ≤ room → canPlace y ≡ true → Case y table room (planned y) (filled y (planEngines y) table)
+
+pub caseOf : (y : System) → Limits y → (table : List ℕ) (room : ℕ) → Case y table room (verdictOf (opened y) table room) (planTable (opened y) table room)
+unfolding verdictOf
+caseOf y limits table room = go (longEnough y table) (leb (y .engines) room) (canPlace y) refl refl refl
+  where
+    go : (l r p : Bool) → longEnough y table ≡ l → leb (y .engines) room ≡ r → canPlace y ≡ p
+        → Case y table room (judged y (andThen (andThen (check l fromInput 11) (check r fromInput 15)) (check p fromInput 12)))
+        (tableLeft (andThen (check l fromInput 11) (check r fromInput 15)) table (filled y (planEngines y) table))
+    go false r p long enough can = tooShort (short-out y limits table long)
+    go true false p long enough can = tooSmall (long-out y limits table long) (leb-false (y .engines) room enough)
+    go true true false long enough can = noPlace (long-out y limits table long) (leb-true (y .engines) room enough) (none-out y limits can)
+    go true true true long enough can = isPlanned (long-out y limits table long) (leb-true (y .engines) room enough) can
+
+-- ---- "What the table held before changes no answer": over any table that is long enough the verdict is the same
+
+pub verdict-any : (y : System) → Limits y → (table other : List ℕ) (room : ℕ) → LongEnough y table → LongEnough y other → verdictOf (opened y) table room ≡ verdictOf (opened y) other room
+unfolding verdictOf
+verdict-any y limits table other room p q = rw (long-back y limits table p, long-back y limits other q)

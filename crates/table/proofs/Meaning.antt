@@ -1,0 +1,141 @@
+-- A filled table says what document 01's "Table" says of it, in plain words, and so do the calls that fill one.
+use Prim.Native.Nat.{ℕ, _+_, _-_, _*_, _≤_, _<_}
+use mathlib.Core.Path.{_≡_, refl, sym, ap, subst, _∙_}
+use mathlib.Core.Bool.{Bool, true, false, false≢true}
+use mathlib.Core.List.{List, [], _∷_}
+use mathlib.Core.Logic.{_↔_}
+use native.Mathlib.Nat.{le-refl, mul-le-mul-right, add-mul}
+use native.Mathlib.Omega.{arith}
+use borrow.Author.Tests.{eqb-true, eqb-false, eq-eqb, ne-eqb, leb-true, leb-false, le-leb, lt-leb}
+use lib.ListN.{length, getD, drop}
+use lib.Seq.{getD-drop}
+use lib.Dec.{leb, eqb}
+use Rattle.system.specs.declared.System.{System}
+use Rattle.system.specs.declared.Answer.{Answer}
+use Rattle.system.specs.Values.{ceilingsOf}
+use Rattle.system.specs.Limits.{columns, typeLimit}
+use Rattle.system.specs.Layout.{Reading, readFile, opened, unread}
+use Rattle.system.specs.Outcome.{Outcome, Source, accepted, refused, fromInput, outcomeOf}
+use Rattle.system.proofs.Laws.{Limits, read-limits}
+use Rattle.loads.specs.Load.{fitsEngine}
+use Rattle.loads.specs.Column.{loadOf}
+use Rattle.loads.proofs.Column.{length-loadOf}
+use Rattle.partition.specs.Assignment.{among, every, enginesTo}
+use Rattle.partition.specs.Cell.{saysYes, cell}
+use Rattle.partition.specs.ForSystem.{FeasibleOn, cellFor}
+use Rattle.partition.specs.Plain.{columnsOut, LongEnough, Impossible}
+use Rattle.partition.proofs.Lists.{distinct-enginesTo, length-enginesTo, among-enginesTo, tested-among, not-both}
+use Rattle.partition.proofs.ForSystem.{length-ceilings, ground}
+use Rattle.partition.proofs.Theorems.{cell-yes-iff-feasible}
+use Rattle.partition.proofs.Plain.{columns-out, impossible-out}
+use Rattle.table.specs.Table.{entries, longEnough, filledTo, fillOutcome, fillTable, entriesNeeded}
+use Rattle.table.specs.Meaning.{countIn, FilledMeans, FillPromises, NeedPromises}
+use Rattle.table.proofs.Filled.{length-filledTo, filledTo-at, drop-filledTo}
+
+-- intermediate: a cell that says no
+
+no-cell : (v : ℕ) → (v ≡ 65535) ↔ (saysYes v ≡ true → ⊥)
+no-cell v = (there, back (eqb v 65535) refl)
+  where
+    there : v ≡ 65535 → saysYes v ≡ true → ⊥
+    there e h = let q = eq-eqb v 65535 e in let z : false ≡ true = rw q at h in absurd (false≢true z)
+
+    back : (b : Bool) → eqb v 65535 ≡ b → (saysYes v ≡ true → ⊥) → v ≡ 65535
+    back true q h = eqb-true v 65535 q
+    back false q h = absurd (h (rw q))
+
+module _ (y : System) (limits : Limits y) where
+  -- main: a cell is 65,535 exactly when its load cannot be partitioned among as many engines as its row says
+  cell-says : (i c : ℕ) → i ≤ y .engines → c < columns y → (cellFor y i c ≡ 65535) ↔ Impossible y (λ (e : ℕ). (1 ≤ e) × (e ≤ i)) (countIn y c)
+  cell-says i c few small =
+      let yes = cell-yes-iff-feasible (fitsEngine y) (ceilingsOf y) (ground y limits) i c (enginesTo i) small (distinct-enginesTo i) (length-enginesTo i) in
+      let none = impossible-out y (limits .rule) (enginesTo i) (distinct-enginesTo i) inside (λ (e : ℕ). (1 ≤ e) × (e ≤ i)) (among-enginesTo i)
+      (loadOf (ceilingsOf y) c) (length-loadOf (ceilingsOf y) c ∙ length-ceilings y limits) (countIn y c) (λ t low. refl) in
+      ((λ e. none .0 (λ f. no-cell (cellFor y i c) .0 e (yes .1 f))), (λ n. no-cell (cellFor y i c) .1 (λ h. none .1 n (yes .0 h))))
+    where
+      inside : every (among (enginesTo (y .engines))) (enginesTo i) ≡ true
+      inside =
+          tested-among (among (enginesTo (y .engines))) (enginesTo i)
+          (λ e k. let b = among-enginesTo i e .0 k in among-enginesTo (y .engines) e .1 (b .0, omega (arith, b .1)))
+
+  -- main: the whole table
+  pub filled-means : (rows : ℕ) (table : List ℕ) → rows ≤ y .engines → LongEnough y table → FilledMeans y rows table (filledTo y rows table)
+  filled-means rows table few long =
+      let same = columns-out y (limits .six) in
+      record {
+        cells = λ i c h k. rw same (filledTo-at y rows table i c h (rw same at k));
+        says = λ i c h k. rw (same, filledTo-at y rows table i c h (rw same at k)) (cell-says i c (omega arith) (rw same at k));
+        past = λ k h. past k (rw same at h);
+        asLong = length-filledTo y rows table room;
+      }
+    where
+      room : entries y rows ≤ length table
+      room =
+          let same = columns-out y (limits .six) in
+          omega (arith, rw same at long, mul-le-mul-right (columns y) few, add-mul (y .engines) 1 (columns y), add-mul rows 1 (columns y))
+
+      past : (k : ℕ) → entries y rows ≤ k → getD (filledTo y rows table) k 0 ≡ getD table k 0
+      past k h =
+          let n = entries y rows in
+          let up : n + (k - n) ≡ k = omega arith in
+          subst (λ (j : ℕ). getD (filledTo y rows table) j 0 ≡ getD table j 0) up
+          (sym (getD-drop n (filledTo y rows table) (k - n) 0) ∙ ap (λ (l : List ℕ). getD l (k - n) 0) (drop-filledTo y rows table) ∙ getD-drop n table (k - n) 0)
+
+-- main: what the calls promise
+
+clash : {A : Type 0} (o : Outcome) {s : Source} {n : ℕ} {ns : List ℕ} → o ≡ accepted ns → o ≡ refused s n → A
+clash o p q = let z : _≡_ {A = ℕ} 0 1 = cc in absurd (omega arith)
+
+lent : (x : Reading) (o : Outcome) {table after : List ℕ} → after ≡ fillTable x table → o ≡ fillOutcome x table → (s : Source) (n : ℕ) → o ≡ refused s n → after ≡ table
+lent (unread k) a left told s n o = left
+lent (opened y) a {table = table} {after = after} left told s n o = go (longEnough y table) refl
+  where
+    go : (b : Bool) → longEnough y table ≡ b → after ≡ table
+    go true q = let yes : a ≡ accepted [] = told ∙ rw q in clash a yes o
+    go false q = left ∙ rw q
+
+module _ (x : Reading) (known : (y : System) → x ≡ opened y → Limits y) (answer : Answer) where
+  pub need-promises : outcomeOf answer ≡ entriesNeeded x → NeedPromises x answer
+  need-promises e = record {
+    answers = e;
+    refuses = λ n is. e ∙ ap entriesNeeded is;
+    needs = λ y is. e ∙ ap entriesNeeded is ∙ ap (λ (c : ℕ). accepted ((y .engines + 1) * c ∷ [])) (sym (columns-out y (known y is .six)));
+  }
+
+  module _ (table after : List ℕ) (told : outcomeOf answer ≡ fillOutcome x table) (left : after ≡ fillTable x table) where
+    long-or-short : (y : System) → x ≡ opened y → (LongEnough y table → longEnough y table ≡ true) × (length table < (y .engines + 1) * columnsOut y → longEnough y table ≡ false)
+    long-or-short y is =
+        let same = columns-out y (known y is .six) in
+        ((λ h. le-leb (entries y (y .engines)) (length table) (rw same at h)), (λ h. lt-leb (entries y (y .engines)) (length table) (rw same at h)))
+
+    short-told : (y : System) → x ≡ opened y → longEnough y table ≡ false → (outcomeOf answer ≡ refused fromInput 11) × (after ≡ table)
+    short-told y is q = (told ∙ ap (λ (r : Reading). fillOutcome r table) is ∙ rw q, left ∙ ap (λ (r : Reading). fillTable r table) is ∙ rw q)
+
+    long-told : (y : System) → x ≡ opened y → longEnough y table ≡ true → (outcomeOf answer ≡ accepted []) × (after ≡ filledTo y (y .engines) table)
+    long-told y is q =
+        (told ∙ ap (λ (r : Reading). fillOutcome r table) is ∙ rw q, left ∙ ap (λ (r : Reading). fillTable r table) is ∙ rw (q, length-enginesTo (y .engines)))
+
+    then-table : (y : System) → x ≡ opened y → (b : Bool) → longEnough y table ≡ b → (outcomeOf answer ≡ refused fromInput 11) ↔ (length table < (y .engines + 1) * columnsOut y)
+    then-table y is true q = ((λ o. clash (outcomeOf answer) (long-told y is q .0) o), (λ h. absurd (not-both q (long-or-short y is .1 h))))
+    then-table y is false q =
+        ((λ o. rw (columns-out y (known y is .six)) (leb-false (entries y (y .engines)) (length table) q)), (λ h. short-told y is q .0))
+
+    pub fill-promises : FillPromises x table answer after
+    fill-promises = record {
+      answers = told;
+      leaves = left;
+      fileFirst = λ n is. told ∙ ap (λ (r : Reading). fillOutcome r table) is;
+      thenTable = λ y is. then-table y is (longEnough y table) refl;
+      fills = λ y is long.
+          let done = long-told y is (long-or-short y is .0 long) in
+          (done .0, rw (done .1) (filled-means y (known y is) (y .engines) table (le-refl (y .engines)) long));
+      asLent = λ s n o. lent x (outcomeOf answer) left told s n o;
+    }
+
+-- of a file
+module _ (file : List ℕ) where
+  pub file-needs : (a : Answer) → outcomeOf a ≡ entriesNeeded (readFile file) → NeedPromises (readFile file) a
+  file-needs a e = need-promises (readFile file) (read-limits file) a e
+
+  pub file-fills : (a : Answer) (table after : List ℕ) → (outcomeOf a ≡ fillOutcome (readFile file) table) × (after ≡ fillTable (readFile file) table) → FillPromises (readFile file) table a after
+  file-fills a table after (told, left) = fill-promises (readFile file) (read-limits file) a table after told left

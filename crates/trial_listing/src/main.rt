@@ -1,0 +1,163 @@
+// Listings, whole, as they are written: document 01's worked one; a file for each refusal that a file can come to, and a table that is
+// too short; files of the greatest length, with 1,024 columns and all 16 engines; files with bytes past a good one, up to and past the 128 that
+// program `plan` reads; and every refusal number through the listing of a refused plan. What is expected was computed apart from the code.
+use brute::files;
+use brute::files::File;
+use brute::recovery;
+use brute::say;
+use brute::systems;
+use listing::listing;
+use listing::listing_of;
+use listing::write_listing;
+use planner::Plan;
+use system::Answer;
+use system::ENGINE_LIMIT;
+use system::Refusal;
+use system::System;
+use system::TYPE_LIMIT;
+
+// The listing of a file, after a line that names it.
+fn say_listing(name: &[u8], file: &[u8]) {
+    let mut out = io::buffer();
+    let written = listing_of(file, &mut out);
+    say::say(name);
+    say::say(b"\n");
+    say::say(&out[..written]);
+}
+
+// The listing of the first bytes of a file.
+fn say_part(name: &[u8], bytes: &[u8; 128], size: usize) {
+    say_listing(name, files::first_of(bytes, size));
+}
+
+fn say_file(name: &[u8], f: File, size: usize) {
+    let bytes = f.bytes;
+    say_part(name, &bytes, size);
+}
+
+fn say_system(name: &[u8], y: System) {
+    let f = files::file_of(y);
+    say_file(name, f, f.size);
+}
+
+// The file of system A with another byte at a place.
+fn say_changed(name: &[u8], at: usize, byte: u8) {
+    let f = files::file_of(systems::system_a(3));
+    let mut bytes = f.bytes;
+    if at < 128 {
+        bytes[at] = byte;
+    }
+    say_part(name, &bytes, f.size);
+}
+
+// The listing over a table of 35 entries: one short for system A, of which rows 0 to 2 need 36.
+fn say_short(name: &[u8], y: System) {
+    let f = files::file_of(y);
+    let bytes = f.bytes;
+    let mut table: [u16; 35] = [7; 35];
+    let mut out = io::buffer();
+    let written = listing(files::first_of(&bytes, f.size), &mut table, &mut out);
+    say::say(name);
+    say::say(b"\n");
+    say::say(&out[..written]);
+}
+
+// The listing of a plan that was refused.
+fn say_refused(why: Refusal) {
+    let plan = Plan {
+        answer: Answer::Refused(why),
+        used: 0,
+        typecount: 0,
+        loads: [recovery::idle(); ENGINE_LIMIT],
+    };
+    let mut out = io::buffer();
+    let written = write_listing(&mut out, plan);
+    say::say(&out[..written]);
+}
+
+// Every number that document 01 has or could have, from either list.
+fn say_numbers() {
+    for n in 0..24u8 {
+        say_refused(Refusal::Input(n + 1));
+        say_refused(Refusal::State(n + 1));
+    }
+}
+
+// A file for each refusal that it can come to.
+fn say_refusals() {
+    let a = files::file_of(systems::system_a(3));
+    say_file(b"one byte", a, 1);
+    say_file(b"a body cut", a, 38);
+    say_changed(b"tag 3", 13, 3);
+    say_changed(b"a type first", 0, 2);
+    say_changed(b"a second platform", 13, 1);
+    say_changed(b"length 11", 15, 11);
+    say_system(b"m 0", systems::system_a(0));
+    say_system(b"m 17", systems::system_a(17));
+    say_changed(b"rule 2", 4, 2);
+    say_changed(b"U 16777226", 5, 1);
+    say_file(b"empty", a, 0);
+    say_file(b"no type", a, 13);
+    say_system(b"n 1024", systems::single(1, 0, 0, 0, 1024));
+    say_system(b"no good assignment", systems::system_b(3, 0));
+    say_short(b"a short table", systems::system_a(2));
+}
+
+// The longest file, and the same byte after it.
+fn longer(f: File, byte: u8) -> [u8; 256] {
+    let old = f.bytes;
+    let mut bytes: [u8; 256] = [byte; 256];
+    for i in 0..91 {
+        bytes[i] = old[i];
+    }
+    bytes
+}
+
+// So many bytes of it.
+fn say_longer(name: &[u8], byte: u8, size: usize) {
+    let bytes = longer(files::file_of(systems::system_full(1)), byte);
+    say_listing(name, files::first_of(&bytes, size));
+}
+
+// A long file with a seventh type.
+fn say_seventh(size: usize) {
+    let f = files::file_of(systems::system_full(0));
+    let mut bytes = f.bytes;
+    bytes[91] = 2;
+    bytes[93] = 10;
+    say_part(b"seven types", &bytes, size);
+}
+
+fn main() {
+    say_system(b"system A", systems::system_a(3));
+    say_refusals();
+    say_system(b"all n 0, m 1", systems::six_of(1, [0; TYPE_LIMIT]));
+    say_system(b"all n 0, m 16", systems::six_of(16, [0; TYPE_LIMIT]));
+    say_system(b"costs nothing", systems::six_of(16, [1; TYPE_LIMIT]));
+    say_system(b"1024 columns, rule 0", systems::system_full(0));
+    say_system(b"1024 columns, rule 1", systems::system_full(1));
+    say_system(
+        b"n 1023, m 16",
+        systems::single(16, 0, 1000000, 15625, 1023),
+    );
+    say_system(b"n 1023, m 1", systems::single(1, 1, 1000000, 0, 1023));
+    say_system(
+        b"n 1023, too many",
+        systems::single(16, 1, 1000000, 1000000, 1023),
+    );
+    say_longer(b"90 bytes", 0, 90);
+    say_longer(b"91 bytes", 0, 91);
+    say_longer(b"92 bytes", 2, 92);
+    say_longer(b"93 bytes", 2, 93);
+    say_longer(b"94 bytes, no tag", 0, 94);
+    say_longer(b"94 bytes, no length", 2, 94);
+    say_longer(b"127 bytes", 0, 127);
+    say_longer(b"128 bytes", 1, 128);
+    say_longer(b"129 bytes", 2, 129);
+    say_longer(b"256 bytes", 0, 256);
+    say_seventh(103);
+    say_seventh(104);
+    say_seventh(128);
+    say::say(b"refused plans\n");
+    say_numbers();
+}
