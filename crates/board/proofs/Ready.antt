@@ -1,16 +1,16 @@
 -- What the work of a call rests on once its checks have passed: numbers in range, counts far below 16 bits, loads that fit.
-use Prim.Native.Nat.{ℕ, zero, suc, _+_, _-_, _≤_, _<_}
+use Prim.Native.Nat.{ℕ, _-_, _≤_, _<_}
 use mathlib.Core.Path.{_≡_, sym, ap, subst, _∙_}
-use mathlib.Core.List.{List, [], _∷_}
+use mathlib.Core.List.{List}
 use mathlib.Core.Bool.{true}
-use native.Mathlib.Nat.{le-refl, mul-le-mul-left, mul-le-mul-right}
+use native.Mathlib.Nat.{le-refl}
 use native.Mathlib.Omega.{arith}
 use borrow.Author.Tests.{leb-true, le-leb, ltb-true}
 use lib.ListN.{length, getD}
 use lib.Dec.{leb}
 use Rattle.system.specs.Values.{ceilingsOf}
-use Rattle.system.specs.Limits.{keepsLimits, columnsOf, columnLimit, engineLimit, typeLimit}
-use Rattle.system.proofs.Laws.{Limits, limits-of, columnsOf-pos}
+use Rattle.system.specs.Limits.{keepsLimits, columnLimit, engineLimit, typeLimit}
+use Rattle.system.proofs.Laws.{Limits, limits-of, ceiling-lt}
 use Rattle.loads.specs.Load.{fitsEngine, within}
 use Rattle.loads.proofs.Order.{and-parts, and-both}
 use Rattle.loads.proofs.Change.{within-getD, oneMore-within}
@@ -27,14 +27,6 @@ use Rattle.board.specs.Calls.{knownType, knownEngine, withNewcomer}
 use Rattle.board.specs.Inner.{CheckedNewcomer, OnEngine}
 use Rattle.board.proofs.Places.{engines-distinct, engines-count, engine-of}
 use Rattle.board.proofs.Truth.{truth-of, loadAt-on}
-
--- intermediate: a ceiling is below the columns
-
-ceiling-lt : (ns : List ℕ) (j : ℕ) → getD ns j 0 < columnsOf ns
-unfolding columnsOf
-ceiling-lt [] j = omega arith
-ceiling-lt (n ∷ ns) zero = omega (arith, mul-le-mul-left (n + 1) (columnsOf-pos ns))
-ceiling-lt (n ∷ ns) (suc j) = omega (arith, ceiling-lt ns j, mul-le-mul-right {m = 1} {n = n + 1} (columnsOf ns) (omega arith))
 
 -- main: of a true board
 

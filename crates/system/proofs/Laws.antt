@@ -1,7 +1,7 @@
 -- Laws of the definitions of crate `system`: the limits of a system as plain facts, and that every file that is read keeps them.
 use Prim.Native.Nat.{ℕ, zero, suc, _+_, _-_, _≤_, _<_, min, zero-le}
 use native.Mathlib.Omega.{arith}
-use native.Mathlib.Nat.{mul-pos, min-eq-left, min-eq-right}
+use native.Mathlib.Nat.{mul-pos, mul-le-mul-left, mul-le-mul-right, min-eq-left, min-eq-right}
 use mathlib.Core.List.{List, [], _∷_}
 use mathlib.Core.Bool.{Bool, true, false, not, cond, _&&_, _||_, and-eq-true-iff, false≢true}
 use mathlib.Core.Path.{_≡_, refl, sym, ap, _∙_, subst}
@@ -43,6 +43,13 @@ pub columnsOf-pos : (ns : List ℕ) → 0 < columnsOf ns
 unfolding columnsOf
 columnsOf-pos [] = omega arith
 columnsOf-pos (n ∷ ns) = mul-pos (omega arith) (columnsOf-pos ns)
+
+-- a ceiling is below the columns
+pub ceiling-lt : (ns : List ℕ) (j : ℕ) → getD ns j 0 < columnsOf ns
+unfolding columnsOf
+ceiling-lt [] j = omega arith
+ceiling-lt (n ∷ ns) zero = omega (arith, mul-le-mul-left (n + 1) (columnsOf-pos ns))
+ceiling-lt (n ∷ ns) (suc j) = omega (arith, ceiling-lt ns j, mul-le-mul-right {m = 1} {n = n + 1} (columnsOf ns) (omega arith))
 
 -- what the code holds of the product passes the limit where the product does, and is the product where it does not
 pub within-limit : (c : ℕ) → leb (min c (columnLimit + 1)) columnLimit ≡ leb c columnLimit
@@ -167,7 +174,7 @@ limits-of y q =
 
 -- the other way
 
-sizes-keep : (u s : ℕ) → u ≤ sizeLimit → s ≤ sizeLimit → sizeFault u s ≡ 0
+pub sizes-keep : (u s : ℕ) → u ≤ sizeLimit → s ≤ sizeLimit → sizeFault u s ≡ 0
 sizes-keep u s p q = rw (le-leb u sizeLimit p, le-leb s sizeLimit q)
 
 sized-test : (t : TaskType) → Sized t → eqb (typeFault t) 0 ≡ true
@@ -219,7 +226,7 @@ record Sound (last : ℕ) (y : System) : Type 0 where
   sized : (i : ℕ) → Sized (getD (y .types) i noTask)
   platform : (last ≡ 0 → ⊥) → Platform (y .engines) (y .rule) (y .timecap) (y .memorycap)
 
-getD-blank : (n i : ℕ) → getD (replicate n noTask) i noTask ≡ noTask
+pub getD-blank : (n i : ℕ) → getD (replicate n noTask) i noTask ≡ noTask
 getD-blank zero i = refl
 getD-blank (suc n) zero = refl
 getD-blank (suc n) (suc i) = getD-blank n i
@@ -234,7 +241,7 @@ sound-blank =
       platform = λ n. absurd (n refl);
     }
 
-either-false : (a b : Bool) → a || b ≡ false → (a ≡ false) × (b ≡ false)
+pub either-false : (a b : Bool) → a || b ≡ false → (a ≡ false) × (b ≡ false)
 either-false false b e = (refl, e)
 either-false true b e = absurd (false≢true (sym e))
 

@@ -3,15 +3,16 @@ use Prim.Native.Nat.{ℕ, zero, suc, _+_, _-_, _*_, _≤_, _<_, min}
 use native.Mathlib.Omega.{arith}
 use native.Mathlib.Numerals.{add-one}
 use native.Mathlib.Nat.{mul-assoc, mul-one, le-mul-of-pos-right, min-eq-left, min-eq-right}
-use mathlib.Core.List.{List, _∷_, map}
+use mathlib.Core.List.{List, _∷_, _++_, append-assoc, append-nil, map}
 use mathlib.Core.Bool.{Bool, true, false, cond, _&&_}
 use mathlib.Core.Path.{_≡_, refl, sym, ap, _∙_, subst}
 use borrow.Author.Tests.{lt-ltb, le-ltb}
-use lib.ListN.{length, getD, drop, drop-of-length-le}
-use lib.Seq.{drop-cons}
+use lib.ListN.{length, getD, take, drop, set, replicate, length-append, length-replicate, take-append-drop, drop-of-length-le, replicate-append-replicate}
+use lib.Seq.{drop-cons, length-take-le, set-at}
 use lib.Dec.{ltb, eqb}
 use Rattle.system.specs.declared.TaskType.{TaskType}
-use Rattle.system.specs.Limits.{columnLimit, columnsOf, typeFault, zeroTask, typesKeep}
+use Rattle.system.specs.Values.{noTask, clearedTypes}
+use Rattle.system.specs.Limits.{typeLimit, columnLimit, columnsOf, typeFault, zeroTask, typesKeep}
 use Rattle.system.specs.Rules.{firstOf}
 use Rattle.system.proofs.Laws.{columnsOf-pos}
 
@@ -65,6 +66,26 @@ module _ (k i : ℕ) (ts : List TaskType) where
   pub types-end : length ts ≤ i → typesKeep (k - i) (drop i ts) ≡ typesKeep k ts → true ≡ typesKeep k ts
   unfolding typesKeep
   types-end h inv = rw (drop-of-length-le ts h) at inv
+
+-- Clearing: the entries from k up to i are cleared already, the others are as they were
+
+abbrev pub clearedTo : ℕ → ℕ → List TaskType → List TaskType
+clearedTo k i ts = take k ts ++ (replicate (i - k) noTask ++ drop i ts)
+
+pub cleared-none : (k : ℕ) (ts : List TaskType) → ts ≡ clearedTo k k ts
+cleared-none k ts = let none : k - k ≡ 0 = omega arith in sym (rw none (take-append-drop k ts))
+
+pub cleared-more : (k i : ℕ) (ts : List TaskType) → k ≤ i → i < length ts → set (clearedTo k i ts) i noTask ≡ clearedTo k (i + 1) ts
+cleared-more k i ts from h =
+    let front = take k ts ++ replicate (i - k) noTask in
+    let one : i + 1 - k ≡ i - k + 1 = omega arith in
+    let size : length front ≡ i = simp (length-append, length-replicate, length-take-le k ts (omega arith)) (omega arith) in
+    ap (λ (l : List TaskType). set l i noTask) (sym (append-assoc (take k ts) (replicate (i - k) noTask) (drop i ts)) ∙ ap (λ (l : List TaskType). front ++ l) (drop-cons ts i noTask h))
+    ∙ set-at front (getD ts i noTask) (drop (suc i) ts) noTask i size
+    ∙ rw (one, ← replicate-append-replicate (i - k) 1 noTask, add-one i) (simp append-assoc)
+
+pub cleared-all : (k i : ℕ) (ts : List TaskType) → length ts ≡ typeLimit → typeLimit ≤ i → i - k ≡ typeLimit - k → clearedTo k i ts ≡ clearedTypes k ts
+cleared-all k i ts six h e = let past : length ts ≤ i = omega arith in rw (drop-of-length-le ts past, e) (simp append-nil)
 
 -- A table: its first row that passes the test stands here, or further on, or nowhere
 

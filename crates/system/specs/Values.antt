@@ -1,7 +1,7 @@
 -- The one place where a definition makes a `System` or a `TaskType`: a later field is added here.
-use Prim.Native.Nat.{ℕ, suc}
-use mathlib.Core.List.{List, map}
-use lib.ListN.{replicate, set}
+use Prim.Native.Nat.{ℕ, suc, _-_}
+use mathlib.Core.List.{List, _++_, map}
+use lib.ListN.{replicate, set, take}
 use Rattle.system.specs.declared.TaskType.{TaskType}
 use Rattle.system.specs.declared.System.{System}
 use Rattle.system.specs.Numbers.{typeLimit}
@@ -22,6 +22,21 @@ withPlatform m rule u s y = record { engines = m; rule = rule; timecap = u; memo
 abbrev pub withType : TaskType → System → System
 withType t y =
     record { engines = y .engines; rule = y .rule; timecap = y .timecap; memorycap = y .memorycap; typecount = suc (y .typecount); types = set (y .types) (y .typecount) t }
+
+-- the system with 0 past k, whatever stood there: what its file reads as
+abbrev pub clearedTypes : ℕ → List TaskType → List TaskType
+clearedTypes k ts = take k ts ++ replicate (typeLimit - k) noTask
+
+abbrev pub cleared : System → System
+cleared y =
+    record {
+      engines = y .engines;
+      rule = y .rule;
+      timecap = y .timecap;
+      memorycap = y .memorycap;
+      typecount = y .typecount;
+      types = clearedTypes (y .typecount) (y .types);
+    }
 
 -- n(1), n(2), .., 0 past k
 abbrev pub ceilingsOf : System → List ℕ

@@ -12,14 +12,24 @@ pub use limits::NO_COLUMN;
 pub use limits::SIZE_LIMIT;
 pub use limits::TABLE_LIMIT;
 pub use limits::TYPE_LIMIT;
+pub use limits::columns_fault;
 pub use limits::columns_within;
 pub use limits::keeps_limits;
+pub use limits::platform_fault;
+pub use limits::type_fault;
 pub use reader::Cursor;
 pub use reader::Field;
+pub use reader::HEAD_SIZE;
 pub use reader::body_part;
 pub use reader::field_at;
 pub use reader::read_system;
+pub use rules::FieldRule;
+pub use rules::PLATFORM;
+pub use rules::RuleFound;
+pub use rules::TYPE;
+pub use rules::rule_of;
 pub use values::blank_system;
+pub use values::cleared;
 pub use values::no_task;
 
 // A type of packet function: document 01's u, s and n.

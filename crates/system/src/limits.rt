@@ -40,7 +40,7 @@ fn size_fault(time: u32, memory: u32) -> u8
 }
 
 // A platform's m, rule, U and S: 5, 6, 8.
-pub(crate) fn platform_fault(m: usize, rule: u8, time: u32, memory: u32) -> u8
+pub fn platform_fault(m: usize, rule: u8, time: u32, memory: u32) -> u8
     ensures { λ r. ⌜ r ≡ platformFault m rule time memory ⌝ }
 {
     if !((1 <= m) & (m <= ENGINE_LIMIT)) {
@@ -53,7 +53,7 @@ pub(crate) fn platform_fault(m: usize, rule: u8, time: u32, memory: u32) -> u8
 }
 
 // A type's u and s: 8.
-pub(crate) fn type_fault(t: TaskType) -> u8
+pub fn type_fault(t: TaskType) -> u8
     ensures { λ r. ⌜ r ≡ typeFault t ⌝ }
 {
     size_fault(t.time, t.memory)
@@ -75,7 +75,7 @@ pub fn columns_within(types: [TaskType; TYPE_LIMIT]) -> usize
 }
 
 // The columns: 10.
-pub(crate) fn columns_fault(types: [TaskType; TYPE_LIMIT]) -> u8
+pub fn columns_fault(types: [TaskType; TYPE_LIMIT]) -> u8
     ensures { λ r. ⌜ r ≡ columnsFault types ⌝ }
 {
     if !(columns_within(types) <= COLUMN_LIMIT) {

@@ -41,7 +41,7 @@ pub enum Head {
 }
 
 // The bytes before a field's body: its tag and its length.
-const HEAD_SIZE: usize = 3;
+pub const HEAD_SIZE: usize = 3;
 
 // The byte at i, 0 past the end.
 fn byte_at(s: &[u8], i: usize) -> u8

@@ -23,9 +23,9 @@ pub struct Follow {
 }
 
 // The tags.
-const PLATFORM: u8 = 1;
+pub const PLATFORM: u8 = 1;
 
-pub(crate) const TYPE: u8 = 2;
+pub const TYPE: u8 = 2;
 
 // The table of fields: refusals 2, 4 and 7 are decided from it.
 const RULES: [FieldRule; 2] = [
@@ -58,7 +58,7 @@ const FOLLOWS: [Follow; 3] = [
 ];
 
 // The table's rule for a tag.
-pub(crate) fn rule_of(tag: u8) -> RuleFound
+pub fn rule_of(tag: u8) -> RuleFound
     ensures { λ r. ⌜ r ≡ ruleOf fieldRules tag ⌝ }
 {
     let rules = RULES;

@@ -2,7 +2,7 @@
 ghost use mathlib.Core.Path.{_≡_};
 ghost use Prim.Native.Nat.{_<_};
 ghost use Rattle.system.specs.Limits.{typeLimit};
-ghost use Rattle.system.specs.Values.{noTask, blank, withPlatform, withType};
+ghost use Rattle.system.specs.Values.{noTask, blank, withPlatform, withType, clearedTypes, cleared};
 use crate::System;
 use crate::TYPE_LIMIT;
 use crate::TaskType;
@@ -53,5 +53,27 @@ pub(crate) fn with_type(t: TaskType, y: System) -> System
     let k = y.typecount;
     z.types[k] = t;
     z.typecount = k + 1;
+    z
+}
+
+// Six entries with 0 from k on, whatever stood there.
+fn cleared_types(k: usize, types: [TaskType; TYPE_LIMIT]) -> [TaskType; TYPE_LIMIT]
+    ensures { λ r. ⌜ r ≡ clearedTypes k types ⌝ }
+{
+    let mut left = types;
+    for i in k..TYPE_LIMIT {
+        left[i] = no_task();
+    }
+    left
+}
+
+// The system with 0 past k, whatever stood there.
+pub fn cleared(y: System) -> System
+    ensures { λ r. ⌜ r ≡ cleared y ⌝ }
+{
+    let mut z = y;
+    let types = y.types;
+    let left = cleared_types(y.typecount, types);
+    z.types = left;
     z
 }

@@ -1,0 +1,46 @@
+-- The loop's invariant: `i` is at most 128.
+use Prim.Native.Nat.{_-_, _≤_}
+use borrow.Author.Needs.{needs}
+use Rattle.trial_writer.proofs.lent.same_front.Statement.{statement}
+use Rattle.trial_writer.proofs.lent.same_front.Tie as tie
+
+abbrev Inv-loop : tie.InvT-loop
+Inv-loop end a b same₀ i₀ same i = i ≤ 128
+
+abbrev μ-loop : tie.MeasureT-loop
+μ-loop end a b same₀ i₀ same i = 128 - i
+
+loop-holds : tie.Need-loop-holds Inv-loop μ-loop
+loop-holds c = search needs
+
+array-read-same : tie.Need-array-read-same Inv-loop μ-loop
+array-read-same c = search needs
+
+array-read-same-2 : tie.Need-array-read-same-2 Inv-loop μ-loop
+array-read-same-2 c = search needs
+
+add-i : tie.Need-add-i Inv-loop μ-loop
+add-i c = search needs
+
+loop-less : tie.Need-loop-less Inv-loop μ-loop
+loop-less c = search needs
+
+loop-again : tie.Need-loop-again Inv-loop μ-loop
+loop-again c = search needs
+
+returns : tie.Need-returns Inv-loop μ-loop
+returns c = search needs
+
+pub same-front-spec : {M : Type 1} → statement M
+same-front-spec =
+    tie.close
+    (tie.spec
+    Inv-loop
+    μ-loop
+    loop-holds
+    array-read-same
+    array-read-same-2
+    add-i
+    loop-less
+    loop-again
+    returns)

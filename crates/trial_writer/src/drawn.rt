@@ -1,0 +1,95 @@
+// Systems drawn from the numbers at both ends of every limit, in every field, those past the last type too; and for each a buffer that is a byte too
+// short, just long enough, a byte longer, or much longer.
+use crate::made;
+use brute::spread::draw;
+use system::System;
+use system::blank_system;
+
+// What each number is drawn from: up to its limit, and past it.
+const COUNTS: [usize; 8] = [1, 1, 2, 3, 4, 5, 6, 6];
+
+const NO_COUNTS: [usize; 4] = [0, 7, 257, 18446744073709551615];
+
+const ENGINES: [usize; 8] = [1, 1, 2, 3, 8, 15, 16, 16];
+
+const NO_ENGINES: [usize; 4] = [0, 17, 257, 18446744073709551615];
+
+const RULES: [usize; 8] = [0, 1, 0, 1, 0, 1, 0, 1];
+
+const NO_RULES: [usize; 4] = [2, 3, 128, 255];
+
+const SIZES: [usize; 8] = [0, 1, 256, 65535, 65536, 658188, 999999, 1000000];
+
+const NO_SIZES: [usize; 4] = [1000001, 1000256, 16777216, 4294967295];
+
+const CEILINGS: [usize; 8] = [0, 0, 0, 1, 1, 3, 31, 1023];
+
+const NO_CEILINGS: [usize; 4] = [1024, 1279, 65534, 65535];
+
+// A system and the length of its buffer, and the seed after them.
+pub struct Drawn {
+    pub seed: u64,
+    pub system: System,
+    pub room: usize,
+}
+
+// The system with one number drawn, one in 16 past its limit.
+fn with_drawn(d: Drawn, what: u8, t: usize, within: [usize; 8], past: [usize; 4]) -> Drawn {
+    let side = draw(d.seed, 16);
+    let drawn = draw(side.seed, 8);
+    let mut n = within[drawn.value % 8];
+    if side.value == 0 {
+        n = past[drawn.value % 4];
+    }
+    let y = d.system;
+    Drawn {
+        seed: drawn.seed,
+        system: made::with_number(y, what, t, n),
+        room: d.room,
+    }
+}
+
+// The type at index t.
+fn with_drawn_type(d: Drawn, t: usize) -> Drawn {
+    let timed = with_drawn(d, b'u', t, SIZES, NO_SIZES);
+    let stored = with_drawn(timed, b's', t, SIZES, NO_SIZES);
+    with_drawn(stored, b'n', t, CEILINGS, NO_CEILINGS)
+}
+
+fn drawn_platform(seed: u64) -> Drawn {
+    let none = Drawn {
+        seed,
+        system: blank_system(),
+        room: 128,
+    };
+    let counted = with_drawn(none, b'k', 0, COUNTS, NO_COUNTS);
+    let powered = with_drawn(counted, b'm', 0, ENGINES, NO_ENGINES);
+    let ruled = with_drawn(powered, b'r', 0, RULES, NO_RULES);
+    let timed = with_drawn(ruled, b'U', 0, SIZES, NO_SIZES);
+    with_drawn(timed, b'S', 0, SIZES, NO_SIZES)
+}
+
+// The length of the buffer: the file's less one, the file's, one more, or 128.
+fn with_drawn_room(d: Drawn) -> Drawn {
+    let drawn = draw(d.seed, 4);
+    let y = d.system;
+    let mut room = 128;
+    if drawn.value < 3 {
+        room = 12 + 13 * (y.typecount % 8) + drawn.value;
+    }
+    Drawn {
+        seed: drawn.seed,
+        system: y,
+        room,
+    }
+}
+
+pub fn drawn_edges(seed: u64) -> Drawn {
+    let none = drawn_platform(seed);
+    let one = with_drawn_type(none, 0);
+    let two = with_drawn_type(one, 1);
+    let three = with_drawn_type(two, 2);
+    let four = with_drawn_type(three, 3);
+    let five = with_drawn_type(four, 4);
+    with_drawn_room(with_drawn_type(five, 5))
+}

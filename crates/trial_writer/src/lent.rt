@@ -1,0 +1,84 @@
+// Buffers of 128 bytes, of which a first part is lent: what stands in them before a call of the writer, and whether the call left what it
+// must there.
+use crate::judge;
+use brute::files;
+use brute::say;
+use std::num::wrapping_add_usize;
+use system::Answer;
+use system::System;
+use writer::write_system;
+
+// What a call answered, and the whole buffer after it.
+pub struct Call {
+    pub answer: Answer,
+    pub bytes: [u8; 128],
+}
+
+// What stands at a place before a call: never 0, and another byte for each `fill` below 127.
+fn old_byte(fill: usize, i: usize) -> u8 {
+    (((i % 128) * 7 + fill % 127) % 127 + 129) as u8
+}
+
+fn old_bytes(fill: usize) -> [u8; 128] {
+    let mut bytes: [u8; 128] = [0; 128];
+    for i in 0..128 {
+        bytes[i] = old_byte(fill, i);
+    }
+    bytes
+}
+
+// Writes a system into the first `room` bytes of a buffer, all of them where it has fewer.
+pub fn called(y: System, room: usize, fill: usize) -> Call {
+    let mut bytes = old_bytes(fill);
+    if room < 128 {
+        let answer = write_system(y, &mut bytes[0..room]);
+        return Call { answer, bytes };
+    }
+    let answer = write_system(y, &mut bytes);
+    Call { answer, bytes }
+}
+
+// The bytes from `start` on are as they were before the call.
+fn kept_from(bytes: [u8; 128], fill: usize, start: usize) -> bool {
+    let mut kept = true;
+    for i in 0..128 {
+        if start <= i {
+            kept = kept & (bytes[i] == old_byte(fill, i));
+        }
+    }
+    kept
+}
+
+// The first bytes of two buffers are the same.
+pub fn same_front(a: [u8; 128], b: [u8; 128], end: usize) -> bool {
+    let mut same = true;
+    for i in 0..128 {
+        if i < end {
+            same = same & (a[i] == b[i]);
+        }
+    }
+    same
+}
+
+// The call was refused from the input with this number.
+fn refused_with(answer: Answer, number: usize) -> bool {
+    say::code_of(answer) == wrapping_add_usize(100, number)
+}
+
+// The call wrote this many bytes.
+pub fn wrote(answer: Answer, size: usize) -> bool {
+    say::code_of(answer) == wrapping_add_usize(1000, size)
+}
+
+// The answer is the one wanted, and so is every byte: those of the file, then those before the call; all of those where it was refused.
+pub fn right_call(c: Call, y: System, room: usize, fill: usize) -> bool {
+    let answer = c.answer;
+    let bytes = c.bytes;
+    let number = judge::refusal_of(y, room);
+    if number != 0 {
+        return refused_with(answer, number) & kept_from(bytes, fill, 0);
+    }
+    let f = files::file_of(y);
+    let wanted = f.bytes;
+    wrote(answer, f.size) & same_front(bytes, wanted, f.size) & kept_from(bytes, fill, f.size)
+}

@@ -1,0 +1,65 @@
+// Round trips: a system that is written, read and written again, and a file that is read and written.
+use crate::judge;
+use crate::lent;
+use brute::files;
+use brute::say;
+use brute::systems;
+use system::System;
+use system::read_system;
+
+// The system with the type at index t of another one, where that has it.
+fn with_known(z: System, y: System, t: usize) -> System {
+    if 6 <= t {
+        return z;
+    }
+    if y.typecount <= t {
+        return z;
+    }
+    let task = y.types[t];
+    systems::with_type(z, task.time, task.memory, task.ceiling)
+}
+
+// The platform and the first k types alone, made anew: 0 past them.
+fn known_part(y: System) -> System {
+    let none = systems::platform_of(y.engines, y.rule, y.timecap, y.memorycap);
+    let one = with_known(none, y, 0);
+    let two = with_known(one, y, 1);
+    let three = with_known(two, y, 2);
+    let four = with_known(three, y, 3);
+    let five = with_known(four, y, 4);
+    with_known(five, y, 5)
+}
+
+// The first n bytes are read as y with 0 past k, and what was read is written as the same bytes, into a buffer that has just enough.
+fn comes_back(y: System, bytes: [u8; 128], n: usize) -> bool {
+    let o = read_system(files::first_of(&bytes, n));
+    let read = o.answer;
+    let z = o.system;
+    let again = lent::called(z, n, 90);
+    let answer = again.answer;
+    let written = again.bytes;
+    (say::code_of(read) == 0)
+        & systems::same_system(z, known_part(y))
+        & lent::wrote(answer, n)
+        & lent::same_front(written, bytes, n)
+}
+
+// Both ways round, of a system that is written: from the bytes that the writer left, and from the file made apart from it.
+fn both_ways(y: System, bytes: [u8; 128]) -> bool {
+    let f = files::file_of(y);
+    let file = f.bytes;
+    comes_back(y, bytes, f.size) & comes_back(y, file, f.size)
+}
+
+// One call: its answer, its buffer, and the round trips where it is written.
+pub fn right(y: System, room: usize) -> bool {
+    let c = lent::called(y, room, 5);
+    if !lent::right_call(c, y, room, 5) {
+        return false;
+    }
+    if judge::refusal_of(y, room) != 0 {
+        return true;
+    }
+    let bytes = c.bytes;
+    both_ways(y, bytes)
+}

@@ -1,0 +1,185 @@
+// Many calls, each judged, and counted by what it answered.
+use crate::drawn::drawn_edges;
+use crate::lent;
+use crate::made;
+use crate::rounds;
+use brute::say;
+use brute::spread;
+use std::num::wrapping_add_usize;
+use system::Answer;
+use system::System;
+
+// How many calls wrote the system, at 0, and how many were refused with each number, in the order in which they are asked; and how many were wrong.
+struct Tally {
+    answers: [usize; 12],
+    wrong: usize,
+}
+
+fn no_tally() -> Tally {
+    Tally {
+        answers: [0; 12],
+        wrong: 0,
+    }
+}
+
+// Where an answer is counted; 8 for one that the writer never gives.
+fn place_of(a: Answer) -> usize {
+    let code = say::code_of(a);
+    if 1000 < code {
+        return 0;
+    }
+    match code {
+        107 => 1,
+        109 => 2,
+        105 => 3,
+        106 => 4,
+        108 => 5,
+        110 => 6,
+        130 => 7,
+        _ => 8,
+    }
+}
+
+fn counted(t: Tally, place: usize) -> Tally {
+    let mut next = t;
+    if place < 12 {
+        next.answers[place] = wrapping_add_usize(t.answers[place], 1);
+    }
+    next
+}
+
+fn mismatch(t: Tally, y: System, room: usize) -> Tally {
+    say::say_count(b"mismatch: buffer", room);
+    say::say_count(b"types", y.typecount);
+    say::say_system(b"system", y);
+    let mut next = t;
+    next.wrong = wrapping_add_usize(t.wrong, 1);
+    next
+}
+
+// One call, with its round trips.
+fn judged(t: Tally, y: System, room: usize) -> Tally {
+    let c = lent::called(y, room, 61);
+    let answer = c.answer;
+    let next = counted(t, place_of(answer));
+    if rounds::right(y, room) {
+        return next;
+    }
+    mismatch(next, y, room)
+}
+
+// Buffers of every length from 0 to one more than the longest file.
+fn lengths(y: System) -> Tally {
+    let mut all = no_tally();
+    for room in 0..93usize {
+        let next = judged(all, y, room);
+        all = next;
+    }
+    all
+}
+
+// The calls so far, and the seed of the next one.
+struct Run {
+    seed: u64,
+    tally: Tally,
+}
+
+fn first_run(seed: u64) -> Run {
+    Run {
+        seed,
+        tally: no_tally(),
+    }
+}
+
+fn next_edges(r: Run) -> Run {
+    let d = drawn_edges(r.seed);
+    let y = d.system;
+    let tally = r.tally;
+    Run {
+        seed: d.seed,
+        tally: judged(tally, y, d.room),
+    }
+}
+
+// Systems drawn at the ends of the limits.
+fn edges() -> Tally {
+    let mut r = first_run(1);
+    for i in 0..20000usize {
+        let next = next_edges(r);
+        r = next;
+    }
+    r.tally
+}
+
+// The largest n of k types, so that the columns of most systems are within their limit.
+fn most_of(k: usize) -> usize {
+    match k {
+        1 => 1030,
+        2 => 33,
+        3 => 11,
+        4 => 6,
+        5 => 4,
+        _ => 3,
+    }
+}
+
+fn next_drawn(r: Run, k: usize) -> Run {
+    let d = spread::drawn_system(r.seed, 16, k, most_of(k));
+    let y = d.system;
+    let tally = r.tally;
+    Run {
+        seed: d.seed,
+        tally: judged(tally, y, 128),
+    }
+}
+
+// Systems of 1 to 6 types in turn, drawn by crate `brute`.
+fn drawn() -> Tally {
+    let mut r = first_run(2);
+    for i in 0..6000usize {
+        let next = next_drawn(r, i % 6 + 1);
+        r = next;
+    }
+    r.tally
+}
+
+// A line for some calls; answers how many were wrong, among them and before them.
+fn say_tally(wrong: usize, name: &[u8], t: Tally) -> usize {
+    let row = t.answers;
+    say::say_row(name, row, 9);
+    wrapping_add_usize(wrong, t.wrong)
+}
+
+fn say_lengths(wrong: usize, name: &[u8], y: System) -> usize {
+    say_tally(wrong, name, lengths(y))
+}
+
+// Systems that are written where the buffer is long enough, with junk past the last type.
+fn say_written_lengths(wrong: usize) -> usize {
+    let one = say_lengths(wrong, b"k 1:", made::junk_past(1));
+    let two = say_lengths(one, b"k 2:", made::junk_past(2));
+    let three = say_lengths(two, b"k 3:", made::junk_past(3));
+    let four = say_lengths(three, b"k 4:", made::junk_past(4));
+    let five = say_lengths(four, b"k 5:", made::junk_past(5));
+    say_lengths(five, b"k 6:", made::junk_past(6))
+}
+
+// Systems that are refused, whatever the buffer is.
+fn say_refused_lengths(wrong: usize) -> usize {
+    let y = made::sound(2);
+    let seven = say_lengths(wrong, b"refused 7:", made::with_fault(y, 7));
+    let nine = say_lengths(seven, b"refused 9:", made::with_fault(y, 9));
+    let five = say_lengths(nine, b"refused 5:", made::with_fault(y, 5));
+    let six = say_lengths(five, b"refused 6:", made::with_fault(y, 6));
+    let eight = say_lengths(six, b"refused 8:", made::with_fault(y, 8));
+    say_lengths(eight, b"refused 10:", made::with_fault(y, 10))
+}
+
+pub fn say_sweeps() {
+    say::say(b"calls: written, refused 7, 9, 5, 6, 8, 10, 30, anything else\n");
+    let written = say_written_lengths(0);
+    let refused = say_refused_lengths(written);
+    let ends = say_tally(refused, b"ends of the limits:", edges());
+    let all = say_tally(ends, b"drawn:", drawn());
+    say::say_count(b"mismatches", all);
+}

@@ -1,0 +1,11 @@
+-- The laws of crate `writer`, in the order of their proofs: the bytes of a file; what is written reads back and what was read comes back; the order of the refusals; what the call promises.
+pub mod Bytes
+pub mod Cleared
+pub mod Writable
+pub mod Written
+pub mod Read
+pub mod Exactly
+pub mod Tests
+pub mod Order
+pub mod Promises
+pub mod Steps

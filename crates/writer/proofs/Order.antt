@@ -1,0 +1,200 @@
+-- The order of the writer's refusals in plain words: the first test that says a number decides, and no two tests say the same number, so that a number tells its test.
+use Prim.Native.Nat.{ℕ, _+_, _*_, _≤_, _<_}
+use mathlib.Core.Path.{_≡_, refl, sym, ap, subst, _∙_}
+use mathlib.Core.List.{List, [], _∷_}
+use mathlib.Core.Bool.{Bool, true, false, not, cond, _&&_}
+use mathlib.Core.Logic.{_↔_, Iff·rfl, Iff·trans}
+use native.Mathlib.Omega.{arith}
+use borrow.Author.Tests.{ltb-true, ltb-false, ne-eqb}
+use lib.ListN.{length}
+use lib.Dec.{leb, ltb, eqb}
+use Rattle.system.specs.declared.System.{System}
+use Rattle.system.specs.Values.{cleared}
+use Rattle.system.specs.Limits.{engineLimit, typeLimit, sizeFault}
+use Rattle.system.specs.Outcome.{accepted, refused, fromInput}
+use Rattle.partition.specs.Assignment.{among}
+use Rattle.writer.specs.File.{fileOf}
+use Rattle.writer.specs.Writing.{orElse, typesFault, systemFault, writeFault, writeOutcome}
+use Rattle.writer.specs.Meaning.{CountWithin, EnginesWithin, SizesWithin, columnsTo, MayBeWritten, WritesInOrder}
+use Rattle.writer.proofs.Bytes.{file-size}
+use Rattle.writer.proofs.Writable.{or-none}
+use Rattle.writer.proofs.Tests.{Test, finds-nothing, holds, fails, says, says-alone, row, skips}
+use Rattle.writer.proofs.Tests.{manyFault, noneFault, enginesFault, ruleFault, sizesFault, productFault, shortFault}
+use Rattle.writer.proofs.Tests.{many-test, none-test, engines-test, rule-test, sizes-test, columns-test, room-test}
+
+-- intermediate: no fault, so none in the system, and the file fits
+
+pub fault-none : (y : System) (room : ℕ) → writeFault y room ≡ 0 → (systemFault y ≡ 0) × (length (fileOf y) ≤ room)
+unfolding writeFault
+fault-none y room e = let p = or-none (systemFault y) (shortFault y room) e in (p .0, holds (omega arith) (room-test y room) (p .1))
+
+-- intermediate: the tests in their order
+
+or-assoc : (a b c : ℕ) → orElse (orElse a b) c ≡ orElse a (orElse b c)
+or-assoc a b c = at (eqb a 0) refl
+  where
+    at : (z : Bool) → eqb a 0 ≡ z → orElse (cond z b a) c ≡ cond z (orElse b c) a
+    at true q = refl
+    at false q = rw q
+
+abbrev fromTen : System → ℕ → ℕ
+fromTen y room = orElse (productFault y) (shortFault y room)
+
+abbrev fromEight : System → ℕ → ℕ
+fromEight y room = orElse (sizesFault y) (fromTen y room)
+
+abbrev fromSix : System → ℕ → ℕ
+fromSix y room = orElse (ruleFault y) (fromEight y room)
+
+abbrev fromFive : System → ℕ → ℕ
+fromFive y room = orElse (enginesFault y) (fromSix y room)
+
+abbrev fromNine : System → ℕ → ℕ
+fromNine y room = orElse (noneFault y) (fromFive y room)
+
+regroup : (a b c d : Bool) (s t q r : ℕ)
+    → orElse (orElse (cond a 7 (cond b 9 0)) (orElse (cond c 5 (cond d 6 s)) (orElse t q))) r
+    ≡ orElse (cond a 7 0) (orElse (cond b 9 0) (orElse (cond c 5 0) (orElse (cond d 6 0) (orElse (orElse s t) (orElse q r)))))
+regroup true b c d s t q r = refl
+regroup false true c d s t q r = refl
+regroup false false true d s t q r = refl
+regroup false false false true s t q r = refl
+regroup false false false false s t q r =
+    or-assoc s (orElse t q) r ∙ ap (orElse s) (or-assoc t q r) ∙ sym (or-assoc s t (orElse q r))
+
+from-seven : (y : System) (room : ℕ) → writeFault y room ≡ orElse (manyFault y) (fromNine y room)
+unfolding writeFault systemFault
+from-seven y room =
+    regroup (ltb typeLimit (y .typecount)) (eqb (y .typecount) 0) (not (leb 1 (y .engines) && leb (y .engines) engineLimit)) (not (leb (y .rule) 1))
+    (sizeFault (y .timecap) (y .memorycap)) (typesFault (cleared y .types)) (productFault y) (shortFault y room)
+
+module _ (y : System) (room : ℕ) (six : length (y .types) ≡ 6) where
+  -- what is left after the tests that pass
+  left-nine : y .typecount ≤ 6 → writeFault y room ≡ fromNine y room
+  left-nine few = from-seven y room ∙ skips (fromNine y room) (many-test y) few
+
+  left-five : CountWithin y → writeFault y room ≡ fromFive y room
+  left-five k = left-nine (k .1) ∙ skips (fromFive y room) (none-test y) (k .0)
+
+  left-six : CountWithin y → EnginesWithin y → writeFault y room ≡ fromSix y room
+  left-six k m = left-five k ∙ skips (fromSix y room) (engines-test y) m
+
+  left-eight : CountWithin y → EnginesWithin y → y .rule ≤ 1 → writeFault y room ≡ fromEight y room
+  left-eight k m r = left-six k m ∙ skips (fromEight y room) (rule-test y) r
+
+  left-ten : CountWithin y → EnginesWithin y → y .rule ≤ 1 → SizesWithin y → writeFault y room ≡ fromTen y room
+  left-ten k m r s = left-eight k m r ∙ skips (fromTen y room) (sizes-test y) s
+
+  left-thirty : MayBeWritten y → writeFault y room ≡ shortFault y room
+  left-thirty w =
+      left-ten (w .count) (w .engines) (w .rule) (w .sizes)
+      ∙ skips (shortFault y room) (columns-test y (omega (arith, w .count .1))) (w .columns)
+
+  -- what the tests from each number on say
+  module _ (few : y .typecount ≤ 6) where
+    columns-asked : Test (columnsTo y (y .typecount) ≤ 1024) 10 (productFault y)
+    columns-asked = columns-test y (omega arith)
+
+    room-asked : Test (13 * (y .typecount + 1) ≤ room) 30 (shortFault y room)
+    room-asked = subst (λ (size : ℕ). Test (size ≤ room) 30 (shortFault y room)) (file-size y (omega arith)) (room-test y room)
+
+    says-ten : among (10 ∷ 30 ∷ 0 ∷ []) (fromTen y room) ≡ true
+    says-ten = says (30 ∷ 0 ∷ []) (shortFault y room) (omega arith) columns-asked (says-alone room-asked)
+
+    says-eight : among (8 ∷ 10 ∷ 30 ∷ 0 ∷ []) (fromEight y room) ≡ true
+    says-eight = says (10 ∷ 30 ∷ 0 ∷ []) (fromTen y room) (omega arith) (sizes-test y) says-ten
+
+    says-six : among (6 ∷ 8 ∷ 10 ∷ 30 ∷ 0 ∷ []) (fromSix y room) ≡ true
+    says-six = says (8 ∷ 10 ∷ 30 ∷ 0 ∷ []) (fromEight y room) (omega arith) (rule-test y) says-eight
+
+    says-five : among (5 ∷ 6 ∷ 8 ∷ 10 ∷ 30 ∷ 0 ∷ []) (fromFive y room) ≡ true
+    says-five = says (6 ∷ 8 ∷ 10 ∷ 30 ∷ 0 ∷ []) (fromSix y room) (omega arith) (engines-test y) says-six
+
+    says-nine : among (9 ∷ 5 ∷ 6 ∷ 8 ∷ 10 ∷ 30 ∷ 0 ∷ []) (fromNine y room) ≡ true
+    says-nine = says (5 ∷ 6 ∷ 8 ∷ 10 ∷ 30 ∷ 0 ∷ []) (fromFive y room) (omega arith) (none-test y) says-five
+
+-- main
+
+over : (n m : ℕ) → ((n ≤ m) → ⊥) ↔ (m < n)
+over n m = ((λ none. omega arith), (λ more less. omega arith))
+
+-- a refusal's number is that of the fault
+refuses : (y : System) (room n : ℕ) → 0 < n → (writeOutcome y room ≡ refused fromInput n) ↔ (writeFault y room ≡ n)
+unfolding writeOutcome
+refuses y room n some = ((λ o. at (eqb (writeFault y room) 0) o), (λ e. rw (e, ne-eqb n 0 (λ z. omega arith))))
+  where
+    at : (b : Bool) → cond b (accepted (length (fileOf y) ∷ [])) (refused fromInput (writeFault y room)) ≡ refused fromInput n → writeFault y room ≡ n
+    at true o = let z : _≡_ {A = ℕ} 0 1 = cc in absurd (omega arith)
+    at false o = cc
+
+-- the row of a number: the tests before it pass, `says` tells that no later one says it, and it is said where what it asks does not hold
+module _ (y : System) (room : ℕ) {P Q : Type 0} {n f : ℕ} (later : ℕ) (ns : List ℕ) where
+  in-row : 0 < n → Test P n f → writeFault y room ≡ orElse f later → among ns later ≡ true → among ns n ≡ false → (P → ⊥) ↔ Q → (writeOutcome y room ≡ refused fromInput n) ↔ Q
+  in-row some test left said other means =
+      let at : (orElse f later ≡ n) ↔ (P → ⊥) = row ns later some test said other in
+      Iff·trans (refuses y room n some) (Iff·trans ((λ e. sym left ∙ e), (λ e. left ∙ e)) (Iff·trans at means))
+
+module _ (y : System) (room : ℕ) (six : length (y .types) ≡ 6) where
+  seven-first : (writeOutcome y room ≡ refused fromInput 7) ↔ (6 < y .typecount)
+  unfolding among
+  seven-first = at (ltb typeLimit (y .typecount)) refl
+    where
+      at : (b : Bool) → ltb typeLimit (y .typecount) ≡ b → (writeOutcome y room ≡ refused fromInput 7) ↔ (6 < y .typecount)
+      at true q = ((λ o. ltb-true typeLimit (y .typecount) q), (λ h. refuses y room 7 (omega arith) .1 (from-seven y room ∙ rw q)))
+      at false q =
+          in-row y room (fromNine y room) (9 ∷ 5 ∷ 6 ∷ 8 ∷ 10 ∷ 30 ∷ 0 ∷ []) (omega arith) (many-test y) (from-seven y room)
+          (says-nine y room six (ltb-false typeLimit (y .typecount) q)) refl (over (y .typecount) 6)
+
+  then-thirty : MayBeWritten y → (writeOutcome y room ≡ refused fromInput 30) ↔ (room < 13 * (y .typecount + 1))
+  then-thirty w =
+      let left = left-thirty y room six w in
+      let at = fails (omega arith) (room-asked y room six (w .count .1)) in
+      Iff·trans (refuses y room 30 (omega arith)) (Iff·trans ((λ e. sym left ∙ e), (λ e. left ∙ e)) (Iff·trans at (over (13 * (y .typecount + 1)) room)))
+
+  pub written-where : MayBeWritten y → 13 * (y .typecount + 1) ≤ room → writeFault y room ≡ 0
+  written-where w enough = left-thirty y room six w ∙ finds-nothing (room-asked y room six (w .count .1)) enough
+
+  -- and what is written may be
+  pub may-be-written : writeFault y room ≡ 0 → MayBeWritten y
+  may-be-written e =
+      let a = or-none (manyFault y) (fromNine y room) (sym (from-seven y room) ∙ e) in
+      let b = or-none (noneFault y) (fromFive y room) (a .1) in
+      let c = or-none (enginesFault y) (fromSix y room) (b .1) in
+      let d = or-none (ruleFault y) (fromEight y room) (c .1) in
+      let s = or-none (sizesFault y) (fromTen y room) (d .1) in
+      let q = or-none (productFault y) (shortFault y room) (s .1) in
+      let few = holds (omega arith) (many-test y) (a .0) in
+      record {
+        count = (holds (omega arith) (none-test y) (b .0), few);
+        engines = holds (omega arith) (engines-test y) (c .0);
+        rule = holds (omega arith) (rule-test y) (d .0);
+        sizes = holds (omega arith) (sizes-test y) (s .0);
+        columns = holds (omega arith) (columns-asked y room six few) (q .0);
+      }
+
+  or-written : MayBeWritten y → 13 * (y .typecount + 1) ≤ room → writeOutcome y room ≡ accepted (13 * (y .typecount + 1) ∷ [])
+  unfolding writeOutcome
+  or-written w enough = rw (written-where w enough, file-size y (omega (arith, w .count .1)))
+
+  pub writes-in-order : WritesInOrder y room (writeOutcome y room)
+  unfolding among
+  writes-in-order = record {
+    sevenFirst = seven-first;
+    thenNine = λ few.
+        in-row y room (fromFive y room) (5 ∷ 6 ∷ 8 ∷ 10 ∷ 30 ∷ 0 ∷ []) (omega arith) (none-test y) (left-nine y room six few)
+        (says-five y room six few) refl ((λ none. omega arith), (λ e some. omega arith));
+    thenFive = λ k.
+        in-row y room (fromSix y room) (6 ∷ 8 ∷ 10 ∷ 30 ∷ 0 ∷ []) (omega arith) (engines-test y) (left-five y room six k)
+        (says-six y room six (k .1)) refl Iff·rfl;
+    thenSix = λ k m.
+        in-row y room (fromEight y room) (8 ∷ 10 ∷ 30 ∷ 0 ∷ []) (omega arith) (rule-test y) (left-six y room six k m)
+        (says-eight y room six (k .1)) refl (over (y .rule) 1);
+    thenEight = λ k m r.
+        in-row y room (fromTen y room) (10 ∷ 30 ∷ 0 ∷ []) (omega arith) (sizes-test y) (left-eight y room six k m r)
+        (says-ten y room six (k .1)) refl Iff·rfl;
+    thenTen = λ k m r s.
+        in-row y room (shortFault y room) (30 ∷ 0 ∷ []) (omega arith) (columns-asked y room six (k .1)) (left-ten y room six k m r s)
+        (says-alone (room-asked y room six (k .1))) refl (over (columnsTo y (y .typecount)) 1024);
+    thenThirty = then-thirty;
+    orWritten = or-written;
+  }

@@ -1,0 +1,87 @@
+-- The steps of the writer's loops over a system's types, which the functions' proofs cite.
+use Prim.Native.Nat.{ℕ, _+_, _*_, _≤_, _<_}
+use mathlib.Core.Path.{_≡_, refl, sym, ap, _∙_}
+use mathlib.Core.List.{List, _++_}
+use mathlib.Core.Logic.{_⊎_, inl, inr}
+use native.Mathlib.Numerals.{add-one}
+use borrow.Author.Tests.{ne-eqb}
+use lib.ListN.{length, getD, take, drop, drop-of-length-le}
+use lib.Seq.{take-suc, drop-cons, length-take-le}
+use lib.Dec.{lit<}
+use Rattle.system.specs.declared.TaskType.{TaskType}
+use Rattle.system.specs.declared.System.{System}
+use Rattle.system.specs.declared.rules.FieldRule.{FieldRule}
+use Rattle.system.specs.declared.rules.RuleFound.{RuleFound}
+use Rattle.system.specs.declared.rules.RuleFound.the-variants.{Known}
+use Rattle.system.specs.Rules.{platformRule, typeRule, fieldRules, ruleOf}
+use Rattle.system.proofs.Laws.{ruleOf-known}
+use Rattle.system.specs.Values.{cleared}
+use Rattle.system.specs.Limits.{platformFault, typeFault, columnsFault}
+use Rattle.writer.specs.File.{typeBytes, typesBytes}
+use Rattle.writer.specs.Writing.{orElse, countFault, typesFault, systemFault}
+use Rattle.writer.proofs.Bytes.{types-more, types-size}
+
+-- A rule's body is short
+
+pub body-short : (tag : ℕ) {found : RuleFound} {r : FieldRule} → found ≡ ruleOf fieldRules tag → found ≡ Known r → r .body < 65536
+body-short tag {r = r} look known = at (ruleOf-known tag r (sym look ∙ known) .which)
+  where
+    at : (r ≡ platformRule) ⊎ (r ≡ typeRule) → r .body < 65536
+    at (inl w) = rw w (lit< tt)
+    at (inr w) = rw w (lit< tt)
+
+-- One test after another: this one finds a fault, or what comes after it decides
+
+module _ (fault test later : ℕ) (said : fault ≡ test) where
+  pub or-first : (fault ≡ 0 → ⊥) → fault ≡ orElse test later
+  or-first some = rw (← said, ne-eqb fault 0 some)
+
+  pub or-on : fault ≡ 0 → {z : ℕ} → z ≡ later → z ≡ orElse test later
+  or-on none e = e ∙ rw (← said, none)
+
+-- A system's tests, one law for each answer
+
+module _ (y : System) {counted : ℕ} (a : counted ≡ countFault (y .typecount)) where
+  pub fault-of-count : (counted ≡ 0 → ⊥) → counted ≡ systemFault y
+  unfolding systemFault
+  fault-of-count some = or-first _ _ _ a some
+
+  module _ (few : counted ≡ 0) {platform : ℕ} (b : platform ≡ platformFault (y .engines) (y .rule) (y .timecap) (y .memorycap)) where
+    pub fault-of-platform : (platform ≡ 0 → ⊥) → platform ≡ systemFault y
+    unfolding systemFault
+    fault-of-platform some = or-on _ _ _ a few (or-first _ _ _ b some)
+
+    module _ (keeps : platform ≡ 0) {sized : ℕ} (c : sized ≡ typesFault (cleared y .types)) where
+      pub fault-of-types : (sized ≡ 0 → ⊥) → sized ≡ systemFault y
+      unfolding systemFault
+      fault-of-types some = or-on _ _ _ a few (or-on _ _ _ b keeps (or-first _ _ _ c some))
+
+      pub fault-of-columns : sized ≡ 0 → {columns : ℕ} → columns ≡ columnsFault (cleared y .types) → columns ≡ systemFault y
+      unfolding systemFault
+      fault-of-columns small d = or-on _ _ _ a few (or-on _ _ _ b keeps (or-on _ _ _ c small d))
+
+-- The types that are judged: this one is at fault, or the others decide, or none is left
+
+module _ (ts : List TaskType) (i : ℕ) where
+  types-step : (d : TaskType) → i < length ts → typesFault (drop i ts) ≡ orElse (typeFault (getD ts i d)) (typesFault (drop (i + 1) ts))
+  unfolding typesFault
+  types-step d h = rw (add-one i, drop-cons ts i d h)
+
+  pub types-faulty : (d : TaskType) (fault : ℕ) → i < length ts → fault ≡ typeFault (getD ts i d) → (fault ≡ 0 → ⊥) → typesFault (drop i ts) ≡ typesFault ts → fault ≡ typesFault ts
+  types-faulty d fault h e some inv =
+      or-first fault (typeFault (getD ts i d)) (typesFault (drop (i + 1) ts)) e some ∙ sym (types-step d h) ∙ inv
+
+  pub types-on : (d : TaskType) (fault : ℕ) → i < length ts → fault ≡ typeFault (getD ts i d) → fault ≡ 0 → typesFault (drop i ts) ≡ typesFault ts → typesFault (drop (i + 1) ts) ≡ typesFault ts
+  types-on d fault h e none inv = or-on fault (typeFault (getD ts i d)) (typesFault (drop (i + 1) ts)) e none refl ∙ sym (types-step d h) ∙ inv
+
+  pub types-end : length ts ≤ i → typesFault (drop i ts) ≡ typesFault ts → 0 ≡ typesFault ts
+  unfolding typesFault
+  types-end h inv = rw (drop-of-length-le ts h) at inv
+
+-- The types that are written: 13 bytes each, and one more
+
+pub types-taken : (ts : List TaskType) (k : ℕ) → k ≤ length ts → length (typesBytes (take k ts)) ≡ 13 * k
+types-taken ts k h = types-size (take k ts) ∙ ap (λ (n : ℕ). 13 * n) (length-take-le k ts h)
+
+pub types-suc : (ts : List TaskType) (i : ℕ) (d : TaskType) → i < length ts → typesBytes (take (i + 1) ts) ≡ typesBytes (take i ts) ++ typeBytes (getD ts i d)
+types-suc ts i d h = rw (add-one i, take-suc ts i d h) (types-more (take i ts) (getD ts i d))

@@ -1,0 +1,111 @@
+-- When the writer finds no fault in a system: its tests one by one, and that a system within the limits, so every one that was read, passes them all and is its own cleared one.
+-- Tests are joined by `orElse`, which is 0 exactly where both are; with 0 past k the writer judges what `keepsLimits` judges.
+use Prim.Native.Nat.{ℕ, zero, suc, _≤_}
+use mathlib.Core.Path.{_≡_, refl, ap, _∙_}
+use mathlib.Core.List.{List, [], _∷_, _++_}
+use mathlib.Core.Bool.{Bool, true, false, cond}
+use native.Mathlib.Omega.{arith}
+use borrow.Author.Tests.{ltb-false, le-ltb, le-leb, eqb-true, eqb-false, eq-eqb, ne-eqb}
+use lib.ListN.{getD}
+use lib.Dec.{ltb, eqb}
+use Rattle.system.specs.declared.TaskType.{TaskType}
+use Rattle.system.specs.declared.System.{System}
+use Rattle.system.specs.Values.{noTask, cleared}
+use Rattle.system.specs.Limits.{engineLimit, typeLimit, columnLimit, platformFault, typeFault, columnsFault, columns, keepsLimits}
+use Rattle.system.specs.Layout.{readFile, opened}
+use Rattle.system.proofs.Laws.{Limits, Sized, limits-of, read-keeps-limits, sizes-keep}
+use Rattle.writer.specs.Writing.{orElse, countFault, typesFault, systemFault}
+use Rattle.writer.proofs.Cleared.{cleared-same}
+
+-- intermediate: one test after another
+
+pub or-none : (fault later : ℕ) → orElse fault later ≡ 0 → (fault ≡ 0) × (later ≡ 0)
+or-none fault later e = at (eqb fault 0) refl e
+  where
+    at : (b : Bool) → eqb fault 0 ≡ b → cond b later fault ≡ 0 → (fault ≡ 0) × (later ≡ 0)
+    at true q e = (eqb-true fault 0 q, e)
+    at false q e = absurd (eqb-false fault 0 q e)
+
+none-or : (fault later : ℕ) → fault ≡ 0 → later ≡ 0 → orElse fault later ≡ 0
+none-or fault later p q = rw (eq-eqb fault 0 p) q
+
+-- k
+
+count-kept : (k : ℕ) → countFault k ≡ 0 → (1 ≤ k) × (k ≤ typeLimit)
+count-kept k e = most (ltb typeLimit k) refl e
+  where
+    some-type : (b : Bool) → eqb k 0 ≡ b → _≡_ {A = ℕ} (cond b 9 0) 0 → k ≤ typeLimit → (1 ≤ k) × (k ≤ typeLimit)
+    some-type true q e h = absurd (omega arith)
+    some-type false q e h = (omega (arith, eqb-false k 0 q), h)
+
+    most : (b : Bool) → ltb typeLimit k ≡ b → _≡_ {A = ℕ} (cond b 7 (cond (eqb k 0) 9 0)) 0 → (1 ≤ k) × (k ≤ typeLimit)
+    most true q e = absurd (omega arith)
+    most false q e = some-type (eqb k 0) refl e (ltb-false typeLimit k q)
+
+count-keeps : (k : ℕ) → 1 ≤ k → k ≤ typeLimit → countFault k ≡ 0
+count-keeps k low high = rw (le-ltb typeLimit k high, ne-eqb k 0 (λ e. omega arith))
+
+-- u and s of some types
+
+pub types-front : (a b : List TaskType) → typesFault (a ++ b) ≡ 0 → typesFault a ≡ 0
+unfolding typesFault
+types-front [] b e = refl
+types-front (t ∷ a) b e = let p = or-none (typeFault t) (typesFault (a ++ b)) e in none-or (typeFault t) (typesFault a) (p .0) (types-front a b (p .1))
+
+types-sized : (ts : List TaskType) → ((i : ℕ) → Sized (getD ts i noTask)) → typesFault ts ≡ 0
+unfolding typesFault
+types-sized [] h = refl
+types-sized (t ∷ ts) h = none-or (typeFault t) (typesFault ts) (sizes-keep (t .time) (t .memory) (h zero .time) (h zero .memory)) (types-sized ts (λ i. h (suc i)))
+
+-- main: no fault is found where every test passes
+
+pub record Faultless (y : System) : Type 0 where
+  pub count : (1 ≤ y .typecount) × (y .typecount ≤ typeLimit)
+  pub platform : platformFault (y .engines) (y .rule) (y .timecap) (y .memorycap) ≡ 0
+  pub types : typesFault (cleared y .types) ≡ 0
+  pub columns : columnsFault (cleared y .types) ≡ 0
+
+pub faultless-of : (y : System) → systemFault y ≡ 0 → Faultless y
+unfolding systemFault
+faultless-of y e =
+    let a = or-none (countFault (y .typecount)) _ e in
+    let b = or-none (platformFault (y .engines) (y .rule) (y .timecap) (y .memorycap)) _ (a .1) in
+    let c = or-none (typesFault (cleared y .types)) (columnsFault (cleared y .types)) (b .1) in
+    record { count = count-kept (y .typecount) (a .0); platform = b .0; types = c .0; columns = c .1 }
+
+pub faultless-none : (y : System) → Faultless y → systemFault y ≡ 0
+unfolding systemFault
+faultless-none y f =
+    none-or (countFault (y .typecount)) _ (count-keeps (y .typecount) (f .count .0) (f .count .1))
+    (none-or (platformFault (y .engines) (y .rule) (y .timecap) (y .memorycap)) _ (f .platform)
+    (none-or (typesFault (cleared y .types)) (columnsFault (cleared y .types)) (f .types) (f .columns)))
+
+-- main: a system within the limits
+
+limits-writable : (y : System) → Limits y → (systemFault y ≡ 0) × (cleared y ≡ y)
+limits-writable y l =
+    let same : cleared y ≡ y = cleared-same y (l .six) (l .typecount) (l .past) in
+    let all : typesFault (cleared y .types) ≡ 0 = ap (λ (z : System). typesFault (z .types)) same ∙ types-sized (y .types) (l .sized) in
+    let few : columnsFault (y .types) ≡ 0 = rw (le-leb (columns y) columnLimit (l .columns)) in
+    let platform : platformFault (y .engines) (y .rule) (y .timecap) (y .memorycap) ≡ 0 =
+    rw (
+      le-leb 1 (y .engines) (l .some-engine),
+      le-leb (y .engines) engineLimit (l .engines),
+      le-leb (y .rule) 1 (l .rule),
+    )
+    (sizes-keep (y .timecap) (y .memorycap) (l .time) (l .memory)) in (
+      faultless-none y
+          (record {
+            count = (l .some-type, l .typecount);
+            platform = platform;
+            types = all;
+            columns = ap (λ (z : System). columnsFault (z .types)) same ∙ few;
+          }),
+      same,
+    )
+
+pub kept-writable : (y : System) → keepsLimits y ≡ true → (systemFault y ≡ 0) × (cleared y ≡ y)
+kept-writable y k = limits-writable y (limits-of y k)
+
+pub read-writable : (file : List ℕ) (y : System) → readFile file ≡ opened y → (systemFault y ≡ 0) × (cleared y ≡ y)
+read-writable file y e = kept-writable y (read-keeps-limits file y e)

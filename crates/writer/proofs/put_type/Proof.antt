@@ -1,0 +1,50 @@
+-- `put_type`: the head, then u, s and n.
+use Prim.Native.Nat.{_≤_}
+use native.Mathlib.Omega.{arith}
+use lib.ListN.{length}
+use borrow.Author.Needs.{needs}
+use Rattle.system.specs.Rules.{ruleOf}
+use Rattle.buffer.proofs.Laws.{puts-then}
+use Rattle.writer.specs.File.{fieldBytes}
+use Rattle.writer.proofs.put_type.Statement.{statement}
+use Rattle.writer.proofs.put_type.Tie as tie
+
+put-head-requires : tie.Need-put-head-requires
+put-head-requires c κs = search needs
+
+put-four-requires : tie.Need-put-four-requires
+unfolding ruleOf
+put-four-requires c κs = search needs
+
+put-four-requires-2 : tie.Need-put-four-requires-2
+unfolding ruleOf
+put-four-requires-2 c κs = search needs
+
+put-two-requires : tie.Need-put-two-requires
+unfolding ruleOf
+put-two-requires c κs = search needs
+
+same-length : tie.Need-same-length
+same-length c = search needs
+
+returns : tie.Need-returns
+unfolding ruleOf fieldBytes
+returns c =
+    let limit = c .before .before in
+    let stored = limit .before .before .before .before in
+    let timed = stored .before .before .before .before in
+    let headed = timed .before .before .before .before in
+    let start = headed .before .before .before in
+    let room : start .args .at ≤ length (start .args .out .now) = omega (arith, start .pre) in
+    puts-then room (puts-then room (puts-then room (headed .put-head .ensures) (timed .put-four .ensures)) (stored .put-four2 .ensures)) (limit .put-two .ensures)
+
+pub put-type-spec : {M : Type 1} → statement M
+put-type-spec =
+    tie.close
+    (tie.spec
+    put-head-requires
+    put-four-requires
+    put-four-requires-2
+    put-two-requires
+    same-length
+    returns)

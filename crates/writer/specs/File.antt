@@ -1,0 +1,42 @@
+-- The bytes of a system's file: document 01's "System file", from the system to the bytes. Tag and length of each field are those of the reader's own table of field rules.
+use Prim.Native.Nat.{ℕ}
+use mathlib.Core.List.{List, [], _∷_, _++_}
+use lib.ListN.{take}
+use Rattle.buffer.specs.Bytes.{bytes2, bytes4}
+use Rattle.system.specs.declared.TaskType.{TaskType}
+use Rattle.system.specs.declared.System.{System}
+use Rattle.system.specs.declared.rules.RuleFound.{RuleFound}
+use Rattle.system.specs.declared.rules.RuleFound.the-variants.{Known, Unknown}
+use Rattle.system.specs.Rules.{platformRule, typeRule, fieldRules, ruledSize}
+unfoldable use Rattle.system.specs.Rules.{ruleOf}
+
+-- "tag (1 byte), body length (2 bytes)", as the table's rule has them; nothing for a tag that it does not have
+abbrev pub headBytes : RuleFound → List ℕ
+headBytes (Known r) = r .tag ∷ bytes2 (r .body)
+headBytes Unknown = []
+
+-- all bytes of such a field: its head and the body that the rule wants
+abbrev pub foundSize : RuleFound → ℕ
+foundSize (Known r) = ruledSize r
+foundSize Unknown = 0
+
+-- a field of this tag: its head, then its body
+unfoldable pub fieldBytes : ℕ → List ℕ → List ℕ
+fieldBytes tag body = headBytes (ruleOf fieldRules tag) ++ body
+
+-- a platform: m (1), rule (1), U (4), S (4)
+abbrev pub platformBytes : System → List ℕ
+platformBytes y = fieldBytes (platformRule .tag) (y .engines ∷ y .rule ∷ (bytes4 (y .timecap) ++ bytes4 (y .memorycap)))
+
+-- a type: u (4), s (4), n (2)
+abbrev pub typeBytes : TaskType → List ℕ
+typeBytes t = fieldBytes (typeRule .tag) (bytes4 (t .time) ++ (bytes4 (t .memory) ++ bytes2 (t .ceiling)))
+
+-- the fields of some types, one after another
+unfoldable pub typesBytes : List TaskType → List ℕ
+typesBytes [] = []
+typesBytes (t ∷ ts) = typeBytes t ++ typesBytes ts
+
+-- the file: the platform, then types 1 to k. What stands past k is not written
+unfoldable pub fileOf : System → List ℕ
+fileOf y = platformBytes y ++ typesBytes (take (y .typecount) (y .types))

@@ -1,0 +1,49 @@
+-- When a system is written, and what the lent buffer then holds: request 2026-01. A test gives the number of the refusal that it calls for, 0 for none.
+use Prim.Native.Nat.{ℕ}
+use mathlib.Core.List.{List, [], _∷_, _++_}
+use mathlib.Core.Bool.{cond}
+use lib.ListN.{length, drop}
+use lib.Dec.{ltb, eqb}
+use Rattle.system.specs.declared.TaskType.{TaskType}
+use Rattle.system.specs.declared.System.{System}
+use Rattle.system.specs.Values.{cleared}
+use Rattle.system.specs.Limits.{typeLimit, platformFault, typeFault, columnsFault}
+use Rattle.system.specs.Outcome.{Outcome, accepted, refused, fromInput}
+use Rattle.writer.specs.File.{fileOf}
+
+-- one test after another: the first that finds a fault decides
+abbrev pub orElse : ℕ → ℕ → ℕ
+orElse fault later = cond (eqb fault 0) later fault
+
+-- k: 7, 9
+abbrev pub countFault : ℕ → ℕ
+countFault k = cond (ltb typeLimit k) 7 (cond (eqb k 0) 9 0)
+
+-- u and s of some types: 8
+unfoldable pub typesFault : List TaskType → ℕ
+typesFault [] = 0
+typesFault (t ∷ ts) = orElse (typeFault t) (typesFault ts)
+
+-- the buffer's length: 30
+abbrev pub roomFault : ℕ → ℕ → ℕ
+roomFault size room = cond (ltb room size) 30 0
+
+-- "in the order 7, 9, 5, 6, 8, 10": "types past k .. are not judged", so the system is judged as it is with 0 there
+unfoldable pub systemFault : System → ℕ
+systemFault y =
+    orElse (countFault (y .typecount))
+    (orElse (platformFault (y .engines) (y .rule) (y .timecap) (y .memorycap))
+    (orElse (typesFault (cleared y .types))
+    (columnsFault (cleared y .types))))
+
+-- "30, when the buffer is shorter than the file, after 10"
+unfoldable pub writeFault : System → ℕ → ℕ
+writeFault y room = orElse (systemFault y) (roomFault (length (fileOf y)) room)
+
+-- "The answer is the number of bytes written"
+unfoldable pub writeOutcome : System → ℕ → Outcome
+writeOutcome y room = cond (eqb (writeFault y room) 0) (accepted (length (fileOf y) ∷ [])) (refused fromInput (writeFault y room))
+
+-- "bytes past them are unchanged"; "Every refusal leaves the buffer unchanged"
+unfoldable pub writtenTo : System → List ℕ → List ℕ
+writtenTo y old = cond (eqb (writeFault y (length old)) 0) (fileOf y ++ drop (length (fileOf y)) old) old

@@ -1,0 +1,180 @@
+// The writer of system files: request 2026-01. A system within document 01's limits becomes the bytes that the reader reads as it.
+//
+// The functions that put something into the buffer answer the place after it. Tag and length of a field are asked of the reader's own table of field rules.
+ghost use mathlib.Core.Path.{_≡_};
+ghost use Prim.Native.Nat.{_+_, _*_, _≤_};
+ghost use lib.ListN.{length, take};
+ghost use Rattle.buffer.specs.Written.{Puts};
+ghost use Rattle.system.specs.Limits.{engineLimit, typeLimit};
+ghost use Rattle.system.specs.Rules.{platformRule, typeRule, fieldRules, ruleOf, headSize, ruledSize};
+ghost use Rattle.writer.specs.File.{headBytes, foundSize, platformBytes, typeBytes, typesBytes, fileOf};
+ghost use Rattle.writer.specs.Writing.{countFault, typesFault, systemFault, writeFault};
+ghost use Rattle.writer.specs.Meaning.{WritePromises};
+use buffer::put_byte;
+use buffer::put_four;
+use buffer::put_two;
+use system::Answer;
+use system::HEAD_SIZE;
+use system::PLATFORM;
+use system::Refusal;
+use system::RuleFound;
+use system::System;
+use system::TYPE;
+use system::TYPE_LIMIT;
+use system::TaskType;
+use system::cleared;
+use system::columns_fault;
+use system::platform_fault;
+use system::rule_of;
+use system::type_fault;
+
+// The number of types: 7, 9.
+fn count_fault(typecount: usize) -> u8
+    ensures { λ r. ⌜ r ≡ countFault typecount ⌝ }
+{
+    if TYPE_LIMIT < typecount {
+        return 7;
+    }
+    if typecount == 0 {
+        return 9;
+    }
+    0
+}
+
+// The first fault among six types: 8.
+fn types_fault(types: [TaskType; TYPE_LIMIT]) -> u8
+    ensures { λ r. ⌜ r ≡ typesFault types ⌝ }
+{
+    for i in 0..TYPE_LIMIT {
+        let t = types[i];
+        let fault = type_fault(t);
+        if fault != 0 {
+            return fault;
+        }
+    }
+    0
+}
+
+// The limits of a system, in the order 7, 9, 5, 6, 8, 10; 0 where it keeps them. What stands past k is not judged: it is cleared first.
+fn system_fault(y: System) -> u8
+    ensures { λ r. ⌜ r ≡ systemFault y ⌝ }
+{
+    let counted = count_fault(y.typecount);
+    if counted != 0 {
+        return counted;
+    }
+    let platform = platform_fault(y.engines, y.rule, y.timecap, y.memorycap);
+    if platform != 0 {
+        return platform;
+    }
+    let z = cleared(y);
+    let types = z.types;
+    let sized = types_fault(types);
+    if sized != 0 {
+        return sized;
+    }
+    columns_fault(types)
+}
+
+// The bytes of a whole field of this tag; none where the table has no rule for it.
+fn field_size(tag: u8) -> usize
+    ensures { λ r. ⌜ r ≡ foundSize (ruleOf fieldRules tag) ⌝ }
+{
+    let found = rule_of(tag);
+    let RuleFound::Known(rule) = found else {
+        return 0;
+    };
+    HEAD_SIZE + rule.body
+}
+
+// The bytes of a system's file.
+fn file_size(y: System) -> usize
+    requires { ⌜ y .typecount ≤ typeLimit ⌝ }
+    ensures { λ r. ⌜ r ≡ length (fileOf y) ⌝ }
+{
+    field_size(PLATFORM) + y.typecount * field_size(TYPE)
+}
+
+// All that refuses a system, with 30 for a buffer of `room` bytes that is too short; 0 where it is written.
+fn write_fault(y: System, room: usize) -> u8
+    ensures { λ r. ⌜ r ≡ writeFault y room ⌝ }
+{
+    let fault = system_fault(y);
+    if fault != 0 {
+        return fault;
+    }
+    if room < file_size(y) {
+        return 30;
+    }
+    0
+}
+
+// Puts the tag and the length of a field, as the table has them; nothing where it has no rule for the tag.
+fn put_head(out: &mut [u8], at: usize, tag: u8) -> usize
+    requires { ⌜ at + headSize ≤ length (now out) ⌝ }
+    ensures { λ r. ⌜ Puts (headBytes (ruleOf fieldRules tag)) at (now (out .entry)) (now (out .exit)) r ⌝ }
+{
+    let found = rule_of(tag);
+    let RuleFound::Known(rule) = found else {
+        return at;
+    };
+    let next = put_byte(out, at, rule.tag);
+    put_two(out, next, rule.body as u16)
+}
+
+// Puts the platform at the start: m, rule, U, S.
+fn put_platform(out: &mut [u8], y: System) -> usize
+    requires { ⌜ (ruledSize platformRule ≤ length (now out)) × (y .engines ≤ engineLimit) ⌝ }
+    ensures { λ r. ⌜ Puts (platformBytes y) 0 (now (out .entry)) (now (out .exit)) r ⌝ }
+{
+    let headed = put_head(out, 0, PLATFORM);
+    let counted = put_byte(out, headed, y.engines as u8);
+    let ruled = put_byte(out, counted, y.rule);
+    let timed = put_four(out, ruled, y.timecap);
+    put_four(out, timed, y.memorycap)
+}
+
+// Puts one type: u, s, n.
+fn put_type(out: &mut [u8], at: usize, t: TaskType) -> usize
+    requires { ⌜ at + ruledSize typeRule ≤ length (now out) ⌝ }
+    ensures { λ r. ⌜ Puts (typeBytes t) at (now (out .entry)) (now (out .exit)) r ⌝ }
+{
+    let headed = put_head(out, at, TYPE);
+    let timed = put_four(out, headed, t.time);
+    let stored = put_four(out, timed, t.memory);
+    put_two(out, stored, t.ceiling)
+}
+
+// Puts the first `typecount` types.
+fn put_types(out: &mut [u8], at: usize, types: [TaskType; TYPE_LIMIT], typecount: usize) -> usize
+    requires { ⌜ (typecount ≤ typeLimit) × (at + length (typesBytes (take typecount types)) ≤ length (now out)) ⌝ }
+    ensures { λ r. ⌜ Puts (typesBytes (take typecount types)) at (now (out .entry)) (now (out .exit)) r ⌝ }
+{
+    let mut next = at;
+    for i in 0..typecount {
+        next = put_type(out, next, types[i]);
+    }
+    next
+}
+
+// Puts the file of a system at the start of the buffer.
+fn put_file(out: &mut [u8], y: System) -> usize
+    requires { ⌜ (y .engines ≤ engineLimit) × (y .typecount ≤ typeLimit) × (length (fileOf y) ≤ length (now out)) ⌝ }
+    ensures { λ r. ⌜ Puts (fileOf y) 0 (now (out .entry)) (now (out .exit)) r ⌝ }
+{
+    let next = put_platform(out, y);
+    let types = y.types;
+    put_types(out, next, types, y.typecount)
+}
+
+// Writes the file of a system at the start of the buffer, and answers its length; or 7, 9, 5, 6, 8, 10, 30 in this order, and nothing is written.
+// Types past k are neither judged nor written. Bytes past the file stay as they were.
+pub fn write_system(y: System, out: &mut [u8]) -> Answer
+    ensures { λ r. ⌜ WritePromises y (now (out .entry)) (now (out .exit)) r ⌝ }
+{
+    let fault = write_fault(y, out.len());
+    if fault != 0 {
+        return Answer::Refused(Refusal::Input(fault));
+    }
+    Answer::Number(put_file(out, y))
+}
