@@ -6,17 +6,19 @@ use mathlib.Core.List.{List, [], _∷_, _++_, append-assoc, append-nil, map, map
 use native.Mathlib.Nat.{add-zero, le-refl, le-of-lt, min-eq-left, min-eq-right, mod-eq-of-lt, pow-suc, pow-le-pow-right, one-le-pow}
 use native.Mathlib.Omega.{arith}
 use native.Mathlib.Numerals.{add-one, sub-one}
-use lib.ListN.{length, getD, take}
-use lib.Seq.{take-suc, take-all, take-length}
+use lib.ListN.{length, getD, take, drop, length-drop}
+use lib.Seq.{take-suc, getD-drop, take-all, take-length}
 use lib.Dec.{leb, lit<}
 use borrow.Author.Tests.{lt-ltb, le-ltb, leb-true, leb-false}
+use Rattle.buffer.specs.Written.{Puts}
+use Rattle.buffer.proofs.Laws.{puts-then}
 use Rattle.system.specs.Layout.{Reading}
 use Rattle.loads.specs.declared.EngineLoad.{EngineLoad}
 use Rattle.planner.specs.declared.Plan.{Plan}
 use Rattle.planner.specs.Plan.{recordsFrom, recordsOf, verdictOf}
 use Rattle.planner.specs.Demands.{PlanPromises}
 use Rattle.io.specs.Digits.{glyph, digits, Fewest}
-use Rattle.listing.specs.Listing.{engineWord, utilWord, memWord, typesWord, space, lineEnd, digit, decimalFrom, decimal, parted, line, engineLine, recordLine, recordLines, planListing, verdictListing}
+use Rattle.listing.specs.Listing.{enginesWord, engineWord, utilWord, memWord, typesWord, refusedWord, space, lineEnd, digit, decimalFrom, decimal, parted, line, engineLine, recordLine, recordLines, planListing, verdictListing}
 use Rattle.listing.specs.Room.{numberRoom}
 
 -- decimal digits
@@ -62,6 +64,18 @@ decimal-short r n (some, below, above) h = go (leb r numberRoom) refl
         let large : 10 ^ (r - 1) ≤ n = above (omega arith) in
         absurd (omega arith)
 
+-- the words, one behind the other, as the source's string has them; a part of them with one byte more
+
+abbrev pub words : List ℕ
+words = enginesWord ++ utilWord ++ memWord ++ typesWord ++ refusedWord
+
+pub word-suc : (start i : ℕ) → start + i < 26 → take (i + 1) (drop start words) ≡ take i (drop start words) ++ (getD words (start + i) 0 ∷ [])
+word-suc start i h =
+    let inside : i < length (drop start words) = omega (arith, length-drop start words) in
+    ap (λ (n : ℕ). take n (drop start words)) (add-one i)
+    ∙ take-suc (drop start words) i 0 inside
+    ∙ ap (λ (b : ℕ). take i (drop start words) ++ (b ∷ [])) (getD-drop start words i 0)
+
 -- lines
 
 pub parted-append : (ws vs : List (List ℕ)) → parted (ws ++ vs) ≡ parted ws ++ parted vs
@@ -73,6 +87,23 @@ parted-append (w ∷ ws) vs = ap (λ (l : List ℕ). space ∷ (w ++ l)) (parted
 pub counts-suc : (xs : List ℕ) (i : ℕ) → i < length xs → parted (map decimal (take (suc i) xs)) ≡ parted (map decimal (take i xs)) ++ (space ∷ decimal (getD xs i 0))
 unfolding parted
 counts-suc xs i h = rw (take-suc xs i 0, map-append, parted-append) (simp append-nil)
+
+-- a word with no number, and then the byte that ends it
+pub named-end : (word xs : List ℕ) (end : ℕ) {at p r : ℕ} {old mid new : List ℕ} → length xs ≡ 0 → at ≤ length old → Puts word at old mid p → Puts (end ∷ []) p mid new r
+    → Puts (word ++ parted (map decimal xs) ++ (end ∷ [])) at old new r
+unfolding parted
+named-end word [] end none room named ended = rw append-nil (puts-then room named ended)
+named-end word (x ∷ xs) end none room named ended = absurd (omega arith)
+
+-- a word with all numbers but the last, each after a space, then a space, the last and the byte that ends them
+pub numbered-end : (word xs : List ℕ) (i end : ℕ) {at p q r : ℕ} {old mid told new : List ℕ} → suc i ≡ length xs → at ≤ length old
+    → Puts (word ++ parted (map decimal (take i xs)) ++ (space ∷ [])) at old mid p → Puts (decimal (getD xs i 0)) p mid told q → Puts (end ∷ []) q told new r
+    → Puts (word ++ parted (map decimal xs) ++ (end ∷ [])) at old new r
+numbered-end word xs i end all room fewer last ended =
+    let counts : parted (map decimal xs) ≡ parted (map decimal (take i xs)) ++ (space ∷ decimal (getD xs i 0)) =
+    ap (λ (l : List ℕ). parted (map decimal l)) (sym (take-length xs) ∙ ap (λ (n : ℕ). take n xs) (sym all)) ∙ counts-suc xs i (omega arith) in
+    let regrouped : word ++ parted (map decimal (take i xs)) ++ (space ∷ []) ++ decimal (getD xs i 0) ++ (end ∷ []) ≡ word ++ parted (map decimal xs) ++ (end ∷ []) = rw counts (simp append-assoc) in
+    rw regrouped at (puts-then room (puts-then room fewer last) ended)
 
 -- a list is not longer than it is
 pub take-min : {A : Type 0} (k : ℕ) (l : List A) → take (min k (length l)) l ≡ take k l
@@ -100,6 +131,19 @@ pub engineLine-parts : (n t m : ℕ) (xs : List ℕ)
 unfolding engineLine parted
 engineLine-parts n t m xs =
     regroup engineWord (space ∷ decimal n) (space ∷ utilWord) (space ∷ decimal t) (space ∷ memWord) (space ∷ decimal m) (space ∷ []) typesWord (parted (map decimal xs)) (lineEnd ∷ [])
+
+-- the same, each part with the byte after it
+pub engineLine-entries : (n t m : ℕ) (xs : List ℕ)
+    → (engineWord ++ (space ∷ decimal n) ++ (space ∷ []))
+    ++ (utilWord ++ (space ∷ decimal t) ++ (space ∷ []))
+    ++ (memWord ++ (space ∷ decimal m) ++ (space ∷ []))
+    ++ (typesWord ++ parted (map decimal xs) ++ (lineEnd ∷ []))
+    ≡ engineLine n t m xs
+engineLine-entries n t m xs =
+    ended engineWord (space ∷ decimal n) (space ∷ []) utilWord (space ∷ decimal t) memWord (space ∷ decimal m) typesWord (parted (map decimal xs)) (lineEnd ∷ []) ∙ engineLine-parts n t m xs
+  where
+    ended : (a b c d e f g h i j : List ℕ) → (a ++ b ++ c) ++ (d ++ e ++ c) ++ (f ++ g ++ c) ++ (h ++ i ++ j) ≡ (a ++ b) ++ (c ++ d ++ e) ++ (c ++ f ++ g) ++ c ++ h ++ i ++ j
+    ended a b c d e f g h i j = simp append-assoc
 
 -- one engine more; its number is its place in the list, counted from a
 engines-suc : (k a : ℕ) (loads : List EngineLoad) (i : ℕ) (d : EngineLoad) → i < length loads

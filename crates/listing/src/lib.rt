@@ -3,13 +3,13 @@
 // The functions that put something into the buffer answer the place after it. Each asks for the room that its part can take, and promises to take no more.
 ghost use mathlib.Core.Path.{_≡_};
 ghost use mathlib.Core.List.{_∷_, [], _++_, map};
-ghost use Prim.Native.Nat.{_+_, _≤_, _<_, min};
-ghost use lib.ListN.{length, take};
+ghost use Prim.Native.Nat.{_+_, _*_, _≤_, _<_, min};
+ghost use lib.ListN.{length, getD, take, drop};
 ghost use Rattle.buffer.specs.Written.{Puts};
 ghost use Rattle.system.specs.Outcome.{refusalOf};
 ghost use Rattle.planner.specs.Plan.{recordsOf};
-ghost use Rattle.listing.specs.Listing.{refusedWord, space, decimal, parted, line, recordLine, recordLines, planLines, listingOf};
-ghost use Rattle.listing.specs.Room.{numberRoom, spacedRoom, entryRoom, shareRoom, lineRoom, countsRoom, engineRoom, enginesRoom, listingRoom};
+ghost use Rattle.listing.specs.Listing.{enginesWord, utilWord, memWord, typesWord, refusedWord, space, decimal, parted, recordLine, recordLines, planLines, listingOf};
+ghost use Rattle.listing.specs.Room.{numberRoom, spacedRoom, lineRoom, engineRoom, enginesRoom, listingRoom};
 ghost use Rattle.listing.specs.Demands.{WritePromises, ListingPromises};
 ghost use Rattle.listing.specs.Text.{TextPromises, ReadPromises};
 use buffer::put_byte;
@@ -23,8 +23,63 @@ use system::Refusal;
 use system::TABLE_LIMIT;
 use system::TYPE_LIMIT;
 
+// The words of a listing, one behind the other: all the text that the program has. A word is a part of them, given by its start and its size; `engine` is the first six bytes of `engines`.
+const WORDS: [u8; 26] = *b"enginesutilmemtypesrefused";
+
+// Where `engines` starts, and `engine`.
+const ENGINES: usize = 0;
+
+// Where `util` starts.
+const UTIL: usize = 7;
+
+// Where `mem` starts.
+const MEM: usize = 11;
+
+// Where `types` starts.
+const TYPES: usize = 14;
+
+// Where `refused` starts.
+const REFUSED: usize = 19;
+
 // The most digits of a number of 64 bits.
 const NUMBER_ROOM: usize = 20;
+
+// The byte of the words at a place, 0 past their end. Of an arm for each place the compiler makes a table, which is the words as the program's file holds them;
+// for `words[place]` it would build all of them on the stack, out of numbers in the code, at each use.
+fn letter(place: usize) -> u8
+    ensures { λ r. ⌜ r ≡ getD (enginesWord ++ utilWord ++ memWord ++ typesWord ++ refusedWord) place 0 ⌝ }
+{
+    let words = WORDS;
+    match place {
+        0 => words[0],
+        1 => words[1],
+        2 => words[2],
+        3 => words[3],
+        4 => words[4],
+        5 => words[5],
+        6 => words[6],
+        7 => words[7],
+        8 => words[8],
+        9 => words[9],
+        10 => words[10],
+        11 => words[11],
+        12 => words[12],
+        13 => words[13],
+        14 => words[14],
+        15 => words[15],
+        16 => words[16],
+        17 => words[17],
+        18 => words[18],
+        19 => words[19],
+        20 => words[20],
+        21 => words[21],
+        22 => words[22],
+        23 => words[23],
+        24 => words[24],
+        25 => words[25],
+        _ => 0,
+    }
+}
 
 // Puts a number in decimal.
 fn put_number(out: &mut [u8], at: usize, n: u64) -> usize
@@ -36,31 +91,49 @@ fn put_number(out: &mut [u8], at: usize, n: u64) -> usize
     put_bytes(out, at, &text[..k])
 }
 
-// Puts a number after a space.
-fn put_spaced(out: &mut [u8], at: usize, n: u64) -> usize
-    requires { ⌜ at + spacedRoom ≤ length (now out) ⌝ }
-    ensures { λ r. ⌜ Puts (space ∷ decimal n) at (now (out .entry)) (now (out .exit)) r × (r ≤ at + spacedRoom) ⌝ }
+// Puts a word: its bytes are copied from the words.
+fn put_word(out: &mut [u8], at: usize, start: usize, size: usize) -> usize
+    requires { ⌜ (start + size ≤ 26) × (at + size ≤ length (now out)) ⌝ }
+    ensures { λ r. ⌜ Puts (take size (drop start (enginesWord ++ utilWord ++ memWord ++ typesWord ++ refusedWord))) at (now (out .entry)) (now (out .exit)) r × (r ≤ at + size) ⌝ }
 {
-    let next = put_byte(out, at, b' ');
-    put_number(out, next, n)
+    let mut next = at;
+    for i in 0..size {
+        next = put_byte(out, next, letter(start + i));
+    }
+    next
 }
 
-// Puts a word and its number, as `util 8`.
-fn put_entry(out: &mut [u8], at: usize, word: &[u8], n: u64) -> usize
-    requires { ⌜ at + entryRoom (now word) ≤ length (now out) ⌝ }
-    ensures { λ r. ⌜ Puts (now (word .entry) ++ space ∷ decimal n) at (now (out .entry)) (now (out .exit)) r × (r ≤ at + entryRoom (now (word .entry))) ⌝ }
+// Puts a word, its numbers, each after a space, and the byte after them. It calls itself for all numbers but the last: so the compiler keeps it as one function
+// and copies no word into its callers' code.
+fn put_numbered(
+    out: &mut [u8],
+    at: usize,
+    start: usize,
+    size: usize,
+    numbers: &[u64],
+    end: u8,
+) -> usize
+    requires { ⌜ (start + size ≤ 26) × (at + size + length (now numbers) * spacedRoom + 1 ≤ length (now out)) ⌝ }
+    ensures { λ r. ⌜ Puts (take size (drop start (enginesWord ++ utilWord ++ memWord ++ typesWord ++ refusedWord)) ++ parted (map decimal (now (numbers .entry))) ++ (end ∷ [])) at (now (out .entry)) (now (out .exit)) r × (r ≤ at + size + length (now (numbers .entry)) * spacedRoom + 1) ⌝ }
 {
-    let next = put_bytes(out, at, word);
-    put_spaced(out, next, n)
+    let count = numbers.len();
+    if count == 0 {
+        let named = put_word(out, at, start, size);
+        return put_byte(out, named, end);
+    }
+    let last = count - 1;
+    let next = put_numbered(out, at, start, size, &numbers[..last], b' ');
+    let told = put_number(out, next, numbers[last]);
+    put_byte(out, told, end)
 }
 
-// Puts a word and its number after a space.
-fn put_share(out: &mut [u8], at: usize, word: &[u8], n: u32) -> usize
-    requires { ⌜ at + shareRoom (now word) ≤ length (now out) ⌝ }
-    ensures { λ r. ⌜ Puts (space ∷ now (word .entry) ++ space ∷ decimal n) at (now (out .entry)) (now (out .exit)) r × (r ≤ at + shareRoom (now (word .entry))) ⌝ }
+// Puts a word, its one number and the byte after it, as `util 8`.
+fn put_entry(out: &mut [u8], at: usize, start: usize, size: usize, n: u64, end: u8) -> usize
+    requires { ⌜ (start + size ≤ 26) × (at + size + spacedRoom + 1 ≤ length (now out)) ⌝ }
+    ensures { λ r. ⌜ Puts (take size (drop start (enginesWord ++ utilWord ++ memWord ++ typesWord ++ refusedWord)) ++ (space ∷ decimal n) ++ (end ∷ [])) at (now (out .entry)) (now (out .exit)) r × (r ≤ at + size + spacedRoom + 1) ⌝ }
 {
-    let next = put_byte(out, at, b' ');
-    put_entry(out, next, word, n as u64)
+    let numbers = [n];
+    put_numbered(out, at, start, size, &numbers, end)
 }
 
 // The smaller of two numbers.
@@ -77,17 +150,15 @@ fn wide(n: u16) -> u64
     n as u64
 }
 
-// Puts the counts of the first `typecount` types, each after a space.
-fn put_counts(out: &mut [u8], at: usize, counts: [u16; TYPE_LIMIT], typecount: usize) -> usize
-    requires { ⌜ at + countsRoom ≤ length (now out) ⌝ }
-    ensures { λ r. ⌜ Puts (parted (map decimal (take typecount counts))) at (now (out .entry)) (now (out .exit)) r × (r ≤ at + countsRoom) ⌝ }
+// The counts of a load as numbers to put.
+fn wide_counts(counts: [u16; TYPE_LIMIT]) -> [u64; TYPE_LIMIT]
+    ensures { λ r. ⌜ r ≡ counts ⌝ }
 {
-    let end = least(typecount, TYPE_LIMIT);
-    let mut next = at;
-    for t in 0..end {
-        next = put_spaced(out, next, wide(counts[t]));
+    let mut numbers = [0u64; TYPE_LIMIT];
+    for t in 0..TYPE_LIMIT {
+        numbers[t] = wide(counts[t]);
     }
-    next
+    numbers
 }
 
 // Puts the line of one engine.
@@ -95,14 +166,13 @@ fn put_engine(out: &mut [u8], at: usize, number: usize, load: EngineLoad, typeco
     requires { ⌜ at + engineRoom ≤ length (now out) ⌝ }
     ensures { λ r. ⌜ Puts (recordLine typecount (record { number = number; load = load })) at (now (out .entry)) (now (out .exit)) r × (r ≤ at + engineRoom) ⌝ }
 {
-    let named = put_entry(out, at, b"engine", number as u64);
-    let timed = put_share(out, named, b"util", load.time);
-    let sized = put_share(out, timed, b"mem", load.memory);
-    let spaced = put_byte(out, sized, b' ');
-    let headed = put_bytes(out, spaced, b"types");
+    let named = put_entry(out, at, ENGINES, 6, number as u64, b' ');
+    let timed = put_entry(out, named, UTIL, 4, load.time as u64, b' ');
+    let sized = put_entry(out, timed, MEM, 3, load.memory as u64, b' ');
     let counts = load.counts;
-    let counted = put_counts(out, headed, counts, typecount);
-    put_byte(out, counted, b'\n')
+    let numbers = wide_counts(counts);
+    let end = least(typecount, TYPE_LIMIT);
+    put_numbered(out, sized, TYPES, 5, &numbers[..end], b'\n')
 }
 
 // Puts the lines of the first `used` engines.
@@ -124,15 +194,6 @@ fn put_engines(
     next
 }
 
-// Puts a line that is one word and one number.
-fn put_line(out: &mut [u8], word: &[u8], n: u64) -> usize
-    requires { ⌜ lineRoom (now word) ≤ length (now out) ⌝ }
-    ensures { λ r. ⌜ Puts (line (now (word .entry)) (decimal n ∷ [])) 0 (now (out .entry)) (now (out .exit)) r × (r ≤ lineRoom (now (word .entry))) ⌝ }
-{
-    let end = put_entry(out, 0, word, n);
-    put_byte(out, end, b'\n')
-}
-
 // Puts the listing of a plan that was given.
 fn put_plan(
     out: &mut [u8],
@@ -143,7 +204,7 @@ fn put_plan(
     requires { ⌜ listingRoom ≤ length (now out) ⌝ }
     ensures { λ r. ⌜ Puts (planLines used typecount loads) 0 (now (out .entry)) (now (out .exit)) r × (r ≤ listingRoom) ⌝ }
 {
-    let next = put_line(out, b"engines", used as u64);
+    let next = put_entry(out, 0, ENGINES, 7, used as u64, b'\n');
     put_engines(out, next, loads, used, typecount)
 }
 
@@ -153,8 +214,8 @@ fn put_refusal(out: &mut [u8], why: Refusal) -> usize
     ensures { λ r. ⌜ Puts (listingOf (refusalOf why) 0 0 []) 0 (now (out .entry)) (now (out .exit)) r × (r ≤ lineRoom refusedWord) ⌝ }
 {
     match why {
-        Refusal::Input(n) => put_line(out, b"refused", n as u64),
-        Refusal::State(n) => put_line(out, b"refused", n as u64),
+        Refusal::Input(n) => put_entry(out, 0, REFUSED, 7, n as u64, b'\n'),
+        Refusal::State(n) => put_entry(out, 0, REFUSED, 7, n as u64, b'\n'),
     }
 }
 
