@@ -5,6 +5,7 @@ pub mod Truth
 pub mod TrueMeans
 pub mod Demand1
 pub mod Views
+pub mod Frees
 pub mod Means
 pub mod Order
 pub mod Steps

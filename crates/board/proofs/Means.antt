@@ -39,6 +39,7 @@ use Rattle.board.proofs.Places.{engines-distinct, engines-known, engine
 use Rattle.board.proofs.Plain.{load-out, fits-same, fits-out, out-fits, used-out, more-out, less-out, row-out}
 use Rattle.board.proofs.Truth.{boardOn, truth-of}
 use Rattle.board.proofs.TrueMeans.{count-out, stands-on, true-on, true-means}
+use Rattle.board.proofs.Frees.{frees-on}
 use Rattle.board.proofs.Views.{enginesIn, joinedAt, takesIn, withOne, countIn, leftAt, Newcomer, TakesFirst, TakesNone, AdmitView, SeatView, RetireView, known-type, known-engine, first-index, length-withOne, withOne-within, recovered-padded, admit-view, seat-view, retire-view, total-placeable, repack-view}
 
 -- two outcomes that differ
@@ -365,6 +366,7 @@ module _ (y : System) (xs : List (List ℕ)) (keeps : keepsLimits y ≡ true) (v
     answer = λ h. absurd (false≢true h);
     leaves = λ h. absurd (false≢true h);
     stands = λ h. absurd (false≢true h);
+    frees = λ h. absurd (false≢true h);
     isTrue = λ h. absurd (false≢true h);
   }
 
@@ -386,6 +388,7 @@ module _ (y : System) (xs : List (List ℕ)) (keeps : keepsLimits y ≡ true) (v
             stands-on y xs keeps v u
             ∙ less-out t (type-range t k .0) (total xs) (omega (arith, some, count-le-sum typeLimit xs (e - 1) (t - 1) (v .sized) (inside e on))) u low
             ∙ ap (λ (n : ℕ). n + cond (eqb u t) 1 0) (sym (stands-on y after keeps w u ∙ ap (λ (z : List ℕ). getD z (u - 1) 0) (total-left y xs v (e - 1) (t - 1) index some)));
+        frees = λ h. frees-on y xs keeps v t e index some w;
         isTrue = λ h. true-on y after keeps w;
       })
     where

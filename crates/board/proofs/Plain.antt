@@ -15,7 +15,7 @@ use Rattle.system.specs.Values.{noTask}
 use Rattle.system.specs.Limits.{typeLimit}
 use Rattle.loads.specs.declared.EngineLoad.{EngineLoad}
 use Rattle.loads.specs.Load.{sumOver, timeAt, timeOf, memoryAt, memoryOf, fitsEngine, holdsNone, engineWith, idleEngine, oneMore, oneLess}
-use Rattle.loads.proofs.Laws.{fits-of, fits-time, fits-memory}
+use Rattle.loads.proofs.Laws.{own-all, fits-of, fits-time, fits-memory}
 use Rattle.loads.proofs.Change.{getD-plus, getD-oneMore, getD-oneLess}
 use Rattle.partition.specs.Assignment.{every, numbersFrom, enginesTo}
 use Rattle.partition.specs.Shares.{sumOf, usedLoads, rowOn}
@@ -58,11 +58,15 @@ module _ (y : System) (f g : ℕ → ℕ) (h : (t : ℕ) → 1 ≤ t → f t ≡
   time-same = sumSix-same (λ (t : ℕ). f t * typeNo y t .time) (λ (t : ℕ). g t * typeNo y t .time) (λ t k. rw (h t k))
 
   pub own-same : ownOut y f ≡ ownOut y g
-  own-same = sumSix-same (λ (t : ℕ). f t * typeNo y t .memory) (λ (t : ℕ). g t * typeNo y t .memory) (λ t k. rw (h t k))
+  own-same =
+      sumSix-same (λ (t : ℕ). f t * (typeNo y t .memory + typeNo y t .data)) (λ (t : ℕ). g t * (typeNo y t .memory + typeNo y t .data)) (λ t k. rw (h t k))
 
   pub shared-same : sharedOut y f ≡ sharedOut y g
   shared-same =
-      sumSix-same (λ (t : ℕ). cond (eqb (f t) 0) 0 (typeNo y t .memory)) (λ (t : ℕ). cond (eqb (g t) 0) 0 (typeNo y t .memory)) (λ t k. rw (h t k))
+      sumSix-same
+      (λ (t : ℕ). cond (eqb (f t) 0) 0 (typeNo y t .memory + f t * typeNo y t .data))
+      (λ (t : ℕ). cond (eqb (g t) 0) 0 (typeNo y t .memory + g t * typeNo y t .data))
+      (λ t k. rw (h t k))
 
   pub fits-same : FitsOut y f → FitsOut y g
   fits-same p = record { time = rw (← time-same) (p .time); ownCopies = λ r. rw (← own-same) (p .ownCopies r); sharedCode = λ r. rw (← shared-same) (p .sharedCode r) }
@@ -75,7 +79,9 @@ module _ (y : System) (ls : length (y .types) ≡ 6) (x : List ℕ) (lx : length
   time-out = sums-out timeAt y x ls lx
 
   pub own-out : y .rule ≡ 0 → memoryOf (y .rule) (y .types) x ≡ ownOut y counts
-  own-out r = rw r (sums-out (memoryAt 0) y x ls lx)
+  own-out r =
+      rw r (sums-out (memoryAt 0) y x ls lx)
+      ∙ sumSix-same (λ (t : ℕ). memoryAt 0 (typeNo y t) (counts t)) (λ (t : ℕ). counts t * (typeNo y t .memory + typeNo y t .data)) (λ t k. own-all (typeNo y t) (counts t))
 
   pub shared-out : y .rule ≡ 1 → memoryOf (y .rule) (y .types) x ≡ sharedOut y counts
   shared-out r = rw r (sums-out (memoryAt 1) y x ls lx)

@@ -27,7 +27,7 @@ use Rattle.partition.proofs.Plain.{ceiling-out, limits-out, stands-out}
 use Rattle.board.specs.declared.Board.{Board}
 use Rattle.board.specs.Boards.{emptyBoard, enginesOf, standingOf, standing}
 use Rattle.board.specs.Truth.{trueEngine, zeroEngine, trueLoads, trueBoard}
-use Rattle.board.specs.Words.{countNo, countAt, totalNo, standsNo, IsEngine, EngineIn, SumsOut, FitsOut, HoldsNothing, IsTrue, IsFresh}
+use Rattle.board.specs.Words.{countNo, countAt, memoryNo, totalNo, standsNo, IsEngine, EngineIn, SumsOut, FitsOut, HoldsNothing, IsTrue, IsFresh}
 use Rattle.board.specs.Meaning.{TrueMeans}
 use Rattle.board.proofs.Places.{engines-distinct, engines-known}
 use Rattle.board.proofs.Plain.{time-same, own-same, shared-same, fits-same, time-out, own-out, shared-out, fits-out, out-fits, RecordSame, record-same, total-out}
@@ -56,6 +56,9 @@ module _ (y : System) (xs : List (List ℕ)) (keeps : keepsLimits y ≡ true) (v
   pub count-out : (e t : ℕ) → countAt b e t ≡ getD (loadIn xs (e - 1)) (t - 1) 0
   count-out e t = record-same (b .loads) (e - 1) .counts t ∙ ap (λ (l : EngineLoad). getD (l .counts) (t - 1) 0) (record-on e)
 
+  pub memory-on : (e : ℕ) → memoryNo b e ≡ memoryOf (y .rule) (y .types) (loadIn xs (e - 1))
+  memory-on e = record-same (b .loads) (e - 1) .memory ∙ ap (λ (l : EngineLoad). l .memory) (record-on e)
+
   sized-padded : every (λ (x : List ℕ). eqb (length x) typeLimit) (padded y xs) ≡ true
   sized-padded =
       every-++ (λ (x : List ℕ). eqb (length x) typeLimit) xs (replicate (engineLimit - y .engines) emptyLoad) (v .sized)
@@ -76,8 +79,8 @@ module _ (y : System) (xs : List (List ℕ)) (keeps : keepsLimits y ≡ true) (v
       let back : (t : ℕ) → 1 ≤ t → getD x (t - 1) 0 ≡ countAt b e t = λ t h. sym (count-out e t) in
       record {
         time = same .time ∙ ap (λ (l : EngineLoad). l .time) (record-on e) ∙ time-out y (limits .six) x lx ∙ time-same y (λ (t : ℕ). getD x (t - 1) 0) (countAt b e) back;
-        ownCopies = λ r. same .memory ∙ ap (λ (l : EngineLoad). l .memory) (record-on e) ∙ own-out y (limits .six) x lx r ∙ own-same y (λ (t : ℕ). getD x (t - 1) 0) (countAt b e) back;
-        sharedCode = λ r. same .memory ∙ ap (λ (l : EngineLoad). l .memory) (record-on e) ∙ shared-out y (limits .six) x lx r ∙ shared-same y (λ (t : ℕ). getD x (t - 1) 0) (countAt b e) back;
+        ownCopies = λ r. memory-on e ∙ own-out y (limits .six) x lx r ∙ own-same y (λ (t : ℕ). getD x (t - 1) 0) (countAt b e) back;
+        sharedCode = λ r. memory-on e ∙ shared-out y (limits .six) x lx r ∙ shared-same y (λ (t : ℕ). getD x (t - 1) 0) (countAt b e) back;
       }
 
   -- nothing is past m

@@ -16,7 +16,7 @@ use Rattle.table.specs.Meaning.{FilledMeans}
 use Rattle.board.specs.declared.Board.{Board}
 use Rattle.board.specs.Truth.{trueBoard}
 use Rattle.board.specs.Calls.{Result}
-use Rattle.board.specs.Words.{standsNo, plusOne, IsType, IsEngine, EngineIn, HoldsType, BelowCeiling, TakesType, Room, NoRoom, OneMoreOn, IsTrue, Packed, IsFresh}
+use Rattle.board.specs.Words.{standsNo, plusOne, IsType, IsEngine, EngineIn, HoldsType, BelowCeiling, TakesType, Room, NoRoom, OneMoreOn, Frees, IsTrue, Packed, IsFresh}
 
 -- the test of refusal 20 says so exactly, and a true board is a good assignment of what stands on it
 pub record TrueMeans (b : Board) : Type 0 where
@@ -55,12 +55,13 @@ pub record SeatMeans (b : Board) (t : ℕ) (table : List ℕ) (r : Result) : Typ
   pub packs : isAccepted (r .outcome) ≡ true → Packed b (plusOne t (standsNo b)) (r .board)
   pub leftFilled : BelowCeiling b t → FilledMeans (b .system) (b .system .engines) table (r .table)
 
--- retire: succeeds exactly when that engine holds that type, and one instance leaves it
+-- retire: succeeds exactly when that engine holds that type, and one instance leaves it and frees its memory
 pub record RetireMeans (b : Board) (t e : ℕ) (r : Result) : Type 0 where
   pub retires : (isAccepted (r .outcome) ≡ true) ↔ HoldsType b t e
   pub answer : isAccepted (r .outcome) ≡ true → r .outcome ≡ accepted []
   pub leaves : isAccepted (r .outcome) ≡ true → OneMoreOn (r .board) t e b
   pub stands : isAccepted (r .outcome) ≡ true → (u : ℕ) → 1 ≤ u → standsNo b u ≡ plusOne t (standsNo (r .board)) u
+  pub frees : isAccepted (r .outcome) ≡ true → Frees b t e (r .board)
   pub isTrue : isAccepted (r .outcome) ≡ true → IsTrue (r .board)
 
 -- repack: always succeeds, and packs what stands on the fewest engines

@@ -36,7 +36,7 @@ standsNo b t = totalNo t (b .loads)
 abbrev pub plusOne : ℕ → (ℕ → ℕ) → ℕ → ℕ
 plusOne t count u = count u + cond (eqb u t) 1 0
 
--- Time, memory and fit: document 01's "Words", over the six types, of which those past k are 0
+-- Time, memory and fit: document 01's "Words" with the memory of request 2026-03, over the six types, of which those past k are 0
 
 abbrev pub sumSix : (ℕ → ℕ) → ℕ
 sumSix f = f 1 + (f 2 + (f 3 + (f 4 + (f 5 + f 6))))
@@ -45,13 +45,13 @@ sumSix f = f 1 + (f 2 + (f 3 + (f 4 + (f 5 + f 6))))
 abbrev pub timeOut : System → (ℕ → ℕ) → ℕ
 timeOut y count = sumSix (λ (t : ℕ). count t * typeNo y t .time)
 
--- "Its memory under rule 0 .. is the sum of count × s(t)"
+-- "c × (s + d) under rule 0", summed over the types
 abbrev pub ownOut : System → (ℕ → ℕ) → ℕ
-ownOut y count = sumSix (λ (t : ℕ). count t * typeNo y t .memory)
+ownOut y count = sumSix (λ (t : ℕ). count t * (typeNo y t .memory + typeNo y t .data))
 
--- "Under rule 1 .. it is the sum of s(t) over the types whose count is not 0"
+-- "s + c × d under rule 1", summed over the types whose count is not 0
 abbrev pub sharedOut : System → (ℕ → ℕ) → ℕ
-sharedOut y count = sumSix (λ (t : ℕ). cond (eqb (count t) 0) 0 (typeNo y t .memory))
+sharedOut y count = sumSix (λ (t : ℕ). cond (eqb (count t) 0) 0 (typeNo y t .memory + count t * typeNo y t .data))
 
 -- "A load fits an engine if its time is at most U and its memory at most S"
 pub record FitsOut (y : System) (count : ℕ → ℕ) : Type 0 where
@@ -119,13 +119,23 @@ pub record OneMoreOn (b : Board) (t e : ℕ) (after : Board) : Type 0 where
   pub system : after .system ≡ b .system
   pub counts : (d u : ℕ) → 1 ≤ d → 1 ≤ u → countAt after d u ≡ countAt b d u + cond (eqb d e && eqb u t) 1 0
 
+-- the stored memory of engine e
+abbrev pub memoryNo : Board → ℕ → ℕ
+memoryNo b e = recordNo (b .loads) e .memory
+
+-- what an instance of type t gives back of engine e's memory when it leaves. Request 2026-03: "a retire under rule 1 always frees d", and 01: s with the last of its type
+pub record Frees (b : Board) (t e : ℕ) (after : Board) : Type 0 where
+  pub ownCopies : b .system .rule ≡ 0 → memoryNo after e + (typeNo (b .system) t .memory + typeNo (b .system) t .data) ≡ memoryNo b e
+  pub sharedCode : b .system .rule ≡ 1 → 1 ≤ countAt after e t → memoryNo after e + typeNo (b .system) t .data ≡ memoryNo b e
+  pub lastShared : b .system .rule ≡ 1 → countAt after e t ≡ 0 → memoryNo after e + (typeNo (b .system) t .memory + typeNo (b .system) t .data) ≡ memoryNo b e
+
 -- The truth of a board
 
 -- the row of refusal 20: a board is true where none of it is so. That there are sixteen engines with six counts each is what arrays of the code always have
 pub record IsTrue (b : Board) : Type 0 where
   pub sixteen : length (b .loads) ≡ 16
   pub six : (e : ℕ) → 1 ≤ e → e ≤ 16 → length (recordNo (b .loads) e .counts) ≡ 6
-  -- "its system breaks a limit", "the system's own u, s and n too"
+  -- "its system breaks a limit", "the system's own u, s and n too", and d
   pub limits : LimitsOut (b .system)
   -- "an entry for an engine past m or a type past k is not 0"
   pub pastEngines : (e : ℕ) → b .system .engines < e → HoldsNothing (recordNo (b .loads) e)

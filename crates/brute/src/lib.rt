@@ -1,5 +1,5 @@
 // What the test programs hold the product to: a search over every assignment, recovery and sums from it, the bytes of a system file
-// and a reader of small ones, all written from document 01 and apart from the code under test, whose structs alone they share.
+// and a reader of them, all written from documents 01 and 02 and apart from the code under test, whose structs alone they share.
 pub mod files;
 pub mod ledger;
 pub mod recovery;

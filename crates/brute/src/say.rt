@@ -94,12 +94,13 @@ pub fn say_load(l: EngineLoad, typecount: usize) {
     }
 }
 
-// A type's u, s and n.
+// A type's u, s, n and d.
 fn say_task(t: TaskType) {
     say(b" |");
     say_also(t.time as usize);
     say_also(t.memory as usize);
     say_also(t.ceiling as usize);
+    say_also(t.data as usize);
 }
 
 // A line for a system: m, rule, U, S, then each type.

@@ -92,7 +92,8 @@ fn kinds_of(load: [usize; 8]) -> [usize; 8] {
     ]
 }
 
-// One instance more on engine e, counted from 0. Under rule 0 it brings its own memory, under rule 1 only the first of its type does.
+// One instance more on engine e, counted from 0. It brings its data memory; under rule 0 its own code too, under rule 1 only the first
+// of its type does.
 fn placed(y: System, h: Held, kind: usize, e: usize) -> Held {
     if 6 <= kind {
         return h;
@@ -104,9 +105,11 @@ fn placed(y: System, h: Held, kind: usize, e: usize) -> Held {
     let at = e * 6 + kind;
     let mut next = h;
     next.time[e] = wrapping_add_u64(h.time[e], task.time as u64);
+    let mut brought = task.data as u64;
     if (y.rule == 0) | !h.types[at] {
-        next.memory[e] = wrapping_add_u64(h.memory[e], task.memory as u64);
+        brought = wrapping_add_u64(brought, task.memory as u64);
     }
+    next.memory[e] = wrapping_add_u64(h.memory[e], brought);
     next.used[e] = true;
     next.types[at] = true;
     next

@@ -32,6 +32,11 @@ fn scaled(value: usize, large: bool) -> u32 {
     if large { steps * 62500 } else { steps }
 }
 
+// The steps of a d drawn below 8: none in half of the draws, else one to four.
+fn data_steps(value: usize) -> usize {
+    if 4 <= value { value - 3 } else { 0 }
+}
+
 // A system drawn, and the seed after it.
 pub struct DrawnSystem {
     pub seed: u64,
@@ -55,13 +60,23 @@ fn drawn_platform(seed: u64, engines: usize, large: bool) -> DrawnSystem {
     }
 }
 
-// The system with one type more, of at most `most` instances that cost up to eight steps.
+// The system with a d drawn for its last type.
+pub fn with_drawn_data(d: DrawnSystem, large: bool) -> DrawnSystem {
+    let data = draw(d.seed, 8);
+    let y = d.system;
+    DrawnSystem {
+        seed: data.seed,
+        system: systems::with_data(y, scaled(data_steps(data.value), large)),
+    }
+}
+
+// The system with one type more, of at most `most` instances that cost up to eight steps, and up to four of data memory.
 fn with_drawn_type(d: DrawnSystem, most: usize, large: bool) -> DrawnSystem {
     let time = draw(d.seed, 9);
     let memory = draw(time.seed, 9);
     let ceiling = draw(memory.seed, wrapping_add_usize(most, 1));
     let y = d.system;
-    DrawnSystem {
+    let with = DrawnSystem {
         seed: ceiling.seed,
         system: systems::with_type(
             y,
@@ -69,7 +84,8 @@ fn with_drawn_type(d: DrawnSystem, most: usize, large: bool) -> DrawnSystem {
             scaled(memory.value, large),
             (ceiling.value % 65536) as u16,
         ),
-    }
+    };
+    with_drawn_data(with, large)
 }
 
 // A system of up to `engines` engines and this many types of at most `most` instances each.

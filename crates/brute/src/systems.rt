@@ -13,7 +13,7 @@ pub fn platform_of(engines: usize, rule: u8, time: u32, memory: u32) -> System {
     y
 }
 
-// The system with one type more: u, s and n. As it is, where it has six.
+// The system with one type more: u, s and n, and d 0. As it is, where it has six.
 pub fn with_type(y: System, time: u32, memory: u32, ceiling: u16) -> System {
     let mut z = y;
     let k = y.typecount;
@@ -22,9 +22,30 @@ pub fn with_type(y: System, time: u32, memory: u32, ceiling: u16) -> System {
             time,
             memory,
             ceiling,
+            data: 0,
         };
         z.typecount = k + 1;
     }
+    z
+}
+
+// The system with another d of its last type, where it has one to six.
+pub fn with_data(y: System, data: u32) -> System {
+    let mut z = y;
+    let k = y.typecount;
+    if k < 1 {
+        return z;
+    }
+    if 6 < k {
+        return z;
+    }
+    let last = y.types[k - 1];
+    z.types[k - 1] = TaskType {
+        time: last.time,
+        memory: last.memory,
+        ceiling: last.ceiling,
+        data,
+    };
     z
 }
 
@@ -68,9 +89,19 @@ pub fn system_full(rule: u8) -> System {
     with_type(five, 65432, 210987, 1)
 }
 
+// The same with a d for each type, by which types 5 and 6 no longer share an engine: no file that opens is longer.
+pub fn system_longest(rule: u8) -> System {
+    let one = with_type(platform_of(16, rule, 987654, 765432), 411111, 98765, 31);
+    let two = with_type(with_data(one, 12345), 432109, 87654, 1);
+    let three = with_type(with_data(two, 23456), 150001, 345678, 1);
+    let four = with_type(with_data(three, 34567), 123456, 456789, 1);
+    let five = with_type(with_data(four, 45678), 76543, 321098, 1);
+    with_data(with_type(with_data(five, 56789), 65432, 210987, 1), 67890)
+}
+
 // Two entries for a type say the same.
 fn same_task(a: TaskType, b: TaskType) -> bool {
-    (a.time == b.time) & (a.memory == b.memory) & (a.ceiling == b.ceiling)
+    (a.time == b.time) & (a.memory == b.memory) & (a.ceiling == b.ceiling) & (a.data == b.data)
 }
 
 pub fn same_system(a: System, b: System) -> bool {

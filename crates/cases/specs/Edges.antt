@@ -1,9 +1,11 @@
--- Document 01's "Edges", and a file for every row of "From the input" that a file can be refused by: what it reads as against the number that 01 writes.
+-- Document 01's "Edges", and a file for every row of "From the input" that a file can be refused by: what it reads as against the number that 01 writes,
+-- and the same of tag 3 (request 2026-03).
 use Prim.Native.Nat.{ℕ, zero, suc, _/_, _%_}
 use mathlib.Core.List.{List, [], _∷_, _++_, map}
 use mathlib.Core.Path.{_≡_}
 use lib.ListN.{replicate}
-use Rattle.system.specs.Layout.{readFile, readOutcome}
+use Rattle.system.specs.declared.TaskType.{TaskType}
+use Rattle.system.specs.Layout.{readFile, readOutcome, readSystem}
 use Rattle.system.specs.Outcome.{Outcome, accepted, refused, fromInput}
 
 -- numbers of two and of four bytes, most significant byte first
@@ -23,14 +25,20 @@ platformWith m rule u s = field 1 10 ((m ∷ rule ∷ []) ++ (four u ++ four s))
 abbrev pub typeWith : ℕ → ℕ → ℕ → List ℕ
 typeWith u s n = field 2 10 (four u ++ (four s ++ two n))
 
--- a good platform and a good type
+abbrev pub dataWith : ℕ → List ℕ
+dataWith d = field 3 4 (four d)
+
+-- a good platform, a good type, and a good type with its d
 abbrev pub goodPlatform : List ℕ
 goodPlatform = platformWith 3 0 10 8
 
 abbrev pub goodType : List ℕ
 goodType = typeWith 4 3 1
 
--- the file with this many good types
+abbrev pub goodBoth : List ℕ
+goodBoth = goodType ++ dataWith 5
+
+-- the file with these types
 unfoldable pub typesOf : List (List ℕ) → List ℕ
 typesOf [] = []
 typesOf (t ∷ ts) = t ++ typesOf ts
@@ -54,36 +62,53 @@ edges =
     ∷ edge (withTypes (typeWith 4 3 31 ∷ typeWith 4 3 31 ∷ [])) 0
     ∷ edge (withTypes (replicate 6 goodType)) 0
     ∷ edge (withTypes (typeWith 0 0 0 ∷ [])) 0
+    ∷ edge (withTypes (goodType ∷ dataWith 0 ∷ goodType ∷ [])) 0
+    ∷ edge (withTypes (goodType ∷ dataWith 1000000 ∷ [])) 0
+    ∷ edge (withTypes (replicate 6 goodBoth)) 0
     ∷ edge (1 ∷ []) 1
     ∷ edge (withTypes (goodType ∷ (2 ∷ 0 ∷ []) ∷ [])) 1
     ∷ edge (field 1 10 (3 ∷ 0 ∷ four 10)) 1
     ∷ edge (withTypes (field 2 10 (four 4 ++ four 3) ∷ [])) 1
+    ∷ edge (withTypes (goodType ∷ (3 ∷ 0 ∷ []) ∷ [])) 1
+    ∷ edge (withTypes (goodType ∷ field 3 4 (0 ∷ two 5) ∷ [])) 1
     ∷ edge (field 0 10 [] ++ goodType) 2
-    ∷ edge (withTypes (field 3 10 [] ∷ [])) 2
+    ∷ edge (withTypes (goodBoth ∷ field 4 2 (two 1) ∷ [])) 2
     ∷ edge goodType 3
     ∷ edge (goodPlatform ++ goodPlatform) 3
     ∷ edge (withTypes (goodType ∷ goodPlatform ∷ [])) 3
+    ∷ edge (dataWith 5) 3
+    ∷ edge (withTypes (field 3 5 [] ∷ [])) 3
+    ∷ edge (withTypes (dataWith 5 ∷ goodType ∷ [])) 3
+    ∷ edge (withTypes (goodBoth ∷ dataWith 5 ∷ [])) 3
+    ∷ edge (withTypes (goodBoth ∷ goodPlatform ∷ [])) 3
     ∷ edge (field 1 9 []) 4
     ∷ edge (withTypes (field 2 11 [] ∷ [])) 4
+    ∷ edge (withTypes (goodType ∷ field 3 5 [] ∷ [])) 4
     ∷ edge (platformWith 0 2 1000001 8 ++ goodType) 5
     ∷ edge (platformWith 17 0 10 8 ++ goodType) 5
     ∷ edge (platformWith 3 2 1000001 8 ++ goodType) 6
     ∷ edge (withTypes (replicate 7 goodType)) 7
+    ∷ edge (withTypes (replicate 6 goodBoth ++ (typeWith 1000001 3 1 ∷ []))) 7
     ∷ edge (platformWith 3 0 1000001 8 ++ goodType) 8
     ∷ edge (platformWith 3 0 10 1000001 ++ goodType) 8
     ∷ edge (withTypes (typeWith 1000001 3 1 ∷ [])) 8
     ∷ edge (withTypes (typeWith 4 1000001 1 ∷ [])) 8
+    ∷ edge (withTypes (goodType ∷ dataWith 1000001 ∷ [])) 8
     ∷ edge [] 9
     ∷ edge goodPlatform 9
     ∷ edge (withTypes (typeWith 4 3 1024 ∷ [])) 10
     ∷ edge (withTypes (typeWith 4 3 31 ∷ typeWith 4 3 32 ∷ [])) 10
     ∷ []
 
--- what 01 writes, as an outcome
+-- the number as an outcome
 abbrev pub told : ℕ → Outcome
 told zero = accepted []
 told (suc n) = refused fromInput (suc n)
 
--- every file comes to what 01 writes
+-- every file comes to what the papers write
 abbrev pub EdgesHold : List Edge → Type 0
 EdgesHold es = map (λ (e : Edge). readOutcome (readFile (e .file))) es ≡ map (λ (e : Edge). told (e .comesTo)) es
+
+-- the file's types have these d, 0 past k
+abbrev pub DataRead : List ℕ → List ℕ → Type 0
+DataRead file ds = map (λ (t : TaskType). t .data) (readSystem (readFile file) .types) ≡ ds

@@ -1,15 +1,15 @@
--- Worked examples of our own beside W1 to W12: a recovery with three different loads, and what a cell holds that says no.
+-- Worked examples of our own beside W1 to W12: a recovery with three different loads, what a cell holds that says no, and systems with d.
 use Prim.Native.Nat.{ℕ}
 use mathlib.Core.List.{List, [], _∷_, _++_, map}
 use lib.ListN.{take, replicate}
 use Rattle.system.specs.Layout.{readFile}
-use Rattle.system.specs.Outcome.{Outcome}
+use Rattle.system.specs.Outcome.{Outcome, refused, fromInput}
 use Rattle.loads.specs.declared.EngineLoad.{EngineLoad}
 use Rattle.planner.specs.Plan.{verdictOf, planOutcome, planLoads}
 use Rattle.board.specs.Boards.{openedBoard}
-use Rattle.ledger.specs.Ledger.{Call, admit, seat, repack, freshLedger, ledgerAfter}
+use Rattle.ledger.specs.Ledger.{Call, admit, seat, retire, repack, freshLedger, ledgerAfter}
 use Rattle.ledger.specs.Demand3.{Request, Made, boardAfter, answersOf, played}
-use Rattle.cases.specs.Cases.{platform, taskType, systemOf, systemA, entryAt, Case, case, number, lines, outcome, outcomes, done, on}
+use Rattle.cases.specs.Cases.{platform, taskType, fileB, systemOf, systemA, entryAt, planAnswer, planLines, answers, boardLines, Case, case, number, lines, outcome, outcomes, done, on}
 
 -- system C: m 4, rule 0, U 10, S 9, and three types, each with n 2: u 5, s 2; u 2, s 3; u 4, s 4
 abbrev pub fileC : List ℕ
@@ -43,6 +43,17 @@ fitted = (9 ∷ 8 ∷ 1 ∷ 2 ∷ 0 ∷ []) ∷ (9 ∷ 6 ∷ 1 ∷ 0 ∷ 1 ∷ [
 abbrev pub recoveredC : List (List ℕ)
 recoveredC = (5 ∷ 2 ∷ 1 ∷ 0 ∷ 0 ∷ []) ∷ (9 ∷ 8 ∷ 1 ∷ 2 ∷ 0 ∷ []) ∷ (8 ∷ 8 ∷ 0 ∷ 0 ∷ 2 ∷ []) ∷ (0 ∷ 0 ∷ 0 ∷ 0 ∷ 0 ∷ []) ∷ []
 
+-- system B of document 01, m 4, with the field of d after its type, d below 256: U 10, S 8, u 2, s 5, n 4
+abbrev pub fileD : ℕ → ℕ → List ℕ
+fileD rule d = fileB 4 rule ++ (3 ∷ 0 ∷ 4 ∷ 0 ∷ 0 ∷ 0 ∷ d ∷ [])
+
+-- rule 1, d 1: an engine holds c of it while 5 + c ≤ 8, so three. The fourth goes to engine 2; then one leaves engine 1, and the only one engine 2
+abbrev pub callsD : List Call
+callsD = admit 1 ∷ admit 1 ∷ admit 1 ∷ admit 1 ∷ retire 1 1 ∷ []
+
+abbrev pub afterD : List Call
+afterD = callsD ++ (retire 1 2 ∷ [])
+
 unfoldable pub ours : List Case
 ours =
     case 1 (outcome (planOutcome (verdictOf (readFile fileC) lentC 4))) (outcome (on 3))
@@ -54,4 +65,14 @@ ours =
     ∷ case 3 (lines (countedC (fiveC ++ (seat 3 ∷ [])))) (lines ((1 ∷ 0 ∷ 0 ∷ []) ∷ (1 ∷ 2 ∷ 0 ∷ []) ∷ (0 ∷ 0 ∷ 2 ∷ []) ∷ (0 ∷ 0 ∷ 0 ∷ []) ∷ []))
     -- W1 again: row 1 of system A does not say yes at column 3
     ∷ case 4 (number (entryAt systemA 1 3)) (number 65535)
+    -- rule 1, d 1: two engines, as 5 + 4 passes 8. The lowest predecessor leaves three to engine 2
+    ∷ case 5 (outcome (planAnswer (fileD 1 1))) (outcome (on 2))
+    ∷ case 5 (lines (planLines 3 (fileD 1 1))) (lines ((2 ∷ 6 ∷ 1 ∷ 0 ∷ []) ∷ (6 ∷ 8 ∷ 3 ∷ 0 ∷ []) ∷ (0 ∷ 0 ∷ 0 ∷ 0 ∷ []) ∷ []))
+    -- a retire frees d, 8 to 7, and s with the last of its type, 6 to 0
+    ∷ case 6 (outcomes (answers (fileD 1 1) callsD)) (outcomes (on 1 ∷ on 1 ∷ on 1 ∷ on 2 ∷ done ∷ []))
+    ∷ case 6 (lines (boardLines 2 (fileD 1 1) callsD)) (lines ((4 ∷ 7 ∷ 2 ∷ 0 ∷ []) ∷ (2 ∷ 6 ∷ 1 ∷ 0 ∷ []) ∷ []))
+    ∷ case 6 (lines (boardLines 2 (fileD 1 1) afterD)) (lines ((4 ∷ 7 ∷ 2 ∷ 0 ∷ []) ∷ (0 ∷ 0 ∷ 0 ∷ 0 ∷ []) ∷ []))
+    -- rule 0, d 3: one for each engine, with 5 + 3 of memory; d 4: none, as 5 + 4 passes 8
+    ∷ case 7 (lines (planLines 4 (fileD 0 3))) (lines (replicate 4 (2 ∷ 8 ∷ 1 ∷ 0 ∷ [])))
+    ∷ case 8 (outcome (planAnswer (fileD 0 4))) (outcome (refused fromInput 12))
     ∷ []

@@ -55,12 +55,12 @@ text-promised {file = file} {table = table} size promises =
       };
     }
 
--- the first 128 bytes decide: their text is that of the whole file
-pub text-prefix : (file : List ℕ) → fileText (take 128 file) ≡ fileText file
+-- the first 256 bytes decide: their text is that of the whole file
+pub text-prefix : (file : List ℕ) → fileText (take 256 file) ≡ fileText file
 text-prefix file = ap (λ (x : Reading). verdictListing (readingVerdict x)) (read-prefix file)
 
 -- and so is all that is said of it
-pub prefix-promised : {front file old new : List ℕ} {r : ℕ} → front ≡ take 128 file → TextPromises front old new r → TextPromises file old new r
+pub prefix-promised : {front file old new : List ℕ} {r : ℕ} → front ≡ take 256 file → TextPromises front old new r → TextPromises file old new r
 prefix-promised {front = front} {file = file} first promises =
     let same : readFile front ≡ readFile file = ap readFile first ∙ read-prefix file in
     let text : fileText front ≡ fileText file = ap fileText first ∙ text-prefix file in

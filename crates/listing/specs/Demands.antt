@@ -73,7 +73,7 @@ pub record TellsRecords (used k : ℕ) (loads : List EngineLoad) (text : List �
   pub inDecimal : (n : ℕ) → InDecimal n (spelt n)
   pub lines : text ≡ planText spelt used (recordText spelt k loads)
 
--- what the instances on engine e take of its memory: s of each instance under rule 0, s of each type of which one is there under rule 1
+-- what the instances on engine e take of its memory: s and d of each instance under rule 0; s of each type of which one is there and d of each instance under rule 1
 abbrev pub memoryUnder : System → Assignment → ℕ → ℕ
 memoryUnder y χ e = cond (eqb (y .rule) 0) (memoryOn e (y .types) χ) (sharedMemoryOn e (y .types) χ)
 

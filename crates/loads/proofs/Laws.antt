@@ -1,7 +1,7 @@
 -- Laws of time, memory and fit: of the empty load, of a smaller load, of two loads together, and of one instance more or less.
 -- Each is proved once of the sum over the types; time and memory are instances of it.
 use Prim.Native.Nat.{ℕ, zero, suc, _+_, _-_, _*_, _≤_, _<_, zero-le}
-use mathlib.Core.Path.{_≡_, refl, ap}
+use mathlib.Core.Path.{_≡_, refl, sym, ap, _∙_}
 use mathlib.Core.List.{List, [], _∷_}
 use mathlib.Core.Bool.{Bool, true, false, cond, false≢true}
 use native.Mathlib.Nat.{zero-mul, mul-zero, add-mul, mul-le-mul-right, add-le-add, sub-le, le-refl, le-trans, le-of-suc-le-suc, not-suc-le-zero, suc-inj}
@@ -90,39 +90,57 @@ one-more-times n u = omega (arith, add-mul n 1 u)
 one-less-times : (n u : ℕ) → 1 ≤ n → (n - 1) * u + u ≡ n * u
 one-less-times n u h = omega (arith, add-mul (n - 1) 1 u, ap (λ (k : ℕ). k * u) (sub-add-cancel h))
 
+no-times : (n u : ℕ) → n ≡ 0 → n * u ≡ 0
+no-times n u e = ap (λ (k : ℕ). k * u) e ∙ zero-mul u
+
+-- what x instances take where there is one: x own copies of code and data, or one copy of the code and x of the data
+abbrev ownCopies : TaskType → ℕ → ℕ
+ownCopies t x = x * (t .memory + t .data)
+
+abbrev sharedCode : TaskType → ℕ → ℕ
+sharedCode t x = t .memory + x * t .data
+
 -- each instance has a copy of the code
-abbrev ownCopies : ℕ → Bool
-ownCopies rule = eqb rule 0
+abbrev isOwn : ℕ → Bool
+isOwn rule = eqb rule 0
+
+abbrev isNone : ℕ → Bool
+isNone x = eqb x 0
 
 pub memoryAt-none : (rule : ℕ) (t : TaskType) → memoryAt rule t 0 ≡ 0
-memoryAt-none rule t = go (ownCopies rule)
-  where
-    go : (b : Bool) → cond b (0 * t .memory) 0 ≡ 0
-    go true = zero-mul (t .memory)
-    go false = refl
+memoryAt-none rule t = refl
 
 memoryAt-noTask : (rule x : ℕ) → memoryAt rule noTask x ≡ 0
-memoryAt-noTask rule x = go (ownCopies rule) (eqb x 0)
+memoryAt-noTask rule x = go (isNone x) (isOwn rule)
   where
-    go : (b e : Bool) → cond b (x * 0) (cond e 0 0) ≡ 0
-    go true e = mul-zero x
-    go false true = refl
-    go false false = refl
+    go : (e b : Bool) → cond e 0 (cond b (ownCopies noTask x) (sharedCode noTask x)) ≡ 0
+    go true b = refl
+    go false true = mul-zero x
+    go false false = omega (arith, mul-zero x)
 
 memoryAt-le : (rule : ℕ) (t : TaskType) (x z : ℕ) → x ≤ z → memoryAt rule t x ≤ memoryAt rule t z
-memoryAt-le rule t x z h = go (ownCopies rule) (eqb x 0) (eqb z 0) refl refl
+memoryAt-le rule t x z h = go (isNone x) (isNone z) (isOwn rule) refl refl
   where
-    go : (b e f : Bool) → eqb x 0 ≡ e → eqb z 0 ≡ f → cond b (x * t .memory) (cond e 0 (t .memory)) ≤ cond b (z * t .memory) (cond f 0 (t .memory))
-    go true e f p q = mul-le-mul-right (t .memory) h
-    go false true f p q = zero-le
-    go false false true p q = absurd (eqb-false x 0 p (omega (arith, eqb-true z 0 q)))
-    go false false false p q = le-refl (t .memory)
+    go : (e f b : Bool) → isNone x ≡ e → isNone z ≡ f → cond e 0 (cond b (ownCopies t x) (sharedCode t x)) ≤ cond f 0 (cond b (ownCopies t z) (sharedCode t z))
+    go true f b p q = zero-le
+    go false true b p q = absurd (eqb-false x 0 p (omega (arith, eqb-true z 0 q)))
+    go false false true p q = mul-le-mul-right (t .memory + t .data) h
+    go false false false p q = omega (arith, mul-le-mul-right (t .data) h)
 
-shared-some : (t : TaskType) (x : ℕ) → 1 ≤ x → memoryAt 1 t x ≡ t .memory
-shared-some t x h = ap (λ (b : Bool). cond b 0 (t .memory)) (ne-eqb x 0 (λ e. omega arith))
+-- "c × (s + d) under rule 0": none at all too, which take 0
+pub own-all : (t : TaskType) (x : ℕ) → memoryAt 0 t x ≡ x * (t .memory + t .data)
+own-all t x = go (isNone x) refl
+  where
+    go : (e : Bool) → isNone x ≡ e → cond e 0 (ownCopies t x) ≡ ownCopies t x
+    go true p = sym (ap (ownCopies t) (eqb-true x 0 p) ∙ zero-mul (t .memory + t .data))
+    go false p = refl
+
+-- "s + c × d under rule 1", of an engine that holds one
+pub shared-some : (t : TaskType) (x : ℕ) → 1 ≤ x → memoryAt 1 t x ≡ t .memory + x * t .data
+shared-some t x h = ap (λ (e : Bool). cond e 0 (sharedCode t x)) (ne-eqb x 0 (λ e. omega arith))
 
 shared-none : (t : TaskType) (x : ℕ) → x ≡ 0 → memoryAt 1 t x ≡ 0
-shared-none t x e = ap (λ (b : Bool). cond b 0 (t .memory)) (eq-eqb x 0 e)
+shared-none t x e = ap (λ (b : Bool). cond b 0 (sharedCode t x)) (eq-eqb x 0 e)
 
 -- main: fit is a bound on time and one on memory
 
@@ -197,27 +215,35 @@ module _ (ts : List TaskType) (x : List ℕ) (i : ℕ) where
   pub time-one-less : 1 ≤ getD x i 0 → timeOf ts (oneLess i x) + getD ts i noTask .time ≡ timeOf ts x
   time-one-less h = sum-one-less timeAt timeAt-noTask ts x i (t .time) h (one-less-times n (t .time) h)
 
-  -- rule 0, own copies: each instance has its s
-  pub memory-one-more-own : i < length x → memoryOf 0 ts (oneMore i x) ≡ memoryOf 0 ts x + getD ts i noTask .memory
-  memory-one-more-own h = sum-one-more (memoryAt 0) (memoryAt-noTask 0) ts x i (t .memory) h (one-more-times n (t .memory))
+  -- rule 0, own copies: each instance has its s and its d
+  pub memory-one-more-own : i < length x → memoryOf 0 ts (oneMore i x) ≡ memoryOf 0 ts x + (getD ts i noTask .memory + getD ts i noTask .data)
+  memory-one-more-own h =
+      sum-one-more (memoryAt 0) (memoryAt-noTask 0) ts x i (t .memory + t .data) h
+      (omega (arith, own-all t n, own-all t (n + 1), one-more-times n (t .memory + t .data)))
 
-  pub memory-one-less-own : 1 ≤ getD x i 0 → memoryOf 0 ts (oneLess i x) + getD ts i noTask .memory ≡ memoryOf 0 ts x
-  memory-one-less-own h = sum-one-less (memoryAt 0) (memoryAt-noTask 0) ts x i (t .memory) h (one-less-times n (t .memory) h)
+  pub memory-one-less-own : 1 ≤ getD x i 0 → memoryOf 0 ts (oneLess i x) + (getD ts i noTask .memory + getD ts i noTask .data) ≡ memoryOf 0 ts x
+  memory-one-less-own h =
+      sum-one-less (memoryAt 0) (memoryAt-noTask 0) ts x i (t .memory + t .data) h
+      (omega (arith, own-all t n, own-all t (n - 1), one-less-times n (t .memory + t .data) h))
 
-  -- rule 1, shared code: only the first instance of a type brings its s, only the last takes it away
-  pub memory-one-more-shared-first : i < length x → getD x i 0 ≡ 0 → memoryOf 1 ts (oneMore i x) ≡ memoryOf 1 ts x + getD ts i noTask .memory
+  -- rule 1, shared code: each instance brings its d and takes it away; only the first of a type brings its s too, only the last takes it away
+  pub memory-one-more-shared-first : i < length x → getD x i 0 ≡ 0 →
+      memoryOf 1 ts (oneMore i x) ≡ memoryOf 1 ts x + (getD ts i noTask .memory + getD ts i noTask .data)
   memory-one-more-shared-first h e =
-      sum-one-more (memoryAt 1) (memoryAt-noTask 1) ts x i (t .memory) h (omega (arith, shared-none t n e, shared-some t (n + 1) (omega arith)))
+      sum-one-more (memoryAt 1) (memoryAt-noTask 1) ts x i (t .memory + t .data) h
+      (omega (arith, shared-none t n e, shared-some t (n + 1) (omega arith), one-more-times n (t .data), no-times n (t .data) e))
 
-  pub memory-one-more-shared-kept : 1 ≤ getD x i 0 → memoryOf 1 ts (oneMore i x) ≡ memoryOf 1 ts x
+  pub memory-one-more-shared-kept : 1 ≤ getD x i 0 → memoryOf 1 ts (oneMore i x) ≡ memoryOf 1 ts x + getD ts i noTask .data
   memory-one-more-shared-kept h =
-      omega (arith, sum-one-more (memoryAt 1) (memoryAt-noTask 1) ts x i 0 (held-in x i h) (omega (arith, shared-some t n h, shared-some t (n + 1) (omega arith))))
+      sum-one-more (memoryAt 1) (memoryAt-noTask 1) ts x i (t .data) (held-in x i h)
+      (omega (arith, shared-some t n (omega arith), shared-some t (n + 1) (omega arith), one-more-times n (t .data)))
 
-  pub memory-one-less-shared-kept : 2 ≤ getD x i 0 → memoryOf 1 ts (oneLess i x) ≡ memoryOf 1 ts x
+  pub memory-one-less-shared-kept : 2 ≤ getD x i 0 → memoryOf 1 ts (oneLess i x) + getD ts i noTask .data ≡ memoryOf 1 ts x
   memory-one-less-shared-kept h =
-      omega (arith, sum-one-less (memoryAt 1) (memoryAt-noTask 1) ts x i 0 (omega arith) (omega (arith, shared-some t n (omega arith), shared-some t (n - 1) (omega arith))))
+      sum-one-less (memoryAt 1) (memoryAt-noTask 1) ts x i (t .data) (omega arith)
+      (omega (arith, shared-some t n (omega arith), shared-some t (n - 1) (omega arith), one-less-times n (t .data) (omega arith)))
 
-  pub memory-one-less-shared-freed : getD x i 0 ≡ 1 → memoryOf 1 ts (oneLess i x) + getD ts i noTask .memory ≡ memoryOf 1 ts x
+  pub memory-one-less-shared-freed : getD x i 0 ≡ 1 → memoryOf 1 ts (oneLess i x) + (getD ts i noTask .memory + getD ts i noTask .data) ≡ memoryOf 1 ts x
   memory-one-less-shared-freed e =
-      sum-one-less (memoryAt 1) (memoryAt-noTask 1) ts x i (t .memory) (omega arith)
-      (omega (arith, shared-some t n (omega arith), shared-none t (n - 1) (omega arith)))
+      sum-one-less (memoryAt 1) (memoryAt-noTask 1) ts x i (t .memory + t .data) (omega arith)
+      (omega (arith, shared-some t n (omega arith), shared-none t (n - 1) (omega arith), one-less-times n (t .data) (omega arith), no-times (n - 1) (t .data) (omega arith)))

@@ -33,15 +33,15 @@ fn cost(count: u16, each: u32) -> u64
 
 // What `count` instances of one type take of an engine's memory.
 fn memory_at(rule: u8, task: TaskType, count: u16) -> u64
-    ensures { λ r. ⌜ (r ≡ memoryAt rule task count) × (r ≤ 2 ^ 48) ⌝ }
+    ensures { λ r. ⌜ (r ≡ memoryAt rule task count) × (r ≤ 2 ^ 49) ⌝ }
 {
-    if rule == 0 {
-        return cost(count, task.memory);
-    }
     if count == 0 {
         return 0;
     }
-    task.memory as u64
+    if rule == 0 {
+        return (count as u64) * (task.memory as u64 + task.data as u64);
+    }
+    task.memory as u64 + cost(count, task.data)
 }
 
 // Both sums of a load, over its types.

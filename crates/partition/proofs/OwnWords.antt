@@ -13,7 +13,7 @@ use Rattle.system.specs.declared.TaskType.{TaskType}
 use Rattle.system.specs.declared.System.{System}
 use Rattle.loads.specs.Load.{sumOver, timeAt, timeOf, memoryAt, memoryOf, fitsEngine}
 use Rattle.loads.proofs.Order.{and-both}
-use Rattle.loads.proofs.Laws.{fits-of, fits-time, fits-memory}
+use Rattle.loads.proofs.Laws.{own-all, fits-of, fits-time, fits-memory}
 use Rattle.partition.specs.Assignment.{Assignment, countOn, loadOn, among, every, good}
 use Rattle.partition.specs.OwnWords.{overInstances, sumOn, timeOn, memoryOn, sharedMemoryOn, placeOf, Definition1}
 use Rattle.partition.proofs.Shares.{good-parts}
@@ -40,7 +40,23 @@ shared-count e each (place ∷ places) = go (eqb place e) (shared-count e each p
     go true h = rw (eqb·suc-zero (countOn e places))
     go false h = h
 
+-- one copy of the code where an instance is there, and the data of each
+shared-places : (e : ℕ) (t : TaskType) (places : List ℕ) → cond (among places e) (t .memory) 0 + overInstances e (t .data) places ≡ memoryAt 1 t (countOn e places)
+shared-places e t places = rw (shared-count e (t .memory) places, overInstances-count e (t .data) places) (go (eqb (countOn e places) 0) refl)
+  where
+    go : (b : Bool) → eqb (countOn e places) 0 ≡ b →
+        cond b 0 (t .memory) + countOn e places * t .data ≡ cond b 0 (t .memory + countOn e places * t .data)
+    go true q = rw (eqb-true (countOn e places) 0 q) (omega (arith, zero-mul (t .data)))
+    go false q = refl
+
 -- main: the sums over instances are time and memory of the load
+
+-- two sums over the types are the sum of both
+sumOn-both : (f g : TaskType → List ℕ → ℕ) (types : List TaskType) (χ : Assignment) → sumOn f types χ + sumOn g types χ ≡ sumOn (λ t places. f t places + g t places) types χ
+unfolding sumOn
+sumOn-both f g [] χ = refl
+sumOn-both f g (t ∷ types) [] = refl
+sumOn-both f g (t ∷ types) (places ∷ χ) = omega (arith, sumOn-both f g types χ)
 
 -- the two sums agree where they agree on each type
 module _ (e : ℕ) (on : TaskType → List ℕ → ℕ) (each : TaskType → ℕ → ℕ) (same : (t : TaskType) (places : List ℕ) → on t places ≡ each t (countOn e places)) where
@@ -54,10 +70,14 @@ pub timeOn-timeOf : (e : ℕ) (types : List TaskType) (χ : Assignment) → time
 timeOn-timeOf e = sumOn-sumOver e (λ t places. overInstances e (t .time) places) timeAt (λ t. overInstances-count e (t .time))
 
 pub memoryOn-memoryOf : (e : ℕ) (types : List TaskType) (χ : Assignment) → memoryOn e types χ ≡ memoryOf 0 types (loadOn e χ)
-memoryOn-memoryOf e = sumOn-sumOver e (λ t places. overInstances e (t .memory) places) (memoryAt 0) (λ t. overInstances-count e (t .memory))
+memoryOn-memoryOf e =
+    sumOn-sumOver e (λ t places. overInstances e (t .memory + t .data) places) (memoryAt 0)
+    (λ t places. overInstances-count e (t .memory + t .data) places ∙ sym (own-all t (countOn e places)))
 
 pub sharedMemoryOn-memoryOf : (e : ℕ) (types : List TaskType) (χ : Assignment) → sharedMemoryOn e types χ ≡ memoryOf 1 types (loadOn e χ)
-sharedMemoryOn-memoryOf e = sumOn-sumOver e (λ t places. cond (among places e) (t .memory) 0) (memoryAt 1) (λ t. shared-count e (t .memory))
+sharedMemoryOn-memoryOf e types χ =
+    sumOn-both (λ t places. cond (among places e) (t .memory) 0) (λ t places. overInstances e (t .data) places) types χ
+    ∙ sumOn-sumOver e (λ t places. cond (among places e) (t .memory) 0 + overInstances e (t .data) places) (memoryAt 1) (shared-places e) types χ
 
 -- main: good says Definition 1
 

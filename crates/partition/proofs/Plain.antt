@@ -57,10 +57,10 @@ module _ (y : System) where
     capacities = (l .time, l .memory);
     known = (l .some-type, l .typecount);
     six = l .six;
-    costs = λ t low high. (l .sized (t - 1) .time, l .sized (t - 1) .memory);
+    costs = λ t low high. (l .sized (t - 1) .time, l .sized (t - 1) .memory, l .sized (t - 1) .data);
     past = λ t h.
         let none = l .past (t - 1) (omega arith) in
-        (ap (λ (task : TaskType). task .time) none, ap (λ (task : TaskType). task .memory) none, ap (λ (task : TaskType). task .ceiling) none);
+        (ap (λ (task : TaskType). task .time) none, ap (λ (task : TaskType). task .memory) none, ap (λ (task : TaskType). task .ceiling) none, ap (λ (task : TaskType). task .data) none);
     columns = rw (columns-out y (l .six)) (l .columns);
   }
 
@@ -83,14 +83,14 @@ module _ (y : System) where
       none i h =
           let p = l .past (suc i) (omega arith) in
           let same : suc i - 1 ≡ i = omega arith in
-          subst (λ (j : ℕ). getD (y .types) j noTask ≡ noTask) same (λ z. record { time = p .0 z; memory = p .1 z; ceiling = p .2 z })
+          subst (λ (j : ℕ). getD (y .types) j noTask ≡ noTask) same (λ z. record { time = p .0 z; memory = p .1 z; ceiling = p .2 z; «data» = p .3 z })
 
       go : (i : ℕ) (b : Bool) → ltb i (y .typecount) ≡ b → Sized (getD (y .types) i noTask)
       go i true q =
           let c = l .costs (suc i) (omega arith) (ltb-true i (y .typecount) q) in
           let same : suc i - 1 ≡ i = omega arith in
-          subst (λ (j : ℕ). Sized (getD (y .types) j noTask)) same (record { time = c .0; memory = c .1 })
-      go i false q = rw (none i (ltb-false i (y .typecount) q)) (record { time = omega arith; memory = omega arith })
+          subst (λ (j : ℕ). Sized (getD (y .types) j noTask)) same (record { time = c .0; memory = c .1; «data» = c .2 })
+      go i false q = rw (none i (ltb-false i (y .typecount) q)) (record { time = omega arith; memory = omega arith; «data» = omega arith })
 
   -- the code's test of the limits is this
   pub limits-out : (keepsLimits y ≡ true) ↔ LimitsOut y

@@ -10,7 +10,7 @@ use Rattle.system.specs.declared.TaskType.{TaskType}
 use Rattle.system.specs.declared.System.{System}
 use Rattle.partition.specs.Assignment.{Assignment, among}
 
--- the number `each`, u or s of a type, summed over the single instances of that type that are on engine e
+-- the number `each`, as u, s or d of a type, summed over the single instances of that type that are on engine e
 unfoldable pub overInstances : ℕ → ℕ → List ℕ → ℕ
 overInstances e each [] = 0
 overInstances e each (place ∷ places) = cond (eqb place e) each 0 + overInstances e each places
@@ -25,13 +25,21 @@ sumOn each (t ∷ types) (places ∷ χ) = each t places + sumOn each types χ
 abbrev pub timeOn : ℕ → List TaskType → Assignment → ℕ
 timeOn e types χ = sumOn (λ (t : TaskType) (places : List ℕ). overInstances e (t .time) places) types χ
 
--- s summed over all instances on engine e
+-- s + d summed over all instances on engine e
 abbrev pub memoryOn : ℕ → List TaskType → Assignment → ℕ
-memoryOn e types χ = sumOn (λ (t : TaskType) (places : List ℕ). overInstances e (t .memory) places) types χ
+memoryOn e types χ = sumOn (λ (t : TaskType) (places : List ℕ). overInstances e (t .memory + t .data) places) types χ
 
 -- s summed over the distinct types of which some instance is on engine e
+abbrev pub codeOn : ℕ → List TaskType → Assignment → ℕ
+codeOn e types χ = sumOn (λ (t : TaskType) (places : List ℕ). cond (among places e) (t .memory) 0) types χ
+
+-- d summed over all instances on engine e
+abbrev pub dataOn : ℕ → List TaskType → Assignment → ℕ
+dataOn e types χ = sumOn (λ (t : TaskType) (places : List ℕ). overInstances e (t .data) places) types χ
+
+-- s over the distinct types, and d over the instances
 abbrev pub sharedMemoryOn : ℕ → List TaskType → Assignment → ℕ
-sharedMemoryOn e types χ = sumOn (λ (t : TaskType) (places : List ℕ). cond (among places e) (t .memory) 0) types χ
+sharedMemoryOn e types χ = codeOn e types χ + dataOn e types χ
 
 -- the engine of instance j of type t, both from 0
 abbrev pub placeOf : Assignment → ℕ → ℕ → ℕ
@@ -43,7 +51,7 @@ pub record Definition1 (y : System) (E : ℕ → Type 0) (χ : Assignment) : Typ
   pub placed : (t j : ℕ) → t < length χ → j < length (getD χ t []) → E (placeOf χ t j)
   -- on each engine the u of the instances sent there sum to at most U
   pub time : (e : ℕ) → E e → timeOn e (y .types) χ ≤ y .timecap
-  -- rule 0, own copies: the s of the instances sent there sum to at most S
+  -- rule 0, own copies: the s + d of the instances sent there sum to at most S
   pub ownCopies : y .rule ≡ 0 → (e : ℕ) → E e → memoryOn e (y .types) χ ≤ y .memorycap
-  -- rule 1, shared code: the s of the distinct types among them sum to at most S
+  -- rule 1, shared code: the s of the distinct types among them and the d of the instances sum to at most S
   pub sharedCode : y .rule ≡ 1 → (e : ℕ) → E e → sharedMemoryOn e (y .types) χ ≤ y .memorycap

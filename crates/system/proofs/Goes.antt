@@ -4,7 +4,6 @@ use native.Mathlib.Omega.{arith}
 use mathlib.Core.List.{List, [], _∷_}
 use mathlib.Core.Bool.{Bool, true, false, not, cond}
 use mathlib.Core.Path.{_≡_, sym, ap, _∙_, subst}
-use mathlib.Core.Logic.{_⊎_, inl, inr}
 use borrow.Author.Tests.{le-leb, lt-leb, eq-eqb, ne-eqb}
 use lib.ListN.{length, drop, length-drop, drop-of-length-le}
 use lib.Seq.{drop-drop}
@@ -18,13 +17,14 @@ use Rattle.system.specs.declared.reader.Head.the-variants.{Ruled, Stops}
 use Rattle.system.specs.declared.reader.Field.{Field}
 use Rattle.system.specs.declared.Answer.the-variants.{Accepted}
 use Rattle.system.specs.declared.Opened.{Opened}
-use Rattle.system.specs.Inner.{partOf}
+use Rattle.system.specs.Inner.{partOf, Typed, Placed}
 use Rattle.system.specs.Values.{blank}
 use Rattle.system.specs.Limits.{typeLimit}
-use Rattle.system.specs.Rules.{platformRule, typeRule, fieldRules, ruleOf, follows, mayFollow, headSize}
-use Rattle.system.specs.Layout.{Reading, opened, unread, byteAt, word2, fieldSize, wholeField, bodyPart, fieldAt, bodyAt, seenOf, platformOf, typeOf}
+use Rattle.system.specs.Rules.{typeRule, dataRule, fieldRules, ruleOf, follows, mayFollow, headSize}
+use Rattle.system.specs.Layout.{Reading, opened, unread, byteAt, word2, fieldSize, wholeField, bodyPart, fieldAt, bodyAt, seenOf, platformOf, typeOf, dataOf}
 use Rattle.system.specs.Layout.{ruledHead, headFrom, headOf, bodyOf, ruledField, fieldOf, endOf, afterField, fieldsFrom, readFile, Reads}
-use Rattle.system.proofs.Laws.{whole-inside, body-is, headFrom-ruled, fieldOf-opened, fieldsFrom-nil, only-accepted, reads-opened}
+use Rattle.system.proofs.Laws.{whole-inside, body-is, OneOf, a-platform, a-type, a-data, data-after-type, headFrom-ruled, fieldOf-opened, fieldsFrom-nil, only-accepted, reads-opened}
+use Rattle.system.proofs.Laws.{Sound, sound-blank, sound-field}
 
 -- The field step, where s is what is left of the file
 
@@ -103,13 +103,20 @@ module _ (headed : Bool) (tag size : ℕ) (whole : Bool) (last : ℕ) (found : R
       unfolding ruledHead
       head-ruled e w = rw (head-found, known, place, eq-eqb size (rule .body) e, w)
 
--- no rule allows more than six
-pub ruled-six : (headed : Bool) (tag size : ℕ) (whole : Bool) (last : ℕ) {rule : FieldRule} → Ruled rule ≡ headFrom headed tag size whole last → rule .allowed ≤ typeLimit
-ruled-six headed tag size whole last {rule = rule} e = at (headFrom-ruled headed tag size whole last rule (sym e) .rule .which)
-  where
-    at : (rule ≡ platformRule) ⊎ (rule ≡ typeRule) → rule .allowed ≤ typeLimit
-    at (inl w) = rw w (lit≤ tt)
-    at (inr w) = rw w (lit≤ tt)
+-- no rule allows more than six, and d comes where there is a type to have it
+rule-six : (rule : FieldRule) → OneOf rule → rule .allowed ≤ typeLimit
+rule-six rule (a-platform w) = rw w (lit≤ tt)
+rule-six rule (a-type w) = rw w (lit≤ tt)
+rule-six rule (a-data w) = rw w (lit≤ tt)
+
+pub ruled-placed : (headed : Bool) (tag size : ℕ) (whole : Bool) (last : ℕ) (y : System) {rule : FieldRule} → (1 < last → Typed y)
+    → Ruled rule ≡ headFrom headed tag size whole last → Placed rule y
+ruled-placed headed tag size whole last y {rule = rule} typed e =
+    let p = headFrom-ruled headed tag size whole last rule (sym e) in
+    record {
+      allowed = rule-six rule (p .rule .which);
+      typed = λ d. let after = data-after-type last .0 (rw d at (p .place)) in typed (omega arith);
+    }
 
 -- A body
 
@@ -122,9 +129,16 @@ module _ (rule : FieldRule) (b : List ℕ) (y : System) (x : Opened) (seen : ℕ
   unfolding bodyOf
   body-type h t read = rw (lt-leb (rule .allowed) (seenOf (rule .tag) y) (omega arith), eq-eqb (rule .tag) (typeRule .tag) t) read
 
-  pub body-platform : seen < rule .allowed → (rule .tag ≡ typeRule .tag → ⊥) → Reads (platformOf b y) x → Reads (bodyOf rule b y) x
-  unfolding bodyOf
-  body-platform h t read = rw (lt-leb (rule .allowed) (seenOf (rule .tag) y) (omega arith), ne-eqb (rule .tag) (typeRule .tag) t) read
+  module _ (few : seen < rule .allowed) (other : rule .tag ≡ typeRule .tag → ⊥) where
+    pub body-data : rule .tag ≡ dataRule .tag → Reads (dataOf b y) x → Reads (bodyOf rule b y) x
+    unfolding bodyOf
+    body-data d read =
+        rw (lt-leb (rule .allowed) (seenOf (rule .tag) y) (omega arith), ne-eqb (rule .tag) (typeRule .tag) other, eq-eqb (rule .tag) (dataRule .tag) d) read
+
+    pub body-platform : (rule .tag ≡ dataRule .tag → ⊥) → Reads (platformOf b y) x → Reads (bodyOf rule b y) x
+    unfolding bodyOf
+    body-platform d read =
+        rw (lt-leb (rule .allowed) (seenOf (rule .tag) y) (omega arith), ne-eqb (rule .tag) (typeRule .tag) other, ne-eqb (rule .tag) (dataRule .tag) d) read
 
 pub types-seen : (tag : ℕ) (y : System) → tag ≡ typeRule .tag → seenOf tag y ≡ y .typecount
 types-seen tag y e = rw (eq-eqb tag (typeRule .tag) e)
@@ -144,10 +158,21 @@ pub record Reached (file : List ℕ) (at last : ℕ) (y : System) : Type 0 where
   pub fuel : ℕ
   pub enough : length file - at ≤ fuel
   pub same : readFile file ≡ fieldsFrom fuel (drop at file) last y
+  pub sound : Sound last y
 
 pub reached-start : {file : List ℕ} {y : System} → y ≡ blank → Reached file 0 0 y
 unfolding readFile
-reached-start {file = file} e = record { fuel = length file; enough = omega arith; same = ap (λ (x : System). fieldsFrom (length file) file 0 x) (sym e) }
+reached-start {file = file} e =
+    record {
+      fuel = length file;
+      enough = omega arith;
+      same = ap (λ (x : System). fieldsFrom (length file) file 0 x) (sym e);
+      sound = subst (Sound 0) (sym e) sound-blank;
+    }
+
+-- after a field that is no platform there is a type
+pub reached-typed : {file : List ℕ} {at last : ℕ} {y : System} → Reached file at last y → 1 < last → Typed y
+reached-typed r h = record { some = r .sound .some-type h; most = r .sound .typecount }
 
 -- the rest is empty
 pub reached-end : {file : List ℕ} {at last : ℕ} {y : System} → Reached file at last y → length file ≤ at → readFile file ≡ endOf last y
@@ -204,4 +229,9 @@ module _ {file : List ℕ} {at last : ℕ} {y : System} (r : Reached file at las
           let tag : f .tag ≡ byteAt (drop at file) 0 = ap (λ (z : Field). z .tag) step in
           let place : drop (fieldSize (drop at file)) (drop at file) ≡ drop (f .next .at) file = drop-drop (fieldSize (drop at file)) at file ∙ ap (λ (k : ℕ). drop k file) (sym next-is) in
           let on : readFile file ≡ fieldsFrom (g .0) (drop (fieldSize (drop at file)) (drop at file)) (byteAt (drop at file) 0) (x .system) = g .2 ∙ rw field-opened in
-          record { fuel = g .0; enough = omega (arith, g .1, next-is); same = on ∙ (λ i. fieldsFrom (g .0) (place i) (sym tag i) (x .system)) }
+          record {
+            fuel = g .0;
+            enough = omega (arith, g .1, next-is);
+            same = on ∙ (λ i. fieldsFrom (g .0) (place i) (sym tag i) (x .system));
+            sound = rw tag (sound-field (drop at file) last y (x .system) (r .sound) field-opened);
+          }

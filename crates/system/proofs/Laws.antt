@@ -5,7 +5,7 @@ use native.Mathlib.Nat.{mul-pos, mul-le-mul-left, mul-le-mul-right, min-eq-left,
 use mathlib.Core.List.{List, [], _∷_}
 use mathlib.Core.Bool.{Bool, true, false, not, cond, _&&_, _||_, and-eq-true-iff, false≢true}
 use mathlib.Core.Path.{_≡_, refl, sym, ap, _∙_, subst}
-use mathlib.Core.Logic.{_⊎_, inl, inr}
+use mathlib.Core.Logic.{_↔_}
 use borrow.Author.Tests.{leb-true, leb-false, eqb-true, eqb-false, le-leb, eq-eqb, not-false}
 use lib.ListN.{length, getD, set, take, drop, length-set, length-drop, replicate}
 use lib.Seq.{getD-set-other, drop-drop}
@@ -22,11 +22,11 @@ use Rattle.system.specs.declared.Answer.{Answer}
 use Rattle.system.specs.declared.Answer.the-variants.{Accepted, Number, Refused}
 use Rattle.system.specs.declared.Refusal.the-variants.{Input, State}
 use Rattle.system.specs.Inner.{partOf}
-use Rattle.system.specs.Values.{noTask, blank, withPlatform, withType, ceilingsOf}
+use Rattle.system.specs.Values.{taskOf, withData, noTask, blank, withPlatform, withType, lastType, withLast, ceilingsOf}
 use Rattle.system.specs.Limits.{engineLimit, typeLimit, sizeLimit, columnLimit, columnsOf, columns}
 use Rattle.system.specs.Limits.{sizeFault, platformFault, typeFault, columnsFault, zeroTask, typesKeep, keepsLimits}
 use Rattle.system.specs.Layout.{Reading, opened, unread, byteAt, word2, word4, headSize, fieldSize, headedField, wholeField, bodyPart, fieldAt, bodyAt}
-use Rattle.system.specs.Layout.{platformRule, typeRule, fieldRules, ruleOf, follows, mayFollow, unlessFault, platformFrom, platformOf, typeFrom, typeOf}
+use Rattle.system.specs.Layout.{platformRule, typeRule, dataRule, fieldRules, ruleOf, follows, mayFollow, unlessFault, platformFrom, platformOf, typeFrom, typeOf, dataFrom, dataOf}
 use Rattle.system.specs.Layout.{ruledHead, headFrom, headOf, bodyOf, ruledField, fieldOf, endOf, afterField, fieldsFrom, readFile, Reads}
 use Rattle.system.specs.Outcome.{accepted, refused, fromInput, outcomeOf}
 
@@ -36,6 +36,10 @@ and-parts a b e = and-eq-true-iff a b .0 e
 
 pub and-both : (a b : Bool) → a ≡ true → b ≡ true → (a && b) ≡ true
 and-both a b p q = and-eq-true-iff a b .1 (p, q)
+
+-- a test of three parts
+and-three : (a b c : Bool) → a && b && c ≡ true → (a ≡ true) × (b ≡ true) × (c ≡ true)
+and-three a b c e = let p = and-parts (a && b) c e in let q = and-parts a b (p .0) in (q .0, q .1, p .1)
 
 -- Columns
 
@@ -63,11 +67,13 @@ within-limit c = go (leb c columnLimit) refl
 
 zero-task : (t : TaskType) → zeroTask t ≡ true → t ≡ noTask
 zero-task t e =
-    let ab = and-parts (eqb (t .time) 0 && eqb (t .memory) 0) (eqb (t .ceiling) 0) e .0 in
-    let p = eqb-true (t .time) 0 (and-parts (eqb (t .time) 0) (eqb (t .memory) 0) ab .0) in
-    let q = eqb-true (t .memory) 0 (and-parts (eqb (t .time) 0) (eqb (t .memory) 0) ab .1) in
-    let r = eqb-true (t .ceiling) 0 (and-parts (eqb (t .time) 0 && eqb (t .memory) 0) (eqb (t .ceiling) 0) e .1) in
-    λ i. record { time = p i; memory = q i; ceiling = r i }
+    let last = and-parts (eqb (t .time) 0 && eqb (t .memory) 0 && eqb (t .ceiling) 0) (eqb (t .data) 0) e in
+    let p = and-three (eqb (t .time) 0) (eqb (t .memory) 0) (eqb (t .ceiling) 0) (last .0) in
+    let time = eqb-true (t .time) 0 (p .0) in
+    let memory = eqb-true (t .memory) 0 (p .1) in
+    let ceiling = eqb-true (t .ceiling) 0 (p .2) in
+    let extra = eqb-true (t .data) 0 (last .1) in
+    λ i. record { time = time i; memory = memory i; ceiling = ceiling i; «data» = extra i }
 
 -- past k a task is 0
 types-past : (k : ℕ) (ts : List TaskType) → typesKeep k ts ≡ true → (i : ℕ) → k ≤ i → getD ts i noTask ≡ noTask
@@ -78,10 +84,11 @@ types-past zero (t ∷ ts) e (suc i) h = types-past zero ts (and-parts (zeroTask
 types-past (suc k) (t ∷ ts) e zero h = absurd (omega arith)
 types-past (suc k) (t ∷ ts) e (suc i) h = types-past k ts (and-parts (eqb (typeFault t) 0) (typesKeep k ts) e .1) i (omega arith)
 
--- every task is within the limits of u and s
+-- every task is within the limits of u, s and d
 pub record Sized (t : TaskType) : Type 0 where
   pub time : t .time ≤ sizeLimit
   pub memory : t .memory ≤ sizeLimit
+  pub «data» : t .data ≤ sizeLimit
 
 -- a test that finds no fault
 faultless : (b : Bool) (n x : ℕ) → 0 < n → cond (not b) n x ≡ 0 → (b ≡ true) × (x ≡ 0)
@@ -93,11 +100,16 @@ sizes-kept u s e =
     let p = and-parts (leb u sizeLimit) (leb s sizeLimit) (faultless (leb u sizeLimit && leb s sizeLimit) 8 0 (omega arith) e .0) in
     (leb-true u sizeLimit (p .0), leb-true s sizeLimit (p .1))
 
-sized-task : (t : TaskType) → typeFault t ≡ 0 → Sized t
-sized-task t e = let p = sizes-kept (t .time) (t .memory) e in record { time = p .0; memory = p .1 }
+pub sized-task : (t : TaskType) → typeFault t ≡ 0 → Sized t
+sized-task t e =
+    let u = leb (t .time) sizeLimit in
+    let s = leb (t .memory) sizeLimit in
+    let d = leb (t .data) sizeLimit in
+    let p = and-three u s d (faultless (u && s && d) 8 0 (omega arith) e .0) in
+    record { time = leb-true (t .time) sizeLimit (p .0); memory = leb-true (t .memory) sizeLimit (p .1); «data» = leb-true (t .data) sizeLimit (p .2) }
 
 sized-zero : (t : TaskType) → t ≡ noTask → Sized t
-sized-zero t e = subst Sized (sym e) (record { time = zero-le; memory = zero-le })
+sized-zero t e = subst Sized (sym e) (record { time = zero-le; memory = zero-le; «data» = zero-le })
 
 types-sized : (k : ℕ) (ts : List TaskType) → typesKeep k ts ≡ true → (i : ℕ) → Sized (getD ts i noTask)
 unfolding typesKeep
@@ -120,7 +132,7 @@ pub record Limits (y : System) : Type 0 where
   pub columns : columnsOf (ceilingsOf y) ≤ columnLimit
   -- entries past k are 0
   pub past : (i : ℕ) → y .typecount ≤ i → getD (y .types) i noTask ≡ noTask
-  -- u and s of every entry
+  -- u, s and d of every entry
   pub sized : (i : ℕ) → Sized (getD (y .types) i noTask)
 
 -- a platform's numbers within the limits
@@ -177,8 +189,8 @@ limits-of y q =
 pub sizes-keep : (u s : ℕ) → u ≤ sizeLimit → s ≤ sizeLimit → sizeFault u s ≡ 0
 sizes-keep u s p q = rw (le-leb u sizeLimit p, le-leb s sizeLimit q)
 
-sized-test : (t : TaskType) → Sized t → eqb (typeFault t) 0 ≡ true
-sized-test t h = eq-eqb (typeFault t) 0 (sizes-keep (t .time) (t .memory) (h .time) (h .memory))
+pub sized-test : (t : TaskType) → Sized t → eqb (typeFault t) 0 ≡ true
+sized-test t h = rw (le-leb (t .time) sizeLimit (h .time), le-leb (t .memory) sizeLimit (h .memory), le-leb (t .data) sizeLimit (h .data))
 
 types-keep : (k : ℕ) (ts : List TaskType) → ((i : ℕ) → k ≤ i → getD ts i noTask ≡ noTask) → ((i : ℕ) → Sized (getD ts i noTask)) → typesKeep k ts ≡ true
 unfolding typesKeep
@@ -219,11 +231,13 @@ no-fault n y z e = go (eqb n 0) refl e
     go false q e = let z : _≡_ {A = ℕ} 0 1 = cc in absurd (omega arith)
 
 -- what is known of the system after some fields, the last of tag `last` (0 for none)
-record Sound (last : ℕ) (y : System) : Type 0 where
-  typecount : y .typecount ≤ typeLimit
-  six : length (y .types) ≡ typeLimit
-  past : (i : ℕ) → y .typecount ≤ i → getD (y .types) i noTask ≡ noTask
-  sized : (i : ℕ) → Sized (getD (y .types) i noTask)
+pub record Sound (last : ℕ) (y : System) : Type 0 where
+  pub typecount : y .typecount ≤ typeLimit
+  -- after a field that is no platform there is a type
+  pub some-type : 1 < last → 0 < y .typecount
+  pub six : length (y .types) ≡ typeLimit
+  pub past : (i : ℕ) → y .typecount ≤ i → getD (y .types) i noTask ≡ noTask
+  pub sized : (i : ℕ) → Sized (getD (y .types) i noTask)
   platform : (last ≡ 0 → ⊥) → Platform (y .engines) (y .rule) (y .timecap) (y .memorycap)
 
 pub getD-blank : (n i : ℕ) → getD (replicate n noTask) i noTask ≡ noTask
@@ -231,10 +245,11 @@ getD-blank zero i = refl
 getD-blank (suc n) zero = refl
 getD-blank (suc n) (suc i) = getD-blank n i
 
-sound-blank : Sound 0 blank
+pub sound-blank : Sound 0 blank
 sound-blank =
     record {
       typecount = zero-le;
+      some-type = λ h. absurd (omega arith);
       six = refl;
       past = λ i h. getD-blank typeLimit i;
       sized = λ i. sized-zero (getD (blank .types) i noTask) (getD-blank typeLimit i);
@@ -269,13 +284,14 @@ sound-end last y z s e =
     }))
 
 -- a platform's body
-sound-platform : (b : List ℕ) (last tag : ℕ) (y z : System) → Sound last y → platformOf b y ≡ opened z → Sound tag z
+sound-platform : (b : List ℕ) (last : ℕ) (y z : System) → Sound last y → platformOf b y ≡ opened z → Sound (platformRule .tag) z
 unfolding platformFrom
-sound-platform b last tag y z s e =
+sound-platform b last y z s e =
     let p = no-fault (platformFault (byteAt b 0) (byteAt b 1) (word4 b 2) (word4 b 6)) (withPlatform (byteAt b 0) (byteAt b 1) (word4 b 2) (word4 b 6) y) z e in
-    subst (Sound tag) (p .1)
+    subst (Sound (platformRule .tag)) (p .1)
     (record {
       typecount = s .typecount;
+      some-type = λ h. absurd (omega arith);
       six = s .six;
       past = s .past;
       sized = s .sized;
@@ -291,43 +307,66 @@ sized-set t (u ∷ ts) (suc k) h all zero = all zero
 sized-set t (u ∷ ts) (suc k) h all (suc i) = sized-set t ts k h (λ j. all (suc j)) i
 
 -- a type's body, where there is a platform and room for one more type
-sound-type : (b : List ℕ) (last tag : ℕ) (y z : System) → Sound last y → (last ≡ 0 → ⊥) → y .typecount < typeLimit → typeOf b y ≡ opened z → Sound tag z
+sound-type : (b : List ℕ) (last : ℕ) (y z : System) → Sound last y → (last ≡ 0 → ⊥) → y .typecount < typeLimit → typeOf b y ≡ opened z → Sound (typeRule .tag) z
 unfolding typeFrom
-sound-type b last tag y z s first room e =
-    let t : TaskType = record { time = word4 b 0; memory = word4 b 4; ceiling = word2 b 8 } in
+sound-type b last y z s first room e =
+    let t = taskOf (word4 b 0) (word4 b 4) (word2 b 8) in
     let q = no-fault (typeFault t) (withType t y) z e in
-    subst (Sound tag) (q .1)
+    subst (Sound (typeRule .tag)) (q .1)
     (record {
       typecount = room;
+      some-type = λ h. omega arith;
       six = length-set (y .types) (y .typecount) t ∙ s .six;
       past = λ i h. getD-set-other (y .types) (y .typecount) i t noTask (λ (p : i ≡ y .typecount). omega arith) ∙ s .past i (omega arith);
       sized = λ i. sized-set t (y .types) (y .typecount) (sized-task t (q .0)) (s .sized) i;
       platform = λ n. s .platform first;
     })
 
--- the table has the rules of a platform and of a type
+-- d of the last type, after a type
+sound-data : (b : List ℕ) (last : ℕ) (y z : System) → Sound last y → last ≡ typeRule .tag → dataOf b y ≡ opened z → Sound (dataRule .tag) z
+unfolding dataFrom
+sound-data b last y z s after e =
+    let t = withData (word4 b 0) (lastType y) in
+    let q = no-fault (typeFault t) (withLast t y) z e in
+    let some = s .some-type (omega arith) in
+    subst (Sound (dataRule .tag)) (q .1)
+    (record {
+      typecount = s .typecount;
+      some-type = λ h. some;
+      six = length-set (y .types) (y .typecount - 1) t ∙ s .six;
+      past = λ i h. getD-set-other (y .types) (y .typecount - 1) i t noTask (λ (p : i ≡ y .typecount - 1). omega arith) ∙ s .past i h;
+      sized = λ i. sized-set t (y .types) (y .typecount - 1) (sized-task t (q .0)) (s .sized) i;
+      platform = λ n. s .platform (λ none. omega arith);
+    })
+
+-- the table has the rules of a platform, of a type and of d
+pub data OneOf (r : FieldRule) : Type 0 where
+  a-platform : r ≡ platformRule → OneOf r
+  a-type : r ≡ typeRule → OneOf r
+  a-data : r ≡ dataRule → OneOf r
+
 pub record IsRule (r : FieldRule) (tag : ℕ) : Type 0 where
   pub same-tag : r .tag ≡ tag
-  pub some-tag : tag ≡ 0 → ⊥
-  pub which : (r ≡ platformRule) ⊎ (r ≡ typeRule)
+  pub which : OneOf r
+
+-- the rule that a table has for a tag is of that tag, and has what every rule of the table has
+abbrev EveryRule : (FieldRule → Type 0) → List FieldRule → Type 0
+EveryRule P [] = Unit {0}
+EveryRule P (r ∷ rs) = P r × EveryRule P rs
+
+rule-found : (P : FieldRule → Type 0) (rules : List FieldRule) (tag : ℕ) (r : FieldRule) → EveryRule P rules → ruleOf rules tag ≡ Known r → (r .tag ≡ tag) × P r
+unfolding ruleOf
+rule-found P [] tag r all e = let z : _≡_ {A = ℕ} 0 1 = cc in absurd (omega arith)
+rule-found P (t ∷ ts) tag r all e = go (eqb (t .tag) tag) refl (rule-found P ts tag r (all .1)) e
+  where
+    go : (b : Bool) → eqb (t .tag) tag ≡ b → (ruleOf ts tag ≡ Known r → (r .tag ≡ tag) × P r) → cond b (Known t) (ruleOf ts tag) ≡ Known r → (r .tag ≡ tag) × P r
+    go true q later e = let same : t ≡ r = cc in (ap (λ (x : FieldRule). x .tag) (sym same) ∙ eqb-true (t .tag) tag q, subst P same (all .0))
+    go false q later e = later e
 
 pub ruleOf-known : (tag : ℕ) (r : FieldRule) → ruleOf fieldRules tag ≡ Known r → IsRule r tag
-unfolding ruleOf
-ruleOf-known tag r = first (eqb 1 tag) refl
-  where
-    second : (b : Bool) → eqb 2 tag ≡ b → cond b (Known typeRule) Unknown ≡ Known r → IsRule r tag
-    second true q e =
-        let same : typeRule ≡ r = cc in
-        let t = eqb-true 2 tag q in
-        record { same-tag = ap (λ (x : FieldRule). x .tag) (sym same) ∙ t; some-tag = λ z. omega arith; which = inr (sym same) }
-    second false q e = let z : _≡_ {A = ℕ} 0 1 = cc in absurd (omega arith)
-
-    first : (b : Bool) → eqb 1 tag ≡ b → cond b (Known platformRule) (cond (eqb 2 tag) (Known typeRule) Unknown) ≡ Known r → IsRule r tag
-    first true q e =
-        let same : platformRule ≡ r = cc in
-        let t = eqb-true 1 tag q in
-        record { same-tag = ap (λ (x : FieldRule). x .tag) (sym same) ∙ t; some-tag = λ z. omega arith; which = inl (sym same) }
-    first false q e = second (eqb 2 tag) refl e
+ruleOf-known tag r e =
+    let p = rule-found OneOf fieldRules tag r (a-platform refl, (a-type refl, (a-data refl, tt))) e in
+    record { same-tag = p .0; which = p .1 }
 
 -- a platform is first, and a type is not
 pub platform-first : (last : ℕ) → mayFollow follows last (platformRule .tag) ≡ true → last ≡ 0
@@ -339,6 +378,14 @@ platform-first last e = go (eqb 0 last) refl e
 
 pub type-later : (last : ℕ) → mayFollow follows last (typeRule .tag) ≡ true → last ≡ 0 → ⊥
 type-later last e z = false≢true (ap (λ (n : ℕ). mayFollow follows n (typeRule .tag)) (sym z) ∙ e)
+
+-- d comes directly after a type, and nowhere else: not after another d
+pub data-after-type : (last : ℕ) → (mayFollow follows last (dataRule .tag) ≡ true) ↔ (last ≡ typeRule .tag)
+data-after-type last = (λ e. go (eqb 2 last) refl e, λ e. rw e)
+  where
+    go : (b : Bool) → eqb 2 last ≡ b → cond b true false ≡ true → last ≡ typeRule .tag
+    go true q e = sym (eqb-true 2 last q)
+    go false q e = absurd (false≢true e)
 
 -- a head that passes has a rule, stands in its place, gives the rule's length, and its body stands there
 pub record Passed (tag size : ℕ) (all : Bool) (last : ℕ) (r : FieldRule) : Type 0 where
@@ -375,16 +422,14 @@ unfolding headOf
 headOf-ruled s last r e = headFrom-ruled (headedField s) (byteAt s 0) (word2 s 1) (wholeField s) last r e
 
 -- a field after its head
-sound-body : (r : FieldRule) (b : List ℕ) (last tag : ℕ) (y z : System) → Sound last y → IsRule r tag → mayFollow follows last (r .tag) ≡ true
-    → bodyOf r b y ≡ opened z → Sound tag z
+sound-body : (r : FieldRule) (b : List ℕ) (last : ℕ) (y z : System) → Sound last y → OneOf r → mayFollow follows last (r .tag) ≡ true
+    → bodyOf r b y ≡ opened z → Sound (r .tag) z
 unfolding bodyOf
-sound-body r b last tag y z s i p e = at (i .which)
-  where
-    at : (r ≡ platformRule) ⊎ (r ≡ typeRule) → Sound tag z
-    at (inl w) = sound-platform b last tag y z s (rw w at e)
-    at (inr w) =
-        let q = passes (leb typeLimit (y .typecount)) 7 (typeOf b y) z (rw w at e) in
-        sound-type b last tag y z s (type-later last (rw w at p)) (leb-false typeLimit (y .typecount) (q .0)) (q .1)
+sound-body r b last y z s (a-platform w) p e = rw w (sound-platform b last y z s (rw w at e))
+sound-body r b last y z s (a-type w) p e =
+    let q = passes (leb typeLimit (y .typecount)) 7 (typeOf b y) z (rw w at e) in
+    rw w (sound-type b last y z s (type-later last (rw w at p)) (leb-false typeLimit (y .typecount) (q .0)) (q .1))
+sound-body r b last y z s (a-data w) p e = rw w (sound-data b last y z s (data-after-type last .0 (rw w at p)) (rw w at e))
 
 -- a field that is accepted has a head that passes, and its body is accepted
 pub record Accepts (s : List ℕ) (last : ℕ) (y z : System) : Type 0 where
@@ -400,10 +445,10 @@ fieldOf-opened s last y z e = judged (headOf s last) refl e
     judged (Stops n) q e = let z : _≡_ {A = ℕ} 0 1 = cc in absurd (omega arith)
     judged (Ruled r) q e = record { rule = r; passed = headOf-ruled s last r q; body = e }
 
-sound-field : (s : List ℕ) (last : ℕ) (y z : System) → Sound last y → fieldOf s last y ≡ opened z → Sound (byteAt s 0) z
+pub sound-field : (s : List ℕ) (last : ℕ) (y z : System) → Sound last y → fieldOf s last y ≡ opened z → Sound (byteAt s 0) z
 sound-field s last y z h e =
     let a = fieldOf-opened s last y z e in
-    sound-body (a .rule) (bodyPart s) last (byteAt s 0) y z h (a .passed .rule) (a .passed .place) (a .body)
+    rw (a .passed .rule .same-tag) at (sound-body (a .rule) (bodyPart s) last y z h (a .passed .rule .which) (a .passed .place) (a .body))
 
 pub fieldsFrom-nil : (f last : ℕ) (y : System) → fieldsFrom f [] last y ≡ endOf last y
 unfolding fieldsFrom

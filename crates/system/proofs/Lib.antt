@@ -1,6 +1,7 @@
--- The laws of crate `system`: other crates cite `Laws` and `Prefix`, the functions' proofs the others too.
+-- The laws of crate `system`: the `pub` ones are for other crates too, the others for the functions' proofs. `Fields` has what request 2026-03 says of the reader.
 pub mod Checks
 pub mod Laws
+pub mod Fields
 pub mod Prefix
 mod Steps
 mod Goes

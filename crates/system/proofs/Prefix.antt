@@ -6,12 +6,10 @@ use native.Mathlib.Numerals.{unary-clauses}
 use mathlib.Core.List.{List, [], _∷_}
 use mathlib.Core.Bool.{Bool, true, false, not, cond}
 use mathlib.Core.Path.{_≡_, refl, sym, ap, _∙_}
-use mathlib.Core.Logic.{_⊎_, inl, inr}
-use borrow.Author.Tests.{leb-true, leb-false, eqb-true, ne-eqb, le-leb, lt-leb}
+use borrow.Author.Tests.{leb-true, leb-false, eqb-true, le-leb, lt-leb}
 use lib.ListN.{length, take, drop, length-take, length-drop}
 use lib.Seq.{getD-take, take-take, take-nil}
 use lib.Dec.{leb, eqb, lit≤}
-use Rattle.system.specs.declared.TaskType.{TaskType}
 use Rattle.system.specs.declared.System.{System}
 use Rattle.system.specs.declared.rules.FieldRule.{FieldRule}
 use Rattle.system.specs.declared.rules.RuleFound.{RuleFound}
@@ -19,21 +17,26 @@ use Rattle.system.specs.declared.rules.RuleFound.the-variants.{Known, Un
 use Rattle.system.specs.declared.reader.Head.{Head}
 use Rattle.system.specs.declared.reader.Head.the-variants.{Ruled, Stops}
 use Rattle.system.specs.Numbers.{typeLimit, fileBytes}
-use Rattle.system.specs.Values.{blank, withPlatform, withType}
+use Rattle.system.specs.Values.{taskOf, withData, blank, withPlatform, withType, lastType, withLast}
 use Rattle.system.specs.Limits.{platformFault, typeFault}
-use Rattle.system.specs.Rules.{platformRule, typeRule, fieldRules, ruleOf, follows, mayFollow, headSize, ruledSize, longestField, longestFile}
-use Rattle.system.specs.Layout.{Reading, opened, unread, byteAt, word2, word4, fieldSize, headedField, wholeField, bodyPart, platformFrom, platformOf, typeFrom, typeOf}
+use Rattle.system.specs.Rules.{fieldRules, ruleOf, follows, mayFollow, headSize, ruledSize, longestField, longestFile}
+use Rattle.system.specs.Layout.{Reading, opened, unread, byteAt, word2, word4, fieldSize, headedField, wholeField, bodyPart, isType, isData, platformFrom, platformOf, typeFrom, typeOf, dataFrom, dataOf}
 use Rattle.system.specs.Layout.{ruledHead, headOf, bodyOf, ruledField, fieldOf, afterField, fieldsFrom, readFile}
-use Rattle.system.proofs.Laws.{passes, no-fault, IsRule, ruleOf-known, platform-first, type-later, headOf-ruled, fieldOf-opened, fieldsFrom-nil}
+use Rattle.system.proofs.Laws.{passes, no-fault, OneOf, a-platform, a-type, a-data, IsRule, ruleOf-known, headOf-ruled, fieldOf-opened, fieldsFrom-nil}
 
 -- The bytes that the fields still allowed can have, after a field of tag `last` and with the system y so far
 
-abbrev spent : ℕ → ℕ → System → ℕ
-spent tag last y = cond (eqb tag (typeRule .tag)) (y .typecount) (cond (eqb last 0) 0 1)
+-- one field of a tag where it may stand next
+abbrev next : ℕ → ℕ → ℕ
+next tag last = cond (mayFollow follows last tag) 1 0
+
+-- how many fields of a rule may still come: the types up to the limit, d for each of them and for the last one where it may stand next, the platform where it may
+abbrev still : FieldRule → ℕ → System → ℕ
+still r last y = cond (isType (r .tag)) (r .allowed - y .typecount) (cond (isData (r .tag)) (r .allowed - y .typecount + next (r .tag) last) (next (r .tag) last))
 
 abbrev roomFor : List FieldRule → ℕ → System → ℕ
 roomFor [] last y = 0
-roomFor (r ∷ rs) last y = (r .allowed - spent (r .tag) last y) * ruledSize r + roomFor rs last y
+roomFor (r ∷ rs) last y = still r last y * ruledSize r + roomFor rs last y
 
 abbrev room : ℕ → System → ℕ
 room last y = roomFor fieldRules last y
@@ -47,26 +50,25 @@ platform-types b y z e =
 type-types : (b : List ℕ) (y z : System) → typeOf b y ≡ opened z → z .typecount ≡ suc (y .typecount)
 unfolding typeFrom
 type-types b y z e =
-    let t : TaskType = record { time = word4 b 0; memory = word4 b 4; ceiling = word2 b 8 } in
+    let t = taskOf (word4 b 0) (word4 b 4) (word2 b 8) in
     ap (λ (x : System). x .typecount) (sym (no-fault (typeFault t) (withType t y) z e .1))
 
+data-types : (b : List ℕ) (y z : System) → dataOf b y ≡ opened z → z .typecount ≡ y .typecount
+unfolding dataFrom
+data-types b y z e =
+    let t = withData (word4 b 0) (lastType y) in
+    ap (λ (x : System). x .typecount) (sym (no-fault (typeFault t) (withLast t y) z e .1))
+
 -- an accepted field takes its bytes from the room
-body-room : (r : FieldRule) (b : List ℕ) (last tag : ℕ) (y z : System) → IsRule r tag → mayFollow follows last (r .tag) ≡ true
-    → bodyOf r b y ≡ opened z → ruledSize r + room tag z ≤ room last y
+body-room : (r : FieldRule) (b : List ℕ) (last : ℕ) (y z : System) → OneOf r → mayFollow follows last (r .tag) ≡ true
+    → bodyOf r b y ≡ opened z → ruledSize r + room (r .tag) z ≤ room last y
 unfolding bodyOf
-body-room r b last tag y z i p e = at (i .which)
-  where
-    at : (r ≡ platformRule) ⊎ (r ≡ typeRule) → ruledSize r + room tag z ≤ room last y
-    at (inl w) =
-        let first : last ≡ 0 = platform-first last (rw w at p) in
-        let same : tag ≡ 1 = sym (i .same-tag) ∙ ap (λ (x : FieldRule). x .tag) w in
-        rw (w, same, first, platform-types b y z (rw w at e)) (omega arith)
-    at (inr w) =
-        let later = ne-eqb last 0 (type-later last (rw w at p)) in
-        let q = passes (leb typeLimit (y .typecount)) 7 (typeOf b y) z (rw w at e) in
-        let same : tag ≡ 2 = sym (i .same-tag) ∙ ap (λ (x : FieldRule). x .tag) w in
-        let few = leb-false typeLimit (y .typecount) (q .0) in
-        rw (w, same, later, type-types b y z (q .1)) (omega arith)
+body-room r b last y z (a-platform w) p e = rw (w, rw w at p, platform-types b y z (rw w at e)) (omega arith)
+body-room r b last y z (a-type w) p e =
+    let q = passes (leb typeLimit (y .typecount)) 7 (typeOf b y) z (rw w at e) in
+    let few = leb-false typeLimit (y .typecount) (q .0) in
+    rw (w, type-types b y z (q .1)) (omega arith)
+body-room r b last y z (a-data w) p e = rw (w, rw w at p, data-types b y z (rw w at e)) (omega arith)
 
 -- so the reading goes on with less room, by the field's size
 record Goes (s : List ℕ) (last : ℕ) (y z : System) : Type 0 where
@@ -76,7 +78,7 @@ record Goes (s : List ℕ) (last : ℕ) (y z : System) : Type 0 where
 field-goes : (s : List ℕ) (last : ℕ) (y z : System) → fieldOf s last y ≡ opened z → Goes s last y z
 field-goes s last y z e =
     let a = fieldOf-opened s last y z e in
-    let fewer = body-room (a .rule) (bodyPart s) last (byteAt s 0) y z (a .passed .rule) (a .passed .place) (a .body) in
+    let fewer = rw (a .passed .rule .same-tag) at (body-room (a .rule) (bodyPart s) last y z (a .passed .rule .which) (a .passed .place) (a .body)) in
     record {
       inside = leb-true (fieldSize s) (length s) (a .passed .whole);
       less = omega (arith, a .passed .length);
@@ -103,7 +105,10 @@ fields-refused (suc f) (b ∷ s) last y enough long =
         let left = length-drop (fieldSize (b ∷ s)) (b ∷ s) in
         rest next (omega arith) (omega arith)
 
--- no file that opens is longer than all fields that the rules allow
+-- no file that opens is longer than all fields that the rules allow: a platform, six types and their d, 133 bytes
+pub longest-is : longestFile ≡ 133
+longest-is = refl
+
 pub long-file-refused : (file : List ℕ) → longestFile < length file → (n : ℕ) × (readFile file ≡ unread n)
 unfolding readFile
 long-file-refused file long = fields-refused (length file) file 0 blank (le-refl (length file)) long
@@ -144,9 +149,10 @@ module _ (n : ℕ) (s : List ℕ) where
     all-in : (r : FieldRule) → IsRule r (byteAt s 0) → word2 s 1 ≡ r .body → fieldSize s ≤ n
     all-in r i size = omega (arith, size, longest (i .which))
       where
-        longest : (r ≡ platformRule) ⊎ (r ≡ typeRule) → ruledSize r ≤ longestField
-        longest (inl w) = rw w (lit≤ tt)
-        longest (inr w) = rw w (lit≤ tt)
+        longest : OneOf r → ruledSize r ≤ longestField
+        longest (a-platform w) = rw w (lit≤ tt)
+        longest (a-type w) = rw w (lit≤ tt)
+        longest (a-data w) = rw w (lit≤ tt)
 
     head-take : (last : ℕ) → headOf (take n s) last ≡ headOf s last
     unfolding headOf ruledHead
@@ -224,7 +230,7 @@ pub read-take : (n : ℕ) (file : List ℕ) → longestFile + longestField ≤ n
 unfolding readFile
 read-take n file wide = fields-take (length (take n file)) (length file) n file 0 blank (le-refl (length (take n file))) (le-refl (length file)) wide
 
--- document 01: program `plan` "reads the first 128 bytes of standard input (a longer file is refused by then)"
+-- document 01, with request 2026-03's 256 bytes: program `plan` "reads the first .. bytes of standard input (a longer file is refused by then)"
 pub read-prefix : (file : List ℕ) → readFile (take fileBytes file) ≡ readFile file
 read-prefix file = read-take fileBytes file (lit≤ tt)
 

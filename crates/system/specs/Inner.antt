@@ -1,11 +1,15 @@
 -- What contracts of the code's parts cite and document 01 does not speak of.
-use Prim.Native.Nat.{ℕ, _+_, _-_, min}
+use Prim.Native.Nat.{ℕ, _+_, _-_, _≤_, _<_, min}
 use mathlib.Core.List.{List, [], map}
 use mathlib.Core.Bool.{cond, _&&_}
+use mathlib.Core.Path.{_≡_}
 use lib.ListN.{length, take, drop}
 use lib.Dec.{leb}
 use Rattle.system.specs.declared.TaskType.{TaskType}
-use Rattle.system.specs.Limits.{columnLimit, columnsOf}
+use Rattle.system.specs.declared.System.{System}
+use Rattle.system.specs.declared.rules.FieldRule.{FieldRule}
+use Rattle.system.specs.Limits.{typeLimit, columnLimit, columnsOf}
+use Rattle.system.specs.Rules.{dataRule}
 
 -- the columns of some types where they are within the limit, and one more than the limit where not: what the code holds of the product
 abbrev pub columnsWithin : List TaskType → ℕ
@@ -14,3 +18,13 @@ columnsWithin ts = min (columnsOf (map (λ (t : TaskType). t .ceiling) ts)) (col
 -- the part of a file between two places, the empty one where the file has none
 abbrev pub partOf : List ℕ → ℕ → ℕ → List ℕ
 partOf file start end = cond (leb start end && leb end (length file)) (take (end - start) (drop start file)) []
+
+-- the system has a last type, at one of its six places
+pub record Typed (y : System) : Type 0 where
+  pub some : 0 < y .typecount
+  pub most : y .typecount ≤ typeLimit
+
+-- what is known of a field's rule where its body is read: it allows no more than six, and d comes where there is a type to have it
+pub record Placed (rule : FieldRule) (y : System) : Type 0 where
+  pub allowed : rule .allowed ≤ typeLimit
+  pub typed : rule .tag ≡ dataRule .tag → Typed y

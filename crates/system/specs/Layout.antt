@@ -14,10 +14,10 @@ use Rattle.system.specs.declared.reader.Head.{Head}
 use Rattle.system.specs.declared.reader.Head.the-variants.{Ruled, Stops}
 use Rattle.system.specs.declared.reader.Field.{Field}
 use Rattle.system.specs.declared.Opened.{Opened}
-use Rattle.system.specs.Values.{blank, withPlatform, withType}
+use Rattle.system.specs.Values.{taskOf, withData, blank, withPlatform, withType, lastType, withLast}
 use Rattle.system.specs.Limits.{platformFault, typeFault, columnsFault}
 use Rattle.system.specs.Outcome.{Outcome, accepted, refused, fromInput, outcomeOf}
-pub use Rattle.system.specs.Rules.{platformRule, typeRule, fieldRules, follows, mayFollow, headSize, longestField, longestFile}
+pub use Rattle.system.specs.Rules.{platformRule, typeRule, dataRule, fieldRules, follows, mayFollow, headSize, longestField, longestFile}
 unfoldable pub use Rattle.system.specs.Rules.{ruleOf}
 
 -- what a file, or a part of one, reads as: a system, or the number of a refusal from the input
@@ -65,10 +65,14 @@ fieldAt file at =
 unfoldable pub bodyAt : List ℕ → ℕ → List ℕ
 bodyAt file at = bodyPart (drop at file)
 
--- how many fields of this tag were read before, where their number decides: that of types. Any other field comes only where it may follow, and so once
+-- the tag of a type, and that of its d
 abbrev pub isType : ℕ → Bool
 isType tag = eqb tag (typeRule .tag)
 
+abbrev pub isData : ℕ → Bool
+isData tag = eqb tag (dataRule .tag)
+
+-- how many fields of this tag were read before, where their number decides: that of types. Any other field comes only where it may follow: a platform once, and d once for each type
 abbrev pub seenOf : ℕ → System → ℕ
 seenOf tag y = cond (isType tag) (y .typecount) 0
 
@@ -90,7 +94,15 @@ typeFrom t y = unlessFault (typeFault t) (withType t y)
 
 -- its body: u (4), s (4), n (2)
 abbrev pub typeOf : List ℕ → System → Reading
-typeOf b y = typeFrom (record { time = word4 b 0; memory = word4 b 4; ceiling = word2 b 8 }) y
+typeOf b y = typeFrom (taskOf (word4 b 0) (word4 b 4) (word2 b 8)) y
+
+-- d of the last type, judged as a part of it: 8, by d alone, since its u and s passed before
+unfoldable pub dataFrom : ℕ → System → Reading
+dataFrom d y = unlessFault (typeFault (withData d (lastType y))) (withLast (withData d (lastType y)) y)
+
+-- its body: d (4)
+abbrev pub dataOf : List ℕ → System → Reading
+dataOf b y = dataFrom (word4 b 0) y
 
 -- "in one field: start cut (1), 2, 3, 4, body cut (1), 7, then 5, 6, 8". First the head: its tag and length, whether they stand there, and whether the body does
 unfoldable pub ruledHead : RuleFound → ℕ → Bool → ℕ → Head
@@ -111,7 +123,9 @@ headOf s last = headFrom (headedField s) (byteAt s 0) (word2 s 1) (wholeField s)
 unfoldable pub bodyOf : FieldRule → List ℕ → System → Reading
 bodyOf r b y =
     cond (leb (r .allowed) (seenOf (r .tag) y)) (unread 7)
-    (cond (isType (r .tag)) (typeOf b y) (platformOf b y))
+    (cond (isType (r .tag)) (typeOf b y)
+    (cond (isData (r .tag)) (dataOf b y)
+    (platformOf b y)))
 
 unfoldable pub ruledField : Head → List ℕ → System → Reading
 ruledField (Stops n) b y = unread n

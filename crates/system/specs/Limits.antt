@@ -9,7 +9,7 @@ use Rattle.system.specs.declared.System.{System}
 pub use Rattle.system.specs.Numbers.{engineLimit, typeLimit, sizeLimit, columnLimit}
 use Rattle.system.specs.Values.{ceilingsOf}
 
--- U and S, or u and s
+-- U and S
 abbrev pub sizeFault : ℕ → ℕ → ℕ
 sizeFault u s = cond (not (leb u sizeLimit && leb s sizeLimit)) 8 0
 
@@ -17,9 +17,9 @@ sizeFault u s = cond (not (leb u sizeLimit && leb s sizeLimit)) 8 0
 abbrev pub platformFault : ℕ → ℕ → ℕ → ℕ → ℕ
 platformFault m rule u s = cond (not (leb 1 m && leb m engineLimit)) 5 (cond (not (leb rule 1)) 6 (sizeFault u s))
 
--- a type's u and s
+-- a type's u, s and d
 abbrev pub typeFault : TaskType → ℕ
-typeFault t = sizeFault (t .time) (t .memory)
+typeFault t = cond (not (leb (t .time) sizeLimit && leb (t .memory) sizeLimit && leb (t .data) sizeLimit)) 8 0
 
 -- "the product of all n(t)+1, called the columns"
 unfoldable pub columnsOf : List ℕ → ℕ
@@ -33,7 +33,7 @@ abbrev pub columnsFault : List TaskType → ℕ
 columnsFault ts = cond (not (leb (columnsOf (map (λ (t : TaskType). t .ceiling) ts)) columnLimit)) 10 0
 
 abbrev pub zeroTask : TaskType → Bool
-zeroTask t = eqb (t .time) 0 && eqb (t .memory) 0 && eqb (t .ceiling) 0
+zeroTask t = eqb (t .time) 0 && eqb (t .memory) 0 && eqb (t .ceiling) 0 && eqb (t .data) 0
 
 -- the first k are within the limits, the others 0
 unfoldable pub typesKeep : ℕ → List TaskType → Bool

@@ -8,7 +8,7 @@ engineLimit = 16
 abbrev pub typeLimit : ℕ
 typeLimit = 6
 
--- the largest U, S, u and s
+-- the largest U, S, u, s and d
 abbrev pub sizeLimit : ℕ
 sizeLimit = 1000000
 
@@ -16,6 +16,6 @@ sizeLimit = 1000000
 abbrev pub columnLimit : ℕ
 columnLimit = 1024
 
--- the bytes that program `plan` reads
+-- the bytes that program `plan` reads (request 2026-03)
 abbrev pub fileBytes : ℕ
-fileBytes = 128
+fileBytes = 256

@@ -16,12 +16,23 @@ platformRule = record { tag = 1; body = 10; allowed = 1 }
 abbrev pub typeRule : FieldRule
 typeRule = record { tag = 2; body = 10; allowed = typeLimit }
 
-abbrev pub fieldRules : List FieldRule
-fieldRules = platformRule ∷ typeRule ∷ []
+-- d, the data memory of one instance of the type before it (request 2026-03)
+abbrev pub dataRule : FieldRule
+dataRule = record { tag = 3; body = 4; allowed = typeLimit }
 
--- a tag, and that of the field before it, 0 at the file's start: refusal 3 is decided from it alone. A platform is first, types come after it
+abbrev pub fieldRules : List FieldRule
+fieldRules = platformRule ∷ typeRule ∷ dataRule ∷ []
+
+-- a tag, and that of the field before it, 0 at the file's start: refusal 3 is decided from it alone. A platform is first, types come after it,
+-- and d "follows its type directly, at most once" (request 2026-03)
 abbrev pub follows : List Follow
-follows = record { tag = 1; last = 0 } ∷ record { tag = 2; last = 1 } ∷ record { tag = 2; last = 2 } ∷ []
+follows =
+    record { tag = 1; last = 0 }
+    ∷ record { tag = 2; last = 1 }
+    ∷ record { tag = 2; last = 2 }
+    ∷ record { tag = 3; last = 2 }
+    ∷ record { tag = 2; last = 3 }
+    ∷ []
 
 -- what the first row that passes a test gives
 abbrev pub firstOf : {A B : Type 0} → (A → Bool) → (A → B) → B → List A → B
@@ -43,7 +54,7 @@ headSize = 3
 abbrev pub ruledSize : FieldRule → ℕ
 ruledSize r = headSize + r .body
 
--- of the longest one, 13; and of all fields that the rules allow, 13 + 6 × 13 = 91: no longer file opens
+-- of the longest one, 13; and of all fields that the rules allow, 13 + 6 × 13 + 6 × 7 = 133: no longer file opens
 abbrev pub longestOf : List FieldRule → ℕ
 longestOf [] = 0
 longestOf (r ∷ rs) = max (ruledSize r) (longestOf rs)

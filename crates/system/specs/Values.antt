@@ -1,14 +1,22 @@
 -- The one place where a definition makes a `System` or a `TaskType`: a later field is added here.
 use Prim.Native.Nat.{ℕ, suc, _-_}
 use mathlib.Core.List.{List, _++_, map}
-use lib.ListN.{replicate, set, take}
+use lib.ListN.{replicate, getD, set, take}
 use Rattle.system.specs.declared.TaskType.{TaskType}
 use Rattle.system.specs.declared.System.{System}
 use Rattle.system.specs.Numbers.{typeLimit}
 
+-- a type of these u, s and n: "without it d is 0" (request 2026-03)
+abbrev pub taskOf : ℕ → ℕ → ℕ → TaskType
+taskOf u s n = record { time = u; memory = s; ceiling = n; «data» = 0 }
+
+-- the type with its d
+abbrev pub withData : ℕ → TaskType → TaskType
+withData d t = record { time = t .time; memory = t .memory; ceiling = t .ceiling; «data» = d }
+
 -- what stands for a type past k
 abbrev pub noTask : TaskType
-noTask = record { time = 0; memory = 0; ceiling = 0 }
+noTask = taskOf 0 0 0
 
 -- the system before any field was read, and the one that a refusal hands out
 abbrev pub blank : System
@@ -22,6 +30,15 @@ withPlatform m rule u s y = record { engines = m; rule = rule; timecap = u; memo
 abbrev pub withType : TaskType → System → System
 withType t y =
     record { engines = y .engines; rule = y .rule; timecap = y .timecap; memorycap = y .memorycap; typecount = suc (y .typecount); types = set (y .types) (y .typecount) t }
+
+-- the type of the highest number
+abbrev pub lastType : System → TaskType
+lastType y = getD (y .types) (y .typecount - 1) noTask
+
+-- the system with another type in its place
+abbrev pub withLast : TaskType → System → System
+withLast t y =
+    record { engines = y .engines; rule = y .rule; timecap = y .timecap; memorycap = y .memorycap; typecount = y .typecount; types = set (y .types) (y .typecount - 1) t }
 
 -- the system with 0 past k, whatever stood there: what its file reads as
 abbrev pub clearedTypes : ℕ → List TaskType → List TaskType

@@ -23,6 +23,7 @@ pub use reader::HEAD_SIZE;
 pub use reader::body_part;
 pub use reader::field_at;
 pub use reader::read_system;
+pub use rules::DATA;
 pub use rules::FieldRule;
 pub use rules::PLATFORM;
 pub use rules::RuleFound;
@@ -32,11 +33,12 @@ pub use values::blank_system;
 pub use values::cleared;
 pub use values::no_task;
 
-// A type of packet function: document 01's u, s and n.
+// A type of packet function: document 01's u, s and n, and request 2026-03's d, the data memory of one instance.
 pub struct TaskType {
     pub time: u32,
     pub memory: u32,
     pub ceiling: u16,
+    pub data: u32,
 }
 
 // Document 01's m, rule, U, S and k, with the types in order of their number, all 0 past k.

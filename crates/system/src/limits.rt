@@ -14,7 +14,7 @@ pub const ENGINE_LIMIT: usize = 16;
 // The largest k.
 pub const TYPE_LIMIT: usize = 6;
 
-// The largest U, S, u and s.
+// The largest U, S, u, s and d.
 pub const SIZE_LIMIT: u32 = 1000000;
 
 // The largest product of all n + 1.
@@ -27,9 +27,9 @@ pub const TABLE_LIMIT: usize = (ENGINE_LIMIT + 1) * COLUMN_LIMIT;
 pub const NO_COLUMN: u16 = 65535;
 
 // The bytes that program `plan` reads.
-pub const FILE_BYTES: usize = 128;
+pub const FILE_BYTES: usize = 256;
 
-// Two sizes, U and S or u and s: 8.
+// A platform's U and S: 8.
 fn size_fault(time: u32, memory: u32) -> u8
     ensures { λ r. ⌜ r ≡ sizeFault time memory ⌝ }
 {
@@ -52,11 +52,14 @@ pub fn platform_fault(m: usize, rule: u8, time: u32, memory: u32) -> u8
     size_fault(time, memory)
 }
 
-// A type's u and s: 8.
+// A type's u, s and d: 8.
 pub fn type_fault(t: TaskType) -> u8
     ensures { λ r. ⌜ r ≡ typeFault t ⌝ }
 {
-    size_fault(t.time, t.memory)
+    if !((t.time <= SIZE_LIMIT) & (t.memory <= SIZE_LIMIT) & (t.data <= SIZE_LIMIT)) {
+        return 8;
+    }
+    0
 }
 
 // The columns of six types, or one more than their limit where they pass it: the true product may pass 64 bits.
@@ -88,7 +91,7 @@ pub fn columns_fault(types: [TaskType; TYPE_LIMIT]) -> u8
 fn zero_task(t: TaskType) -> bool
     ensures { λ r. ⌜ r ≡ zeroTask t ⌝ }
 {
-    (t.time == 0) & (t.memory == 0) & (t.ceiling == 0)
+    (t.time == 0) & (t.memory == 0) & (t.ceiling == 0) & (t.data == 0)
 }
 
 // The entry at i, where the first k are types.

@@ -1,18 +1,18 @@
 // The reader of system files: the field step, what each field says, and the whole file.
 ghost use mathlib.Core.Path.{_≡_};
-ghost use Prim.Native.Nat.{_<_, _≤_};
+ghost use Prim.Native.Nat.{_<_};
 ghost use lib.ListN.{getD, drop};
-ghost use Rattle.system.specs.Inner.{partOf};
+ghost use Rattle.system.specs.Inner.{partOf, Typed, Placed};
 ghost use Rattle.system.specs.Limits.{typeLimit};
 ghost use Rattle.system.specs.Layout.{word2, word4, fieldAt, headFrom, seenOf, ruledField};
-ghost use Rattle.system.specs.Layout.{unlessFault, platformOf, typeOf, bodyOf, endOf, readFile, unread, Reads};
+ghost use Rattle.system.specs.Layout.{unlessFault, platformOf, typeOf, dataOf, bodyOf, endOf, readFile, unread, Reads};
 use crate::Answer;
 use crate::Opened;
 use crate::Refusal;
 use crate::System;
-use crate::TaskType;
 use crate::limits;
 use crate::rules;
+use crate::rules::DATA;
 use crate::rules::FieldRule;
 use crate::rules::RuleFound;
 use crate::rules::TYPE;
@@ -148,7 +148,7 @@ fn head_of(field: Field, last: u8) -> Head
 }
 
 // How many fields of this tag were read before, where their number decides: that of types. Any other field stands
-// only where `may_follow` lets it, and so once.
+// only where `may_follow` lets it: a platform once, and d once for each type.
 fn seen_of(tag: u8, y: System) -> usize
     ensures { λ r. ⌜ r ≡ seenOf tag y ⌝ }
 {
@@ -198,17 +198,22 @@ fn type_of(b: &[u8], y: System) -> Opened
     requires { ⌜ y .typecount < typeLimit ⌝ }
     ensures { λ r. ⌜ Reads (typeOf (now (b .entry)) y) r ⌝ }
 {
-    let t = TaskType {
-        time: four_bytes(b, 0),
-        memory: four_bytes(b, 4),
-        ceiling: two_bytes(b, 8),
-    };
+    let t = values::task_of(four_bytes(b, 0), four_bytes(b, 4), two_bytes(b, 8));
     unless_fault(limits::type_fault(t), values::with_type(t, y))
+}
+
+// The body of a type's data memory: d, for the last type.
+fn data_of(b: &[u8], y: System) -> Opened
+    requires { ⌜ Typed y ⌝ }
+    ensures { λ r. ⌜ Reads (dataOf (now (b .entry)) y) r ⌝ }
+{
+    let t = values::with_data(four_bytes(b, 0), values::last_type(y));
+    unless_fault(limits::type_fault(t), values::with_last(t, y))
 }
 
 // A field's body, where its head has a rule: 7, then what its tag says of it.
 fn body_of(rule: FieldRule, b: &[u8], y: System) -> Opened
-    requires { ⌜ rule .allowed ≤ typeLimit ⌝ }
+    requires { ⌜ Placed rule y ⌝ }
     ensures { λ r. ⌜ Reads (bodyOf rule (now (b .entry)) y) r ⌝ }
 {
     let tag = rule.tag;
@@ -218,11 +223,15 @@ fn body_of(rule: FieldRule, b: &[u8], y: System) -> Opened
     if tag == TYPE {
         return type_of(b, y);
     }
+    if tag == DATA {
+        return data_of(b, y);
+    }
     platform_of(b, y)
 }
 
 // A field: its head, then its body.
 fn field_of(field: Field, b: &[u8], last: u8, y: System) -> Opened
+    requires { ⌜ (1 < last → Typed y) ⌝ }
     ensures { λ r. ⌜ Reads (ruledField (headFrom (field .headed) (field .tag) (field .size) (field .whole) last) (now (b .entry)) y) r ⌝ }
 {
     let head = head_of(field, last);

@@ -27,8 +27,10 @@ pub const PLATFORM: u8 = 1;
 
 pub const TYPE: u8 = 2;
 
+pub const DATA: u8 = 3;
+
 // The table of fields: refusals 2, 4 and 7 are decided from it.
-const RULES: [FieldRule; 2] = [
+const RULES: [FieldRule; 3] = [
     FieldRule {
         tag: PLATFORM,
         body: 10, // m, rule, U, S
@@ -37,12 +39,17 @@ const RULES: [FieldRule; 2] = [
     FieldRule {
         tag: TYPE,
         body: 10, // u, s, n
-        allowed: TYPE_LIMIT,
+        allowed: TYPE_LIMIT, // a seventh is refused 7
+    },
+    FieldRule {
+        tag: DATA,
+        body: 4, // d (request 2026-03)
+        allowed: TYPE_LIMIT, // one for each type
     },
 ];
 
 // Which field may follow which: refusal 3 is decided from it alone.
-const FOLLOWS: [Follow; 3] = [
+const FOLLOWS: [Follow; 5] = [
     Follow {
         tag: PLATFORM,
         last: 0,
@@ -54,6 +61,14 @@ const FOLLOWS: [Follow; 3] = [
     Follow {
         tag: TYPE,
         last: TYPE,
+    },
+    Follow {
+        tag: DATA, // directly after its type, and once
+        last: TYPE,
+    },
+    Follow {
+        tag: TYPE,
+        last: DATA,
     },
 ];
 

@@ -1,21 +1,39 @@
-// The one place where the code makes a `System`: a later field is added here.
+// The one place where the code makes a `System` or a `TaskType`: a later field is added here.
 ghost use mathlib.Core.Path.{_≡_};
 ghost use Prim.Native.Nat.{_<_};
 ghost use Rattle.system.specs.Limits.{typeLimit};
-ghost use Rattle.system.specs.Values.{noTask, blank, withPlatform, withType, clearedTypes, cleared};
+ghost use Rattle.system.specs.Values.{taskOf, withData, noTask, blank, withPlatform, withType, lastType, withLast, clearedTypes, cleared};
+ghost use Rattle.system.specs.Inner.{Typed};
 use crate::System;
 use crate::TYPE_LIMIT;
 use crate::TaskType;
+
+// A type of these u, s and n: without its field, d is 0.
+pub(crate) fn task_of(time: u32, memory: u32, ceiling: u16) -> TaskType
+    ensures { λ r. ⌜ r ≡ taskOf time memory ceiling ⌝ }
+{
+    TaskType {
+        time,
+        memory,
+        ceiling,
+        data: 0,
+    }
+}
+
+// The type with its d.
+pub(crate) fn with_data(d: u32, t: TaskType) -> TaskType
+    ensures { λ r. ⌜ r ≡ withData d t ⌝ }
+{
+    let mut z = t;
+    z.data = d;
+    z
+}
 
 // What stands for a type past k.
 pub fn no_task() -> TaskType
     ensures { λ r. ⌜ r ≡ noTask ⌝ }
 {
-    TaskType {
-        time: 0,
-        memory: 0,
-        ceiling: 0,
-    }
+    task_of(0, 0, 0)
 }
 
 // The system before any field was read, and the one that a refusal hands out.
@@ -53,6 +71,27 @@ pub(crate) fn with_type(t: TaskType, y: System) -> System
     let k = y.typecount;
     z.types[k] = t;
     z.typecount = k + 1;
+    z
+}
+
+// The type of the highest number.
+pub(crate) fn last_type(y: System) -> TaskType
+    requires { ⌜ Typed y ⌝ }
+    ensures { λ r. ⌜ r ≡ lastType y ⌝ }
+{
+    let types = y.types;
+    let last = y.typecount - 1;
+    types[last]
+}
+
+// The system with another type in its place.
+pub(crate) fn with_last(t: TaskType, y: System) -> System
+    requires { ⌜ Typed y ⌝ }
+    ensures { λ r. ⌜ r ≡ withLast t y ⌝ }
+{
+    let mut z = y;
+    let last = y.typecount - 1;
+    z.types[last] = t;
     z
 }
 

@@ -1,7 +1,8 @@
-// The four calls against a ledger over brute search: document 01's cases W9 to W12 and three lists of calls made outside this project,
-// with the answers that they give; then many drawn lists of calls, over dirty tables, the same table again, and tables that are too
-// short. After every call the answer, the board and the table are compared. Prints the final board of each list that is given, the
-// counts of the drawn ones, and a line for each call that is answered otherwise.
+// The four calls against a ledger over brute search: document 01's cases W9 to W12, lists of calls that show what data memory an admit
+// takes and a retire frees, and five lists made outside this project, with the answers that they give; then many drawn lists of calls,
+// over dirty tables, the same table again, and tables that are too short. After every call the answer, the board and the table are
+// compared. Prints the final board of each list that is given, the counts of the drawn ones, and a line for each call that is answered
+// otherwise.
 use board::Board;
 use board::Turn;
 use brute::files;
@@ -402,6 +403,14 @@ fn tight_memory() -> System {
     systems::with_type(systems::with_type(two, 1, 3, 2), 1, 3, 1)
 }
 
+// The same by memory with data memory, under either rule.
+fn tight_data(rule: u8, memory: u32) -> System {
+    let y = systems::platform_of(2, rule, 100, memory);
+    let one = systems::with_data(systems::with_type(y, 1, 4, 2), 4);
+    let two = systems::with_data(systems::with_type(one, 1, 1, 2), 2);
+    systems::with_data(systems::with_type(two, 1, 4, 2), 3)
+}
+
 // A line of a spread: the accepted admits, seats, retires and repacks, the calls refused 11, 13, 14, 21, 22, 23 and 24, and those
 // answered wrongly.
 fn say_tally(name: &[u8], t: Tally) {
@@ -440,6 +449,70 @@ fn say_cases() {
     say_script_of(b"W12:", b, b"a1-@1 a1-@2 a1-@3 a1-24 r12@0 a1-@2 ");
 }
 
+// One engine that four of type 1, with s 5 and d 3, just fill; type 2 has s 1 and d 2.
+fn stacked(rule: u8, memory: u32) -> System {
+    let y = systems::platform_of(1, rule, 100, memory);
+    let one = systems::with_data(systems::with_type(y, 1, 5, 4), 3);
+    systems::with_data(systems::with_type(one, 1, 1, 2), 2)
+}
+
+// Under rule 1 a retire frees d, 3, so that the first of type 2 just fits; only the last of type 1 frees s too.
+fn say_shared() {
+    let y = stacked(1, 17);
+    say_script_of(b"shared, full:", y, b"a1-@1 a1-@1 a1-@1 a1-@1 a2-24 ");
+    say_script_of(
+        b"shared, d freed and taken:",
+        y,
+        b"a1-@1 a1-@1 a1-@1 a1-@1 a2-24 r11@0 a2-@1 a2-24 a1-24 ",
+    );
+    say_script_of(
+        b"shared, two left:",
+        y,
+        b"a1-@1 a1-@1 a1-@1 a1-@1 r11@0 r11@0 ",
+    );
+    say_script_of(
+        b"shared, one left:",
+        y,
+        b"a1-@1 a1-@1 a1-@1 a1-@1 r11@0 r11@0 r11@0 ",
+    );
+    say_script_of(
+        b"shared, none left:",
+        y,
+        b"a1-@1 a1-@1 a1-@1 a1-@1 r11@0 r11@0 r11@0 r11@0 ",
+    );
+    say_script_of(
+        b"shared, another left:",
+        y,
+        b"a2-@1 a1-@1 a2-@1 a1-@1 r21@0 r11@0 r11@0 r1122 ",
+    );
+    say_script_of(
+        b"shared, moved:",
+        y,
+        b"s1-@0 s1-@0 s1-@0 s2-@0 s2-24 r11@0 p--@0 s2-@0 ",
+    );
+}
+
+// Under rule 0 every instance brings and takes both.
+fn say_own() {
+    let y = stacked(0, 32);
+    say_script_of(b"own, full:", y, b"a1-@1 a1-@1 a1-@1 a1-@1 a2-24 ");
+    say_script_of(
+        b"own, freed and taken:",
+        y,
+        b"a1-@1 a1-@1 a1-@1 a1-@1 a2-24 r11@0 a2-@1 a2-@1 a1-24 ",
+    );
+    say_script_of(
+        b"own, one left:",
+        y,
+        b"a1-@1 a1-@1 a1-@1 a1-@1 r11@0 r11@0 r11@0 ",
+    );
+    say_script_of(
+        b"own, none left:",
+        y,
+        b"a1-@1 a1-@1 a1-@1 a1-@1 r11@0 r11@0 r11@0 r11@0 ",
+    );
+}
+
 // A list of calls that was made outside this project from document 01, with its answers.
 fn say_vector_one() {
     let file =
@@ -467,11 +540,33 @@ fn say_vector_three() {
     say_script(b"vector three:", file, calls);
 }
 
+// A list of calls that was made outside this project from request 2026-03, with its answers.
+fn say_vector_four() {
+    let file =
+        b"\x01\x00\x0a\x02\x01\x00\x00\x00\x16\x00\x00\x00\x1a\x02\x00\x0a\x00\x00\x00\x01\x00\x00\x00\x05\x00\x00\x02\x00\x0a\x00\x00\x00\x06\x00\x00\x00\x06\x00\x01\x03\x00\x04\x00\x00\x00\x05";
+    let calls =
+        b"r1122 r1222 p--@0 a2-@1 a2-21 a2-21 a1-21 r2222 s1-21 p--@0 r21@0 a2-@1 r21@0 r2122 p--@0 r1222 r1122 r2122 r3213 a1-21 p--@0 a2-@1 a2-21 r21@0 r2222 r1222 a2-@1 r21@0 s2-@0 a1-21 a1-21 a2-21 r21@0 ";
+    say_script(b"vector four:", file, calls);
+}
+
+// A list of calls that was made outside this project from request 2026-03, with its answers.
+fn say_vector_five() {
+    let file =
+        b"\x01\x00\x0a\x01\x01\x00\x00\x00\x0a\x00\x00\x00\x0a\x02\x00\x0a\x00\x00\x00\x05\x00\x00\x00\x00\x00\x00\x02\x00\x0a\x00\x00\x00\x01\x00\x00\x00\x00\x00\x00\x03\x00\x04\x00\x00\x00\x01\x02\x00\x0a\x00\x00\x00\x00\x00\x00\x00\x00\x00\x02\x03\x00\x04\x00\x00\x00\x03\x02\x00\x0a\x00\x00\x00\x02\x00\x00\x00\x09\x00\x02";
+    let calls =
+        b"p--@0 a3-@1 a4-24 r31@0 a3-@1 p--@0 a3-@1 r31@0 a3-@1 a4-24 a4-24 a4-24 s4-24 a4-24 r31@0 p--@0 p--@0 p--@0 a4-24 a3-@1 s4-24 a4-24 a4-24 a4-24 r1122 p--@0 a4-24 a4-24 r31@0 p--@0 a3-@1 r31@0 a3-@1 ";
+    say_script(b"vector five:", file, calls);
+}
+
 fn main() {
     say_cases();
+    say_shared();
+    say_own();
     say_vector_one();
     say_vector_two();
     say_vector_three();
+    say_vector_four();
+    say_vector_five();
     say::say(
         b"calls: admitted, seated, retired, repacked, refused 11, 13, 14, 21, 22, 23, 24, mismatches\n",
     );
@@ -480,4 +575,6 @@ fn main() {
     say_tally(b"three types:", drawn_lists(13, 200, 3, 2));
     say_tally(b"tight time:", lists_of(14, 100, tight_time()));
     say_tally(b"tight memory:", lists_of(15, 100, tight_memory()));
+    say_tally(b"tight data, own:", lists_of(16, 50, tight_data(0, 11)));
+    say_tally(b"tight data, shared:", lists_of(17, 50, tight_data(1, 13)));
 }

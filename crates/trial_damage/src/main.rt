@@ -1,8 +1,9 @@
-// Two files of two types, cut at every place, and with every value at every byte: the reader against the one of crate `brute`, which
-// judges field by field at fixed places. A file that is read must be the file of its system, and a refused one hand out the blank system.
+// Files of 39, 53 and 133 bytes, cut at every place, and with every value at every byte: the reader against the one of crate `brute`. A
+// file that is read must give its system, and be the file of it where no tag 3 gives a d of 0; a refused one hands out the blank system.
 ghost use Prim.Native.Nat.{_<_};
 use brute::files;
 use brute::files::File;
+use brute::files::Reading;
 use brute::say;
 use brute::systems;
 use std::num::wrapping_add_usize;
@@ -22,14 +23,25 @@ fn no_tally() -> Tally {
     }
 }
 
+// A type with every number but n at its limit.
+fn with_limits(y: System, ceiling: u16) -> System {
+    systems::with_data(systems::with_type(y, 1000000, 1000000, ceiling), 1000000)
+}
+
 // Every number at its limit, so that most damage passes one.
 fn at_limits() -> System {
-    let y = systems::platform_of(16, 1, 1000000, 1000000);
-    systems::with_type(
-        systems::with_type(y, 1000000, 1000000, 31),
-        1000000,
-        1000000,
+    with_limits(
+        with_limits(systems::platform_of(16, 1, 1000000, 1000000), 31),
         31,
+    )
+}
+
+// System A with small numbers for d, which one byte makes 0.
+fn a_with_data() -> System {
+    let one = systems::with_type(systems::platform_of(3, 0, 10, 8), 4, 3, 3);
+    systems::with_data(
+        systems::with_type(systems::with_data(one, 1), 3, 2, 2),
+        65536,
     )
 }
 
@@ -49,11 +61,12 @@ fn number_of(a: Answer) -> usize {
 }
 
 // The system handed out is the file's, or the blank one.
-fn right_system(number: usize, y: System, file: &[u8]) -> bool {
-    if number == 0 {
-        return files::same_file(files::file_of(y), file);
+fn right_system(number: usize, y: System, file: &[u8], wanted: Reading) -> bool {
+    if number != 0 {
+        return systems::same_system(y, system::blank_system());
     }
-    systems::same_system(y, system::blank_system())
+    let z = wanted.system;
+    systems::same_system(y, z) & (wanted.zero | files::same_file(files::file_of(y), file))
 }
 
 fn counted(t: Tally, number: usize) -> Tally {
@@ -78,38 +91,41 @@ fn judged(t: Tally, file: &[u8]) -> Tally {
     let y = o.system;
     let a = o.answer;
     let got = number_of(a);
-    let wanted = files::refusal_of(file);
-    if (got == wanted) & right_system(got, y, file) {
+    let wanted = files::reading_of(file);
+    if (got == wanted.refusal) & right_system(got, y, file, wanted) {
         return counted(t, got);
     }
-    mismatch(t, got, wanted)
+    mismatch(t, got, wanted.refusal)
 }
 
 // The first n bytes of a file.
-fn judged_part(t: Tally, bytes: &[u8; 128], n: usize) -> Tally {
+fn judged_part(t: Tally, bytes: &[u8; 256], n: usize) -> Tally {
     judged(t, files::first_of(bytes, n))
 }
 
-// The first 0 to 38 bytes, and the whole file.
+// Each part from the front, none and the whole file among them.
 fn cuts(f: File) -> Tally {
     let bytes = f.bytes;
     let mut t = no_tally();
-    for n in 0..40 {
-        let next = judged_part(t, &bytes, n);
-        t = next;
+    for n in 0..256 {
+        if n <= f.size {
+            let next = judged_part(t, &bytes, n);
+            t = next;
+        }
     }
     t
 }
 
 // Every value at one place.
 fn changes_at(f: File, at: usize, t: Tally) -> Tally
-    requires { ⌜ at < 39 ⌝ }
+    requires { ⌜ at < 256 ⌝ }
 {
+    let size = f.size;
     let mut bytes = f.bytes;
     let mut all = t;
     for v in 0..256usize {
         bytes[at] = v as u8;
-        let next = judged_part(all, &bytes, 39);
+        let next = judged_part(all, &bytes, size);
         all = next;
     }
     all
@@ -117,9 +133,11 @@ fn changes_at(f: File, at: usize, t: Tally) -> Tally
 
 fn changes(f: File) -> Tally {
     let mut t = no_tally();
-    for at in 0..39 {
-        let next = changes_at(f, at, t);
-        t = next;
+    for at in 0..256 {
+        if at < f.size {
+            let next = changes_at(f, at, t);
+            t = next;
+        }
     }
     t
 }
@@ -129,21 +147,29 @@ fn say_tally(name: &[u8], t: Tally) {
     say::say_row(name, row, 11);
 }
 
+// The lines of a file, with how many answers were wrong.
+fn say_damage(cut: &[u8], changed: &[u8], y: System) -> usize {
+    let f = files::file_of(y);
+    let t = cuts(f);
+    let u = changes(f);
+    say_tally(cut, t);
+    say_tally(changed, u);
+    wrapping_add_usize(t.wrong, u.wrong)
+}
+
 fn main() {
-    let a = files::file_of(systems::system_a(3));
-    let limits = files::file_of(at_limits());
-    let t = cuts(a);
-    let u = changes(a);
-    let v = cuts(limits);
-    let w = changes(limits);
     say::say(b"files: read, refused 1 to 10\n");
-    say_tally(b"A cut:", t);
-    say_tally(b"A changed:", u);
-    say_tally(b"limits cut:", v);
-    say_tally(b"limits changed:", w);
+    let a = say_damage(b"A cut:", b"A changed:", systems::system_a(3));
+    let data = say_damage(b"A with d cut:", b"A with d changed:", a_with_data());
+    let limits = say_damage(b"limits cut:", b"limits changed:", at_limits());
+    let longest = say_damage(
+        b"longest cut:",
+        b"longest changed:",
+        systems::system_longest(1),
+    );
     let wrong = wrapping_add_usize(
-        wrapping_add_usize(t.wrong, u.wrong),
-        wrapping_add_usize(v.wrong, w.wrong),
+        wrapping_add_usize(a, data),
+        wrapping_add_usize(limits, longest),
     );
     say::say_count(b"mismatches", wrong);
 }

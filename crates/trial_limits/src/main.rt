@@ -1,8 +1,8 @@
-// Document 01's limits, both ends of each, through every call: m 1 and 16, k 1 and 6, n 0 and 1,023, 1 and 1,024 columns, numbers 0 and
-// 1,000,000; types and engines 0, the last, one past it and the largest number there is; tables that are just long enough, an entry too
-// short, and of 20,000 entries. First files at the limits and one past them: what opening, planning and filling answer. Then plans, with
-// what each engine gets, and lists of calls, with each answer and what an engine holds after it; a line at the end of each has the last
-// cell of the table, and whether every entry past it is as it was lent. What is expected was computed apart from the code.
+// The limits, both ends of each, through every call: m 1 and 16, k 1 and 6, n 0 and 1,023, 1 and 1,024 columns, numbers 0 and 1,000,000,
+// those of d among them; types and engines 0, the last, one past it and the largest number there is; tables that are just long enough, an
+// entry too short, and of 20,000 entries. First files at the limits and one past them: what opening, planning and filling answer. Then
+// plans, with what each engine gets, and lists of calls, with each answer and what an engine holds after it; a line at the end of each has
+// the last cell of the table, and whether every entry past it is as it was lent. What is expected was computed apart from the code.
 use board::Board;
 use board::Turn;
 use board::admit;
@@ -282,6 +282,12 @@ fn caps_of(time: u32, memory: u32) -> System {
     systems::with_type(systems::platform_of(1, 1, time, memory), 0, 0, 1)
 }
 
+// One type that takes no time: s, n and d, on engines of the largest memory.
+fn stacks(engines: usize, rule: u8, memory: u32, ceiling: u16, data: u32) -> System {
+    let y = systems::platform_of(engines, rule, 1000000, 1000000);
+    systems::with_data(systems::with_type(y, 0, memory, ceiling), data)
+}
+
 // Files at the limits of m and rule, of the capacities and costs, and of the columns.
 fn say_platforms() {
     say_opening(b"m 0:", systems::single(0, 0, 0, 0, 0));
@@ -303,6 +309,14 @@ fn say_sizes() {
     say_opening(b"u 1000001:", task_of(1000001, 0));
     say_opening(b"s 1000001:", task_of(0, 1000001));
     say_opening(b"s 4294967295:", task_of(0, 4294967295));
+    say_opening(b"d 1000000, rule 0:", stacks(1, 0, 0, 1, 1000000));
+    say_opening(b"d 1000000, rule 1:", stacks(1, 1, 0, 1, 1000000));
+    say_opening(b"s, d 1000000, rule 0:", stacks(1, 0, 1000000, 1, 1000000));
+    say_opening(b"s, d 1000000, rule 1:", stacks(1, 1, 1000000, 1, 1000000));
+    say_opening(b"s, d 1000000, n 0:", stacks(1, 1, 1000000, 0, 1000000));
+    say_opening(b"d 1000001:", stacks(1, 1, 0, 1, 1000001));
+    say_opening(b"d 1000001, n 0:", stacks(1, 0, 0, 0, 1000001));
+    say_opening(b"d 4294967295:", stacks(1, 0, 0, 1, 4294967295));
 }
 
 fn say_columns() {
@@ -358,6 +372,19 @@ fn say_large_plans() {
     say_ways(systems::system_full(1), LONG);
 }
 
+// Plans that d alone decides, and those of the longest file.
+fn say_data_plans() {
+    say_ways(stacks(1, 1, 0, 1, 1000000), 4);
+    say_ways(stacks(16, 0, 0, 17, 1000000), LONG);
+    say_ways(stacks(16, 1, 0, 1023, 15625), 17408);
+    say_ways(stacks(16, 1, 15625, 1008, 15625), LONG);
+    say_ways(stacks(16, 1, 1000000, 1023, 1000000), LONG);
+    say_ways(stacks(16, 0, 1000000, 1023, 1000000), LONG);
+    say_ways(systems::system_longest(0), 17407);
+    say_ways(systems::system_longest(0), 17408);
+    say_ways(systems::system_longest(1), LONG);
+}
+
 // One engine and one type that costs nothing, on an engine that has nothing.
 fn say_least() {
     say_script(
@@ -388,22 +415,44 @@ fn say_sixteen(y: System, lent: usize) {
     );
 }
 
-// A type 1,023 times, 64 to an engine.
-fn say_most(lent: usize) {
+// A type 1,023 times.
+fn say_most(y: System, lent: usize) {
     say_script(
-        systems::single(16, 0, 1000000, 15625, 1023),
+        y,
         lent,
         b"m1@ a11 s1@ p01 p0@ r1@ a1@ a11 r1@ s1@ s11 r11 r11 p01 p0@ r1A ",
     );
 }
 
 // Six types, each admitted, until a newcomer finds an engine only by a seat.
-fn say_six(rule: u8, lent: usize) {
+fn say_six(y: System, lent: usize) {
     say_script(
-        systems::system_full(rule),
+        y,
         lent,
         b"a31 a51 a42 a62 a13 a13 a14 a14 a15 a15 a16 a16 a17 a17 a18 a18 a19 a19 a1: a1: a1; a1; a1< a1< a1= a1= a1> a1> a1? a1? a1@ a1@ a1@ s1@ s11 s1@ s11 a0@ a7@ az@ s0@ s7@ sz@ r0@ r7@ r6A r60 r6z a61 a2@ s2@ s21 p0@ r6@ r6@ a6@ r2@ s22 s6@ ",
     );
+}
+
+// Lists of calls on boards whose memory d fills.
+fn say_data_calls() {
+    say_script(
+        stacks(1, 1, 0, 2, 1000000),
+        LONG,
+        b"a11 a11 s11 p01 r11 r11 s11 s11 r11 ",
+    );
+    say_script(stacks(1, 1, 1000000, 2, 1000000), LONG, b"a11 s11 p01 r11 ");
+    say_script(
+        stacks(1, 1, 500000, 3, 250000),
+        LONG,
+        b"a11 a11 a11 r11 a11 r11 r11 s11 s11 s11 p01 ",
+    );
+    say_sixteen(stacks(16, 0, 0, 17, 1000000), LONG);
+    say_sixteen(stacks(16, 1, 0, 1023, 1000000), 17407);
+    say_sixteen(stacks(16, 1, 1, 17, 999999), 306);
+    say_most(stacks(16, 1, 0, 1023, 15625), 17408);
+    say_most(stacks(16, 1, 15625, 1023, 15625), LONG);
+    say_six(systems::system_longest(0), LONG);
+    say_six(systems::system_longest(1), 17408);
 }
 
 fn main() {
@@ -412,6 +461,7 @@ fn main() {
     say_columns();
     say_small_plans();
     say_large_plans();
+    say_data_plans();
     say_least();
     say_sixteen(systems::single(16, 0, 10, 10, 17), 305);
     say_sixteen(systems::single(16, 0, 10, 10, 17), 306);
@@ -422,10 +472,12 @@ fn main() {
         LONG,
         b"a11 s1@ p0@ r1@ ",
     );
-    say_most(17407);
-    say_most(17408);
-    say_most(LONG);
-    say_six(0, 17407);
-    say_six(0, 17408);
-    say_six(1, LONG);
+    let most = systems::single(16, 0, 1000000, 15625, 1023);
+    say_most(most, 17407);
+    say_most(most, 17408);
+    say_most(most, LONG);
+    say_six(systems::system_full(0), 17407);
+    say_six(systems::system_full(0), 17408);
+    say_six(systems::system_full(1), LONG);
+    say_data_calls();
 }

@@ -1,5 +1,5 @@
 // Listings, whole, as they are written: document 01's worked one; a file for each refusal that a file can come to, and a table that is
-// too short; files of the greatest length, with 1,024 columns and all 16 engines; files with bytes past a good one, up to and past the 128 that
+// too short; files of the greatest length, with 1,024 columns and all 16 engines; files with bytes past a good one, up to and past the 256 that
 // program `plan` reads; and every refusal number through the listing of a refused plan. What is expected was computed apart from the code.
 use brute::files;
 use brute::files::File;
@@ -26,7 +26,7 @@ fn say_listing(name: &[u8], file: &[u8]) {
 }
 
 // The listing of the first bytes of a file.
-fn say_part(name: &[u8], bytes: &[u8; 128], size: usize) {
+fn say_part(name: &[u8], bytes: &[u8; 256], size: usize) {
     say_listing(name, files::first_of(bytes, size));
 }
 
@@ -44,7 +44,7 @@ fn say_system(name: &[u8], y: System) {
 fn say_changed(name: &[u8], at: usize, byte: u8) {
     let f = files::file_of(systems::system_a(3));
     let mut bytes = f.bytes;
-    if at < 128 {
+    if at < 256 {
         bytes[at] = byte;
     }
     say_part(name, &bytes, f.size);
@@ -88,7 +88,8 @@ fn say_refusals() {
     let a = files::file_of(systems::system_a(3));
     say_file(b"one byte", a, 1);
     say_file(b"a body cut", a, 38);
-    say_changed(b"tag 3", 13, 3);
+    say_changed(b"tag 4", 13, 4);
+    say_changed(b"a d after the platform", 13, 3);
     say_changed(b"a type first", 0, 2);
     say_changed(b"a second platform", 13, 1);
     say_changed(b"length 11", 15, 11);
@@ -96,6 +97,10 @@ fn say_refusals() {
     say_system(b"m 17", systems::system_a(17));
     say_changed(b"rule 2", 4, 2);
     say_changed(b"U 16777226", 5, 1);
+    say_system(
+        b"d 1000001",
+        systems::with_data(systems::system_a(3), 1000001),
+    );
     say_file(b"empty", a, 0);
     say_file(b"no type", a, 13);
     say_system(b"n 1024", systems::single(1, 0, 0, 0, 1024));
@@ -104,10 +109,10 @@ fn say_refusals() {
 }
 
 // The longest file, and the same byte after it.
-fn longer(f: File, byte: u8) -> [u8; 256] {
+fn longer(f: File, byte: u8) -> [u8; 512] {
     let old = f.bytes;
-    let mut bytes: [u8; 256] = [byte; 256];
-    for i in 0..91 {
+    let mut bytes: [u8; 512] = [byte; 512];
+    for i in 0..133 {
         bytes[i] = old[i];
     }
     bytes
@@ -115,17 +120,35 @@ fn longer(f: File, byte: u8) -> [u8; 256] {
 
 // So many bytes of it.
 fn say_longer(name: &[u8], byte: u8, size: usize) {
-    let bytes = longer(files::file_of(systems::system_full(1)), byte);
+    let bytes = longer(files::file_of(systems::system_longest(1)), byte);
     say_listing(name, files::first_of(&bytes, size));
 }
 
-// A long file with a seventh type.
+// The longest file with a seventh type.
 fn say_seventh(size: usize) {
-    let f = files::file_of(systems::system_full(0));
-    let mut bytes = f.bytes;
-    bytes[91] = 2;
-    bytes[93] = 10;
-    say_part(b"seven types", &bytes, size);
+    let mut bytes = longer(files::file_of(systems::system_longest(0)), 0);
+    bytes[133] = 2;
+    bytes[135] = 10;
+    say_listing(b"seven types", files::first_of(&bytes, size));
+}
+
+// The longest file, with bytes past it.
+fn say_lengths() {
+    say_longer(b"132 bytes", 0, 132);
+    say_longer(b"133 bytes", 0, 133);
+    say_longer(b"134 bytes", 2, 134);
+    say_longer(b"135 bytes", 2, 135);
+    say_longer(b"136 bytes, no tag", 0, 136);
+    say_longer(b"136 bytes, no length", 2, 136);
+    say_longer(b"136 bytes, a second d", 3, 136);
+    say_longer(b"255 bytes", 0, 255);
+    say_longer(b"256 bytes", 1, 256);
+    say_longer(b"257 bytes", 2, 257);
+    say_longer(b"512 bytes", 3, 512);
+    say_seventh(145);
+    say_seventh(146);
+    say_seventh(256);
+    say_seventh(257);
 }
 
 fn main() {
@@ -134,8 +157,17 @@ fn main() {
     say_system(b"all n 0, m 1", systems::six_of(1, [0; TYPE_LIMIT]));
     say_system(b"all n 0, m 16", systems::six_of(16, [0; TYPE_LIMIT]));
     say_system(b"costs nothing", systems::six_of(16, [1; TYPE_LIMIT]));
+    say_system(
+        b"system A with d 1",
+        systems::with_data(systems::system_a(3), 1),
+    );
+    say_system(
+        b"system B, shared, d 2",
+        systems::with_data(systems::system_b(4, 1), 2),
+    );
     say_system(b"1024 columns, rule 0", systems::system_full(0));
     say_system(b"1024 columns, rule 1", systems::system_full(1));
+    say_system(b"longest, rule 0", systems::system_longest(0));
     say_system(
         b"n 1023, m 16",
         systems::single(16, 0, 1000000, 15625, 1023),
@@ -145,19 +177,7 @@ fn main() {
         b"n 1023, too many",
         systems::single(16, 1, 1000000, 1000000, 1023),
     );
-    say_longer(b"90 bytes", 0, 90);
-    say_longer(b"91 bytes", 0, 91);
-    say_longer(b"92 bytes", 2, 92);
-    say_longer(b"93 bytes", 2, 93);
-    say_longer(b"94 bytes, no tag", 0, 94);
-    say_longer(b"94 bytes, no length", 2, 94);
-    say_longer(b"127 bytes", 0, 127);
-    say_longer(b"128 bytes", 1, 128);
-    say_longer(b"129 bytes", 2, 129);
-    say_longer(b"256 bytes", 0, 256);
-    say_seventh(103);
-    say_seventh(104);
-    say_seventh(128);
+    say_lengths();
     say::say(b"refused plans\n");
     say_numbers();
 }

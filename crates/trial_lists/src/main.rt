@@ -101,7 +101,7 @@ fn main() {
     say_lengths(one_each(1, 1));
     say_lengths(one_each(15, 15));
     say_lengths(systems::system_a(16));
-    say_lengths(systems::system_full(1));
+    say_lengths(systems::system_longest(1));
     say::say(b"the order of 5, 11, 15 and 12\n");
     say_list(one_each(17, 17), 0, 0);
     say_list(one_each(16, 17), 305, 15);

@@ -1,7 +1,7 @@
 // The plan, by value and into a list, and filling alone, against the brute search, over dirty tables that are longer than they need to
-// be, and one entry too short: document 01's cases W1 to W8, every small system of one type, and a spread of systems of two to six
-// types. Prints a line for each case, the counts of each spread, and a line for each system that is planned otherwise than the search
-// says.
+// be, and one entry too short: document 01's cases W1 to W8, system B with data memory under both rules, every small system of one type
+// with a drawn d, and a spread of systems of two to six types. Prints a line for each case, the counts of each spread, and a line for
+// each system that is planned otherwise than the search says.
 ghost use Prim.Native.Nat.{_≤_, _<_};
 use brute::files;
 use brute::recovery;
@@ -9,6 +9,7 @@ use brute::recovery::Recovery;
 use brute::say;
 use brute::search;
 use brute::spread;
+use brute::spread::DrawnSystem;
 use brute::systems;
 use brute::tables;
 use loads::EngineLoad;
@@ -249,7 +250,7 @@ fn say_tally(name: &[u8], t: Tally) {
     );
 }
 
-// The system of one type that a number stands for: rule, m 1 to 3, n 0 to 4, then U, S, u and s 0 to 6.
+// The system of one type that a number stands for: rule, m 1 to 3, n 0 to 4, then U, S, u and s 0 to 6; its d is drawn.
 fn one_type(code: usize) -> System {
     let rule = (code % 2) as u8;
     let engines = (code / 2) % 3 + 1;
@@ -258,12 +259,13 @@ fn one_type(code: usize) -> System {
     let memory = ((code / 210) % 7) as u32;
     let each = ((code / 1470) % 7) as u32;
     let size = ((code / 10290) % 7) as u32;
-    systems::with_type(
-        systems::platform_of(engines, rule, time, memory),
-        each,
-        size,
-        ceiling,
-    )
+    let y = systems::platform_of(engines, rule, time, memory);
+    let d = DrawnSystem {
+        seed: code as u64,
+        system: systems::with_type(y, each, size, ceiling),
+    };
+    let drawn = spread::with_drawn_data(d, false);
+    drawn.system
 }
 
 // All of them, with every cell of one in 64.
@@ -292,7 +294,7 @@ fn drawn(seed: u64, number: usize, engines: usize, typecount: usize, most: usize
     t
 }
 
-// A case of document 01: the answer, then time, memory and counts of each used engine.
+// A case that is given: the answer, then time, memory and counts of each used engine.
 fn say_case(name: &[u8], y: System) {
     let t = trial_of(y, tables::dirty_table(), 512, 0, false);
     let p = t.plan;
@@ -326,6 +328,42 @@ fn say_cells(y: System) {
     say::say(b"\n");
 }
 
+// System B on four engines with data memory: under rule 1 as many share an engine as leave room for the d of each, under rule 0 each
+// instance has s and d.
+fn say_data() {
+    say_case(
+        b"B own, d 3:",
+        systems::with_data(systems::system_b(4, 0), 3),
+    );
+    say_case(
+        b"B own, d 4:",
+        systems::with_data(systems::system_b(4, 0), 4),
+    );
+    say_case(
+        b"B shared, d 0:",
+        systems::with_data(systems::system_b(4, 1), 0),
+    );
+    say_case(
+        b"B shared, d 1:",
+        systems::with_data(systems::system_b(4, 1), 1),
+    );
+    say_case(
+        b"B shared, d 2:",
+        systems::with_data(systems::system_b(4, 1), 2),
+    );
+    say_case(
+        b"B shared, d 3:",
+        systems::with_data(systems::system_b(4, 1), 3),
+    );
+    say_case(
+        b"B shared, d 4:",
+        systems::with_data(systems::system_b(4, 1), 4),
+    );
+    let one = systems::with_type(systems::platform_of(2, 1, 10, 8), 2, 2, 2);
+    let two = systems::with_type(systems::with_data(one, 1), 2, 1, 2);
+    say_case(b"two types, shared:", systems::with_data(two, 2));
+}
+
 fn main() {
     let a = systems::system_a(3);
     let none = systems::with_type(systems::platform_of(3, 0, 10, 8), 4, 3, 0);
@@ -337,6 +375,7 @@ fn main() {
     say_case(b"W6", systems::system_b(3, 0));
     say_case(b"W7", systems::with_type(none, 3, 2, 0));
     say_case(b"W8", systems::with_type(free, 0, 0, 1));
+    say_data();
     say::say(b"systems: tried, planned, refused 12, mismatches\n");
     say_tally(b"one type:", one_types());
     say_tally(b"two types:", drawn(1, 1500, 3, 2, 3));

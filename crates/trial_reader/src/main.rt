@@ -1,20 +1,22 @@
-// Runs the reader on files that document 01 decides: for each its name, then `refused` with the number, or `read` with m, k and the
-// columns. Then the field step at some places of a file: the field's tag, the place after it and the length of its body, or `none`.
+// Runs the reader on files that document 01 and request 2026-03 decide: for each its name, then `refused` with the number, or `read` with
+// m, k, the columns and the six numbers d. Then the field step at some places of a file: the field's tag, the place after it and the length
+// of its body, or `none`.
 use libc::STDOUT_FILENO;
 use system::Answer;
 use system::Cursor;
 use system::Refusal;
 use system::System;
+use system::TaskType;
 
-// A file of at most 128 bytes, built from the front.
+// A file of at most 256 bytes, built from the front.
 struct File {
-    bytes: [u8; 128],
+    bytes: [u8; 256],
     len: usize,
 }
 
 fn empty() -> File {
     File {
-        bytes: [0; 128],
+        bytes: [0; 256],
         len: 0,
     }
 }
@@ -22,7 +24,7 @@ fn empty() -> File {
 fn byte(f: File, b: u8) -> File {
     let mut g = f;
     let n = f.len;
-    if n < 128 {
+    if n < 256 {
         g.bytes[n] = b;
         g.len = n + 1;
     }
@@ -59,6 +61,10 @@ fn task(f: File, time: u32, memory: u32, ceiling: u16) -> File {
     two(four(four(head(f, 2, 10), time), memory), ceiling)
 }
 
+fn data(f: File, d: u32) -> File {
+    four(head(f, 3, 4), d)
+}
+
 // A platform within the limits, and a file that is read.
 fn first() -> File {
     platform(empty(), 3, 0, 10, 8)
@@ -75,6 +81,18 @@ fn six(n: u16) -> File {
     task(task(four, 1, 1, n), 1, 1, n)
 }
 
+// A type with data memory.
+fn stacked(f: File, d: u32) -> File {
+    data(task(f, 1, 1, 1), d)
+}
+
+// A platform and six types with data memory: the longest file that is read.
+fn longest() -> File {
+    let two = stacked(stacked(first(), 1), 2);
+    let four = stacked(stacked(two, 3), 4);
+    stacked(stacked(four, 5), 1000000)
+}
+
 fn number(word: &[u8], n: usize) {
     io::write_all(STDOUT_FILENO, word);
     io::print_decimal(STDOUT_FILENO, n as u64);
@@ -87,11 +105,22 @@ fn say_refusal(r: Refusal) {
     }
 }
 
+fn say_data(t: TaskType) {
+    number(b" ", t.data as usize);
+}
+
 fn say_system(y: System) {
     let types = y.types;
     number(b" read ", y.engines);
     number(b" ", y.typecount);
     number(b" ", system::columns_within(types));
+    io::write_all(STDOUT_FILENO, b" data");
+    say_data(types[0]);
+    say_data(types[1]);
+    say_data(types[2]);
+    say_data(types[3]);
+    say_data(types[4]);
+    say_data(types[5]);
 }
 
 fn show_bytes(name: &[u8], file: &[u8]) {
@@ -106,8 +135,8 @@ fn show_bytes(name: &[u8], file: &[u8]) {
     io::write_all(STDOUT_FILENO, b"\n");
 }
 
-fn show_front(name: &[u8], bytes: [u8; 128], n: usize) {
-    if n <= 128 {
+fn show_front(name: &[u8], bytes: [u8; 256], n: usize) {
+    if n <= 256 {
         show_bytes(name, &bytes[..n]);
     }
 }
@@ -136,10 +165,10 @@ fn starts_and_bodies() {
 // Refusals 2, 3 and 4.
 fn heads() {
     show_bytes(b"tag-0", b"\x00\x00\x0A");
-    show_bytes(b"tag-3", b"\x03\x00\x0A");
+    show_bytes(b"tag-4", b"\x04\x00\x02");
     show_bytes(b"tag-255", b"\xFF\xFF\xFF");
     show(b"tag-0-later", head(first(), 0, 10));
-    show(b"tag-3-later", head(sound(), 3, 10));
+    show(b"tag-4-later", head(sound(), 4, 2));
     show(b"type-first", task(empty(), 4, 3, 3));
     show_bytes(b"type-first-of-length-0", b"\x02\x00\x00");
     show(b"platform-twice", platform(first(), 3, 0, 10, 8));
@@ -198,7 +227,9 @@ fn ends() {
         task(task(first(), 4, 3, 65535), 3, 2, 0),
     );
     show(b"n-65535-then-one-byte", byte(six(65535), 2));
-    show(b"n-65535-then-tag-3", head(six(65535), 3, 10));
+    show(b"n-65535-then-tag-4", head(six(65535), 4, 2));
+    show(b"n-65535-then-d-5", data(six(65535), 5));
+    show(b"n-65535-then-d-1000001", data(six(65535), 1000001));
     show(b"n-65535-then-seventh-type", task(six(65535), 1, 1, 1));
     show(
         b"n-65535-then-u-1000001",
@@ -208,6 +239,85 @@ fn ends() {
         b"system-A",
         task(task(platform(empty(), 3, 0, 10, 8), 4, 3, 3), 3, 2, 2),
     );
+}
+
+// Refusal 3 of a d: it follows its type directly, and once.
+fn data_places() {
+    show_bytes(b"d-first", b"\x03\x00\x04\x00\x00\x00\x05");
+    show_bytes(b"d-first-of-length-10", b"\x03\x00\x0A");
+    show(b"d-after-platform", data(first(), 5));
+    show(
+        b"d-between-platform-and-type",
+        task(data(first(), 5), 4, 3, 3),
+    );
+    show(b"d-0-after-platform", data(first(), 0));
+    show(b"d-after-type", data(sound(), 5));
+    show(b"d-twice", data(data(sound(), 5), 5));
+    show(b"d-0-twice", data(data(sound(), 0), 0));
+    show(b"d-0-then-d-5", data(data(sound(), 0), 5));
+    show(b"d-twice-of-length-5", head(data(sound(), 5), 3, 5));
+    show(b"d-twice-too-large", data(data(sound(), 5), 1000001));
+    show(b"d-of-type-1-of-2", task(data(sound(), 5), 3, 2, 2));
+    show(b"d-of-type-2-of-2", data(task(sound(), 3, 2, 2), 5));
+    show(b"d-of-both", data(task(data(sound(), 5), 3, 2, 2), 6));
+    show(
+        b"d-of-type-2-twice",
+        data(data(task(data(sound(), 5), 3, 2, 2), 6), 7),
+    );
+    show(b"platform-after-d", platform(data(sound(), 5), 3, 0, 10, 8));
+    show(b"tag-4-after-d", head(data(sound(), 5), 4, 2));
+    show(b"tag-0-after-d", head(data(sound(), 5), 0, 4));
+}
+
+// A d after six types, with and without one before it, and after a seventh.
+fn data_of_six() {
+    show(b"d-of-type-6", data(six(1), 5));
+    show(b"d-of-type-6-twice", data(data(six(1), 5), 5));
+    show(b"d-of-a-seventh-type", data(task(six(1), 1, 1, 1), 5));
+    show(b"seventh-type-after-d", task(data(six(1), 5), 1, 1, 1));
+    show(b"longest", longest());
+    show(b"longest-cut", cut(longest()));
+    show(b"longest-then-one-byte", byte(longest(), 3));
+    show(b"longest-then-d", data(longest(), 5));
+    show(b"longest-then-d-cut", cut(data(longest(), 5)));
+    show(b"longest-then-platform", platform(longest(), 3, 0, 10, 8));
+    show(b"longest-then-tag-4", head(longest(), 4, 2));
+    show(b"longest-then-type", task(longest(), 1, 1, 1));
+    show(b"longest-then-type-cut", cut(task(longest(), 1, 1, 1)));
+    show(b"longest-then-type-of-length-4", head(longest(), 2, 4));
+}
+
+// Refusals 4, 1 and 8 of a d, in this order, and what it is where it is read.
+fn data_bodies() {
+    show(b"d-of-length-0", head(sound(), 3, 0));
+    show(b"d-of-length-3", head(sound(), 3, 3));
+    show(b"d-of-length-5", head(sound(), 3, 5));
+    show(b"d-of-length-10", head(sound(), 3, 10));
+    show(b"d-of-length-260", head(sound(), 3, 260));
+    show(b"d-of-length-1024", head(sound(), 3, 1024));
+    show(b"type-of-length-4", head(first(), 2, 4));
+    show(b"d-one-byte", byte(sound(), 3));
+    show(b"d-two-bytes", byte(byte(sound(), 3), 0));
+    show(b"d-head-only", head(sound(), 3, 4));
+    show(b"d-cut", cut(data(sound(), 5)));
+    show(b"d-1000001-cut", cut(data(sound(), 1000001)));
+    show(b"d-0", data(sound(), 0));
+    show(b"d-0-then-type", task(data(sound(), 0), 3, 2, 2));
+    show(b"d-1", data(sound(), 1));
+    show(b"d-1000000", data(sound(), 1000000));
+    show(b"d-1000001", data(sound(), 1000001));
+    show(b"d-of-32-bits", data(sound(), 4294967295));
+    show(b"d-256-to-the-3rd", data(sound(), 16777216));
+    show(
+        b"d-1000001-of-type-2",
+        data(task(data(sound(), 1000000), 3, 2, 2), 1000001),
+    );
+    show(b"d-1000001-of-n-0", data(task(first(), 4, 3, 0), 1000001));
+    show(
+        b"s-and-d-1000000",
+        data(task(first(), 4, 1000000, 3), 1000000),
+    );
+    show(b"u-1000001-then-d", data(task(first(), 1000001, 3, 3), 5));
 }
 
 // The field step at a place: its answer, and the part of the file that it hands on.
@@ -243,5 +353,8 @@ fn main() {
     seventh_types();
     numbers();
     ends();
+    data_places();
+    data_of_six();
+    data_bodies();
     steps();
 }

@@ -1,5 +1,6 @@
 // Boards that are not true, one for each way that document 01's row of refusal 20 names, with numbers far past every limit among
-// them: each of the four calls must refuse 20, and hand back the board and the table as they were. A line for each board.
+// them, and those that are false by data memory: each of the four calls must refuse 20, and hand back the board and the table as they
+// were. A line for each board.
 use board::Board;
 use board::Turn;
 use brute::recovery;
@@ -54,17 +55,89 @@ fn engine(time: u32, memory: u32, first: u16, third: u16) -> EngineLoad {
     }
 }
 
-// System A with two engines and another entry for the type at index i.
-fn with_task(i: usize, time: u32, memory: u32, ceiling: u16) -> System {
-    let mut y = systems::system_a(2);
+// The system with another entry for the type at index i.
+fn with_entry(y: System, i: usize, entry: TaskType) -> System {
+    let mut z = y;
     if i < 6 {
-        y.types[i] = TaskType {
-            time,
-            memory,
-            ceiling,
-        };
+        z.types[i] = entry;
     }
-    y
+    z
+}
+
+// System A with two engines and another entry for the type at index i, without data memory.
+fn with_task(i: usize, time: u32, memory: u32, ceiling: u16) -> System {
+    let entry = TaskType {
+        time,
+        memory,
+        ceiling,
+        data: 0,
+    };
+    with_entry(systems::system_a(2), i, entry)
+}
+
+// Two engines of U 10 and S 20, types of u 2, s 5, n 4, d 3 and of u 1, s 2, n 2, d 1.
+fn stacked(rule: u8) -> System {
+    let one = systems::with_type(systems::platform_of(2, rule, 10, 20), 2, 5, 4);
+    systems::with_data(systems::with_type(systems::with_data(one, 3), 1, 2, 2), 1)
+}
+
+// Its board with (2, 1) on engine 1, whose memory is 14 under rule 1 and 19 under rule 0, and (1, 0) on engine 2.
+fn stacked_board(rule: u8, memory: u32) -> Board {
+    let y = stacked(rule);
+    let mut loads = [recovery::idle(); ENGINE_LIMIT];
+    loads[0] = EngineLoad {
+        time: 5,
+        memory,
+        counts: [2, 1, 0, 0, 0, 0],
+    };
+    loads[1] = recovery::engine_of(y, [1, 0, 0, 0, 0, 0, 0, 0]);
+    Board {
+        system: y,
+        loads: loads,
+    }
+}
+
+// The true board of rule 1 with another d for the type at index i, or with another S.
+fn with_data(i: usize, data: u32) -> Board {
+    let mut b = stacked_board(1, 14);
+    let y = b.system;
+    if i < 6 {
+        let old = y.types[i];
+        let entry = TaskType {
+            time: old.time,
+            memory: old.memory,
+            ceiling: old.ceiling,
+            data,
+        };
+        b.system = with_entry(y, i, entry);
+    }
+    b
+}
+
+fn with_capacity(memory: u32) -> Board {
+    let mut b = stacked_board(1, 14);
+    let mut y = b.system;
+    y.memorycap = memory;
+    b.system = y;
+    b
+}
+
+// One type with this d, on engines that take one instance of d 1,000,000; and one that has d past it.
+fn data_of(data: u32) -> System {
+    systems::with_data(
+        systems::with_type(systems::platform_of(2, 1, 10, 1000000), 1, 0, 2),
+        data,
+    )
+}
+
+fn past_k(data: u32) -> System {
+    let entry = TaskType {
+        time: 0,
+        memory: 0,
+        ceiling: 0,
+        data,
+    };
+    with_entry(data_of(0), 1, entry)
 }
 
 // System A with two engines and one number of the platform changed.
@@ -99,6 +172,7 @@ fn enormous() -> System {
         time: 1000000,
         memory: 1000000,
         ceiling: 65535,
+        data: 1000000,
     };
     let mut y = systems::platform_of(2, 0, 1000000, 1000000);
     y.types = [task; TYPE_LIMIT];
@@ -110,7 +184,7 @@ fn enormous() -> System {
 fn crowded() -> EngineLoad {
     EngineLoad {
         time: 2367976064,
-        memory: 2367976064,
+        memory: 440984832,
         counts: [65535; TYPE_LIMIT],
     }
 }
@@ -206,9 +280,27 @@ fn say_loads() {
     say_board(b"memory over S", over(with_capacities(10, 6)));
 }
 
-// The board that the others were made from: two calls are refused 21, and two accepted.
-fn say_sound() {
-    let b = sound();
+// Data memory that is not a file's, that the stored memory leaves out or charges otherwise, or that does not fit.
+fn say_data() {
+    say_board(b"d past k", with_data(2, 1));
+    say_board(b"d past k, the last", with_data(5, 4294967295));
+    say_board(b"d past k, nothing stands", empty(past_k(1)));
+    say_board(b"d 1,000,001", empty(data_of(1000001)));
+    say_board(b"d 4,294,967,295", empty(data_of(4294967295)));
+    say_board(b"d 1,000,001, instances stand", with_data(0, 1000001));
+    say_board(b"d one more than was charged", with_data(0, 4));
+    say_board(b"d not charged, rule 1", stacked_board(1, 7));
+    say_board(b"d not charged, rule 0", stacked_board(0, 12));
+    say_board(b"d once for each type, rule 1", stacked_board(1, 11));
+    say_board(b"d once for each type, rule 0", stacked_board(0, 16));
+    say_board(b"d of one type alone", stacked_board(1, 13));
+    say_board(b"s for each instance under rule 1", stacked_board(1, 19));
+    say_board(b"s once for each type under rule 0", stacked_board(0, 14));
+    say_board(b"memory with d over S", with_capacity(13));
+}
+
+// The four answers on a board that is true.
+fn say_true(name: &[u8], b: Board) {
     let mut table: [u16; 512] = [9; 512];
     let admitted = board::admit(b, 1, &mut table);
     let seated = board::seat(b, 1, &mut table);
@@ -218,7 +310,7 @@ fn say_sound() {
     let second = seated.answer;
     let third = repacked.answer;
     let fourth = retired.answer;
-    say::say(b"sound:");
+    say::say(name);
     say::say_answer(first);
     say::say_answer(second);
     say::say_answer(third);
@@ -226,8 +318,18 @@ fn say_sound() {
     say::say(b"\n");
 }
 
+// The boards that the others were made from: on the first two calls are refused 21.
+fn say_sound() {
+    say_true(b"sound:", sound());
+    say_true(b"sound with d, rule 0:", stacked_board(0, 19));
+    say_true(b"sound with d, rule 1:", stacked_board(1, 14));
+    say_true(b"memory with d is S:", with_capacity(14));
+    say_true(b"d 1,000,000:", empty(data_of(1000000)));
+}
+
 fn main() {
     say_sound();
     say_systems();
     say_loads();
+    say_data();
 }

@@ -1,7 +1,10 @@
 // Systems drawn from the numbers at both ends of every limit, in every field, those past the last type too; and for each a buffer that is a byte too
 // short, just long enough, a byte longer, or much longer.
 use crate::made;
+use brute::files;
 use brute::spread::draw;
+use std::num::wrapping_add_usize;
+use std::num::wrapping_sub_usize;
 use system::System;
 use system::blank_system;
 
@@ -21,6 +24,8 @@ const NO_RULES: [usize; 4] = [2, 3, 128, 255];
 const SIZES: [usize; 8] = [0, 1, 256, 65535, 65536, 658188, 999999, 1000000];
 
 const NO_SIZES: [usize; 4] = [1000001, 1000256, 16777216, 4294967295];
+
+const DATA: [usize; 8] = [0, 0, 0, 0, 1, 256, 65536, 1000000];
 
 const CEILINGS: [usize; 8] = [0, 0, 0, 1, 1, 3, 31, 1023];
 
@@ -53,14 +58,15 @@ fn with_drawn(d: Drawn, what: u8, t: usize, within: [usize; 8], past: [usize; 4]
 fn with_drawn_type(d: Drawn, t: usize) -> Drawn {
     let timed = with_drawn(d, b'u', t, SIZES, NO_SIZES);
     let stored = with_drawn(timed, b's', t, SIZES, NO_SIZES);
-    with_drawn(stored, b'n', t, CEILINGS, NO_CEILINGS)
+    let limited = with_drawn(stored, b'n', t, CEILINGS, NO_CEILINGS);
+    with_drawn(limited, b'd', t, DATA, NO_SIZES)
 }
 
 fn drawn_platform(seed: u64) -> Drawn {
     let none = Drawn {
         seed,
         system: blank_system(),
-        room: 128,
+        room: 256,
     };
     let counted = with_drawn(none, b'k', 0, COUNTS, NO_COUNTS);
     let powered = with_drawn(counted, b'm', 0, ENGINES, NO_ENGINES);
@@ -69,13 +75,14 @@ fn drawn_platform(seed: u64) -> Drawn {
     with_drawn(timed, b'S', 0, SIZES, NO_SIZES)
 }
 
-// The length of the buffer: the file's less one, the file's, one more, or 128.
+// The length of the buffer: the file's less one, the file's, one more, or 256.
 fn with_drawn_room(d: Drawn) -> Drawn {
     let drawn = draw(d.seed, 4);
     let y = d.system;
-    let mut room = 128;
+    let f = files::file_of(y);
+    let mut room = 256;
     if drawn.value < 3 {
-        room = 12 + 13 * (y.typecount % 8) + drawn.value;
+        room = wrapping_sub_usize(wrapping_add_usize(f.size, drawn.value), 1);
     }
     Drawn {
         seed: drawn.seed,

@@ -1,7 +1,8 @@
 // Which systems documents 01 and 02 let the writer write, decided apart from it.
+ghost use Prim.Native.Nat.{_≤_};
 use system::System;
 
-// u or s of the type at index t is over the limit, where the system has that type.
+// u, s or d of the type at index t is over the limit, where the system has that type.
 fn oversized_type(y: System, t: usize) -> bool {
     if 6 <= t {
         return false;
@@ -10,10 +11,10 @@ fn oversized_type(y: System, t: usize) -> bool {
         return false;
     }
     let task = y.types[t];
-    (1000000 < task.time) | (1000000 < task.memory)
+    (1000000 < task.time) | (1000000 < task.memory) | (1000000 < task.data)
 }
 
-// U, S, or u or s of one of the types.
+// U, S, or u, s or d of one of the types.
 fn oversized(y: System) -> bool {
     (1000000 < y.timecap)
         | (1000000 < y.memorycap)
@@ -47,6 +48,30 @@ fn passes_columns(y: System) -> bool {
     left_after(five, y, 5) == 0
 }
 
+// The bytes that the type at index t has in the file, where the system has that type: 13, and 7 for a d.
+fn bytes_of(y: System, t: usize) -> usize
+    ensures { λ r. ⌜ r ≤ 20 ⌝ }
+{
+    if 6 <= t {
+        return 0;
+    }
+    if y.typecount <= t {
+        return 0;
+    }
+    let task = y.types[t];
+    if task.data == 0 { 13 } else { 20 }
+}
+
+// The buffer has fewer bytes than the file.
+fn short(y: System, room: usize) -> bool {
+    let one = 13 + bytes_of(y, 0);
+    let two = one + bytes_of(y, 1);
+    let three = two + bytes_of(y, 2);
+    let four = three + bytes_of(y, 3);
+    let five = four + bytes_of(y, 4);
+    room < five + bytes_of(y, 5)
+}
+
 // The number that a system is refused with, for a buffer of `room` bytes; 0 where it is written.
 pub fn refusal_of(y: System, room: usize) -> usize {
     if 6 < y.typecount {
@@ -67,7 +92,7 @@ pub fn refusal_of(y: System, room: usize) -> usize {
     if passes_columns(y) {
         return 10;
     }
-    if room < 13 + 13 * y.typecount {
+    if short(y, room) {
         return 30;
     }
     0

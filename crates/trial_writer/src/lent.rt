@@ -1,4 +1,4 @@
-// Buffers of 128 bytes, of which a first part is lent: what stands in them before a call of the writer, and whether the call left what it
+// Buffers of 256 bytes, of which a first part is lent: what stands in them before a call of the writer, and whether the call left what it
 // must there.
 use crate::judge;
 use brute::files;
@@ -11,17 +11,17 @@ use writer::write_system;
 // What a call answered, and the whole buffer after it.
 pub struct Call {
     pub answer: Answer,
-    pub bytes: [u8; 128],
+    pub bytes: [u8; 256],
 }
 
 // What stands at a place before a call: never 0, and another byte for each `fill` below 127.
 fn old_byte(fill: usize, i: usize) -> u8 {
-    (((i % 128) * 7 + fill % 127) % 127 + 129) as u8
+    (((i % 256) * 7 + fill % 127) % 127 + 129) as u8
 }
 
-fn old_bytes(fill: usize) -> [u8; 128] {
-    let mut bytes: [u8; 128] = [0; 128];
-    for i in 0..128 {
+fn old_bytes(fill: usize) -> [u8; 256] {
+    let mut bytes: [u8; 256] = [0; 256];
+    for i in 0..256 {
         bytes[i] = old_byte(fill, i);
     }
     bytes
@@ -30,7 +30,7 @@ fn old_bytes(fill: usize) -> [u8; 128] {
 // Writes a system into the first `room` bytes of a buffer, all of them where it has fewer.
 pub fn called(y: System, room: usize, fill: usize) -> Call {
     let mut bytes = old_bytes(fill);
-    if room < 128 {
+    if room < 256 {
         let answer = write_system(y, &mut bytes[0..room]);
         return Call { answer, bytes };
     }
@@ -39,9 +39,9 @@ pub fn called(y: System, room: usize, fill: usize) -> Call {
 }
 
 // The bytes from `start` on are as they were before the call.
-fn kept_from(bytes: [u8; 128], fill: usize, start: usize) -> bool {
+fn kept_from(bytes: [u8; 256], fill: usize, start: usize) -> bool {
     let mut kept = true;
-    for i in 0..128 {
+    for i in 0..256 {
         if start <= i {
             kept = kept & (bytes[i] == old_byte(fill, i));
         }
@@ -50,9 +50,9 @@ fn kept_from(bytes: [u8; 128], fill: usize, start: usize) -> bool {
 }
 
 // The first bytes of two buffers are the same.
-pub fn same_front(a: [u8; 128], b: [u8; 128], end: usize) -> bool {
+pub fn same_front(a: [u8; 256], b: [u8; 256], end: usize) -> bool {
     let mut same = true;
-    for i in 0..128 {
+    for i in 0..256 {
         if i < end {
             same = same & (a[i] == b[i]);
         }

@@ -11,7 +11,7 @@ fn two(n: usize) -> u16 {
     (n % 65536) as u16
 }
 
-// The system with another u, s or n of the type at index t.
+// The system with another u, s, n or d of the type at index t.
 fn with_task_number(y: System, what: u8, t: usize, n: usize) -> System {
     if 6 <= t {
         return y;
@@ -20,6 +20,7 @@ fn with_task_number(y: System, what: u8, t: usize, n: usize) -> System {
     match what {
         b'u' => task.time = four(n),
         b's' => task.memory = four(n),
+        b'd' => task.data = four(n),
         _ => task.ceiling = two(n),
     }
     let mut z = y;
@@ -27,7 +28,7 @@ fn with_task_number(y: System, what: u8, t: usize, n: usize) -> System {
     z
 }
 
-// The system with another number: k, m, r for the rule, U or S; or u, s or n of the type at index t.
+// The system with another number: k, m, r for the rule, U or S; or u, s, n or d of the type at index t.
 pub fn with_number(y: System, what: u8, t: usize, n: usize) -> System {
     let mut z = y;
     match what {
@@ -48,6 +49,18 @@ pub fn sound(k: usize) -> System {
     with_number(systems::system_full(1), b'k', 0, k)
 }
 
+// The same with a d for each type.
+pub fn each_data(k: usize) -> System {
+    with_number(systems::system_longest(1), b'k', 0, k)
+}
+
+// The same with a d for types 1, 3 and 5 alone.
+pub fn some_data(k: usize) -> System {
+    let two = with_number(each_data(k), b'd', 1, 0);
+    let four = with_number(two, b'd', 3, 0);
+    with_number(four, b'd', 5, 0)
+}
+
 // The greatest numbers that there are at index t, where that is past the last type.
 fn with_junk(y: System, t: usize) -> System {
     if t < y.typecount {
@@ -55,12 +68,13 @@ fn with_junk(y: System, t: usize) -> System {
     }
     let timed = with_number(y, b'u', t, 4294967295);
     let stored = with_number(timed, b's', t, 4294967295);
-    with_number(stored, b'n', t, 65535)
+    let limited = with_number(stored, b'n', t, 65535);
+    with_number(limited, b'd', t, 4294967295)
 }
 
-// The sound system of k types with these past them.
-pub fn junk_past(k: usize) -> System {
-    let one = with_junk(sound(k), 0);
+// The system with these past its types.
+pub fn junk_past(y: System) -> System {
+    let one = with_junk(y, 0);
     let two = with_junk(one, 1);
     let three = with_junk(two, 2);
     let four = with_junk(three, 3);
@@ -79,4 +93,9 @@ pub fn with_fault(y: System, number: usize) -> System {
         10 => with_number(y, b'n', 0, 65535),
         _ => y,
     }
+}
+
+// The system with a d of type 2 that is over the limit.
+pub fn with_data_fault(y: System) -> System {
+    with_number(y, b'd', 1, 1000001)
 }

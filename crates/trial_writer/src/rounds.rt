@@ -1,7 +1,9 @@
 // Round trips: a system that is written, read and written again, and a file that is read and written.
 use crate::judge;
 use crate::lent;
+use crate::zeros;
 use brute::files;
+use brute::files::File;
 use brute::say;
 use brute::systems;
 use system::System;
@@ -16,7 +18,8 @@ fn with_known(z: System, y: System, t: usize) -> System {
         return z;
     }
     let task = y.types[t];
-    systems::with_type(z, task.time, task.memory, task.ceiling)
+    let more = systems::with_type(z, task.time, task.memory, task.ceiling);
+    systems::with_data(more, task.data)
 }
 
 // The platform and the first k types alone, made anew: 0 past them.
@@ -30,25 +33,48 @@ fn known_part(y: System) -> System {
     with_known(five, y, 5)
 }
 
-// The first n bytes are read as y with 0 past k, and what was read is written as the same bytes, into a buffer that has just enough.
-fn comes_back(y: System, bytes: [u8; 128], n: usize) -> bool {
-    let o = read_system(files::first_of(&bytes, n));
+// The first file is read as y with 0 past k, and what was read is written as the second one, into a buffer that has just enough.
+fn comes_back(y: System, from: File, to: File) -> bool {
+    let bytes = from.bytes;
+    let wanted = to.bytes;
+    let o = read_system(files::first_of(&bytes, from.size));
     let read = o.answer;
     let z = o.system;
-    let again = lent::called(z, n, 90);
+    let again = lent::called(z, to.size, 90);
     let answer = again.answer;
     let written = again.bytes;
     (say::code_of(read) == 0)
         & systems::same_system(z, known_part(y))
-        & lent::wrote(answer, n)
-        & lent::same_front(written, bytes, n)
+        & lent::wrote(answer, to.size)
+        & lent::same_front(written, wanted, to.size)
 }
 
-// Both ways round, of a system that is written: from the bytes that the writer left, and from the file made apart from it.
-fn both_ways(y: System, bytes: [u8; 128]) -> bool {
+// The file of y with a tag 3 that gives 0 after its type at index t comes back without it.
+fn drops_zero(y: System, t: usize) -> bool {
     let f = files::file_of(y);
-    let file = f.bytes;
-    comes_back(y, bytes, f.size) & comes_back(y, file, f.size)
+    comes_back(y, zeros::with_zero(f, y, t), f)
+}
+
+// So it is for each type without a d, and for all of them at once.
+fn drops_zeros(y: System) -> bool {
+    drops_zero(y, 0)
+        & drops_zero(y, 1)
+        & drops_zero(y, 2)
+        & drops_zero(y, 3)
+        & drops_zero(y, 4)
+        & drops_zero(y, 5)
+        & comes_back(y, zeros::with_zeros(y), files::file_of(y))
+}
+
+// Both ways round, of a system that is written: from the bytes that the writer left, and from the file made apart from it. Both come back as
+// they are.
+fn both_ways(y: System, bytes: [u8; 256]) -> bool {
+    let f = files::file_of(y);
+    let left = File {
+        bytes,
+        size: f.size,
+    };
+    comes_back(y, left, left) & comes_back(y, f, f)
 }
 
 // One call: its answer, its buffer, and the round trips where it is written.
@@ -61,5 +87,5 @@ pub fn right(y: System, room: usize) -> bool {
         return true;
     }
     let bytes = c.bytes;
-    both_ways(y, bytes)
+    both_ways(y, bytes) & drops_zeros(y)
 }

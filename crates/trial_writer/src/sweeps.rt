@@ -71,7 +71,7 @@ fn judged(t: Tally, y: System, room: usize) -> Tally {
 // Buffers of every length from 0 to one more than the longest file.
 fn lengths(y: System) -> Tally {
     let mut all = no_tally();
-    for room in 0..93usize {
+    for room in 0..135usize {
         let next = judged(all, y, room);
         all = next;
     }
@@ -129,7 +129,7 @@ fn next_drawn(r: Run, k: usize) -> Run {
     let tally = r.tally;
     Run {
         seed: d.seed,
-        tally: judged(tally, y, 128),
+        tally: judged(tally, y, 256),
     }
 }
 
@@ -154,14 +154,27 @@ fn say_lengths(wrong: usize, name: &[u8], y: System) -> usize {
     say_tally(wrong, name, lengths(y))
 }
 
-// Systems that are written where the buffer is long enough, with junk past the last type.
-fn say_written_lengths(wrong: usize) -> usize {
-    let one = say_lengths(wrong, b"k 1:", made::junk_past(1));
-    let two = say_lengths(one, b"k 2:", made::junk_past(2));
-    let three = say_lengths(two, b"k 3:", made::junk_past(3));
-    let four = say_lengths(three, b"k 4:", made::junk_past(4));
-    let five = say_lengths(four, b"k 5:", made::junk_past(5));
-    say_lengths(five, b"k 6:", made::junk_past(6))
+// The systems of k types, with junk past the last one.
+fn say_written_lengths(wrong: usize, k: usize) -> usize {
+    say::say(b"k");
+    say::say_also(k);
+    let none = say_lengths(wrong, b", no d:", made::junk_past(made::sound(k)));
+    say::say(b"k");
+    say::say_also(k);
+    let some = say_lengths(none, b", some d:", made::junk_past(made::some_data(k)));
+    say::say(b"k");
+    say::say_also(k);
+    say_lengths(some, b", each d:", made::junk_past(made::each_data(k)))
+}
+
+// Systems that are written where the buffer is long enough.
+fn say_all_written_lengths(wrong: usize) -> usize {
+    let one = say_written_lengths(wrong, 1);
+    let two = say_written_lengths(one, 2);
+    let three = say_written_lengths(two, 3);
+    let four = say_written_lengths(three, 4);
+    let five = say_written_lengths(four, 5);
+    say_written_lengths(five, 6)
 }
 
 // Systems that are refused, whatever the buffer is.
@@ -172,12 +185,13 @@ fn say_refused_lengths(wrong: usize) -> usize {
     let five = say_lengths(nine, b"refused 5:", made::with_fault(y, 5));
     let six = say_lengths(five, b"refused 6:", made::with_fault(y, 6));
     let eight = say_lengths(six, b"refused 8:", made::with_fault(y, 8));
-    say_lengths(eight, b"refused 10:", made::with_fault(y, 10))
+    let data = say_lengths(eight, b"refused 8 for d:", made::with_data_fault(y));
+    say_lengths(data, b"refused 10:", made::with_fault(y, 10))
 }
 
 pub fn say_sweeps() {
     say::say(b"calls: written, refused 7, 9, 5, 6, 8, 10, 30, anything else\n");
-    let written = say_written_lengths(0);
+    let written = say_all_written_lengths(0);
     let refused = say_refused_lengths(written);
     let ends = say_tally(refused, b"ends of the limits:", edges());
     let all = say_tally(ends, b"drawn:", drawn());

@@ -1,19 +1,23 @@
--- The bytes of a file, as the writer's code is described, are document 01's layout byte by byte, and there are 13 to a field.
+-- The bytes of a file, as the writer's code is described, are document 01's layout byte by byte, without a zero tag 3; a platform has 13 of them, a type 13, and 20 with its d.
 -- A number's four bytes agree as quotients and remainders; the fields of types agree by one type more at the end.
 use Prim.Native.Nat.{ℕ, zero, suc, _+_, _-_, _*_, _/_, _%_, _≤_}
 use mathlib.Core.Path.{_≡_, refl, sym, ap, ap₂, _∙_}
 use mathlib.Core.List.{List, [], _∷_, _++_, append-nil, append-assoc}
+use mathlib.Core.Bool.{Bool, true, false, cond, and-true}
 use native.Mathlib.Omega.{arith}
-use lib.ListN.{length, getD, take, length-append}
-use lib.Seq.{take-suc, length-take-le}
+use borrow.Author.Tests.{eqb-true, eqb-false, eq-eqb, ne-eqb}
+use lib.ListN.{length, getD, take, length-append, length-take}
+use lib.Seq.{take-suc}
+use lib.Dec.{eqb}
 use Rattle.buffer.specs.Bytes.{bytes4}
 use Rattle.system.specs.declared.TaskType.{TaskType}
 use Rattle.system.specs.declared.System.{System}
+use Rattle.system.specs.Limits.{typeLimit}
 use Rattle.system.specs.Values.{noTask}
-use Rattle.system.specs.Rules.{ruleOf}
+use Rattle.system.specs.Rules.{ruleOf, longestFile}
 use Rattle.partition.specs.Plain.{typeNo}
-use Rattle.writer.specs.File.{fieldBytes, platformBytes, typeBytes, typesBytes, fileOf}
-use Rattle.writer.specs.Meaning.{twoOut, fourOut, platformOut, typesOut, fileOut}
+use Rattle.writer.specs.File.{fieldBytes, platformBytes, dataBytes, typeBytes, typesBytes, fileOf}
+use Rattle.writer.specs.Meaning.{twoOut, fourOut, platformOut, dataOut, typeOut, typesOut, fileOut}
 
 -- intermediate: one field
 
@@ -28,9 +32,13 @@ platform-out : (y : System) → platformBytes y ≡ platformOut y
 unfolding fieldBytes ruleOf
 platform-out y = λ i. 1 ∷ 0 ∷ 10 ∷ y .engines ∷ y .rule ∷ (four-out (y .timecap) i ++ four-out (y .memorycap) i)
 
-type-out : (t : TaskType) → typeBytes t ≡ 2 ∷ 0 ∷ 10 ∷ (fourOut (t .time) ++ (fourOut (t .memory) ++ twoOut (t .ceiling)))
+data-out : (d : ℕ) → dataBytes d ≡ dataOut false d
 unfolding fieldBytes ruleOf
-type-out t = λ i. 2 ∷ 0 ∷ 10 ∷ (four-out (t .time) i ++ (four-out (t .memory) i ++ twoOut (t .ceiling)))
+data-out d = λ i. cond (sym (and-true (eqb d 0)) i) [] (3 ∷ 0 ∷ 4 ∷ four-out d i)
+
+type-out : (t : TaskType) → typeBytes t ≡ typeOut false t
+unfolding fieldBytes ruleOf
+type-out t = λ i. 2 ∷ 0 ∷ 10 ∷ (four-out (t .time) i ++ (four-out (t .memory) i ++ (twoOut (t .ceiling) ++ data-out (t .data) i)))
 
 -- intermediate: one type more
 
@@ -43,7 +51,7 @@ pub types-more : (ts : List TaskType) (t : TaskType) → typesBytes (ts ++ (t �
 unfolding typesBytes
 types-more ts t = types-append ts (t ∷ []) ∙ ap (λ (l : List ℕ). typesBytes ts ++ l) (append-nil (typeBytes t))
 
-types-out : (y : System) (k : ℕ) → k ≤ length (y .types) → typesBytes (take k (y .types)) ≡ typesOut y k
+types-out : (y : System) (k : ℕ) → k ≤ length (y .types) → typesBytes (take k (y .types)) ≡ typesOut (λ (t : ℕ). false) y k
 unfolding typesBytes typesOut
 types-out y zero h = refl
 types-out y (suc k) h =
@@ -65,17 +73,40 @@ pub platform-size : (y : System) → length (platformBytes y) ≡ 13
 unfolding fieldBytes ruleOf
 platform-size y = refl
 
-pub type-size : (t : TaskType) → length (typeBytes t) ≡ 13
+-- a d of 0 has none, and any other one 7
+pub data-none : (d : ℕ) → d ≡ 0 → length (dataBytes d) ≡ 0
+data-none d none = rw (eq-eqb d 0 none)
+
+pub data-some : (d : ℕ) → (d ≡ 0 → ⊥) → length (dataBytes d) ≡ 7
 unfolding fieldBytes ruleOf
-type-size t = refl
+data-some d some = rw (ne-eqb d 0 some)
 
-pub types-size : (ts : List TaskType) → length (typesBytes ts) ≡ 13 * length ts
+pub type-size : (t : TaskType) → length (typeBytes t) ≡ 13 + length (dataBytes (t .data))
+unfolding fieldBytes ruleOf
+type-size t = omega arith
+
+pub types-size : (ts : List TaskType) (t : TaskType) → length (typesBytes (ts ++ (t ∷ []))) ≡ length (typesBytes ts) + length (typeBytes t)
+types-size ts t = ap length (types-more ts t) ∙ length-append (typesBytes ts) (typeBytes t)
+
+-- the longest: 13 + 6 × 20 = 133
+
+type-most : (t : TaskType) → length (typeBytes t) ≤ 20
+type-most t = at (eqb (t .data) 0) refl
+  where
+    at : (b : Bool) → eqb (t .data) 0 ≡ b → length (typeBytes t) ≤ 20
+    at true q = omega (arith, type-size t, data-none (t .data) (eqb-true (t .data) 0 q))
+    at false q = omega (arith, type-size t, data-some (t .data) (eqb-false (t .data) 0 q))
+
+types-most : (ts : List TaskType) → length (typesBytes ts) ≤ 20 * length ts
 unfolding typesBytes
-types-size [] = refl
-types-size (t ∷ ts) = omega (arith, length-append (typeBytes t) (typesBytes ts), type-size t, types-size ts)
+types-most [] = omega arith
+types-most (t ∷ ts) = omega (arith, length-append (typeBytes t) (typesBytes ts), type-most t, types-most ts)
 
-pub file-size : (y : System) → y .typecount ≤ length (y .types) → length (fileOf y) ≡ 13 * (y .typecount + 1)
+pub first-most : (ts : List TaskType) (k : ℕ) → length (typesBytes (take k ts)) ≤ 20 * k
+first-most ts k = omega (arith, types-most (take k ts), length-take k ts)
+
+pub file-most : (y : System) → y .typecount ≤ typeLimit → length (fileOf y) ≤ longestFile
 unfolding fileOf
-file-size y h =
+file-most y h =
     let types = take (y .typecount) (y .types) in
-    omega (arith, length-append (platformBytes y) (typesBytes types), platform-size y, types-size types, length-take-le (y .typecount) (y .types) h)
+    omega (arith, length-append (platformBytes y) (typesBytes types), platform-size y, first-most (y .types) (y .typecount))

@@ -1,5 +1,6 @@
 -- The laws of crate `writer`, in the order of their proofs: the bytes of a file; what is written reads back and what was read comes back; the order of the refusals; what the call promises.
 pub mod Bytes
+pub mod Told
 pub mod Cleared
 pub mod Writable
 pub mod Written

@@ -1,5 +1,5 @@
 -- The order of the writer's refusals in plain words: the first test that says a number decides, and no two tests say the same number, so that a number tells its test.
-use Prim.Native.Nat.{ℕ, _+_, _*_, _≤_, _<_}
+use Prim.Native.Nat.{ℕ, _≤_, _<_}
 use mathlib.Core.Path.{_≡_, refl, sym, ap, subst, _∙_}
 use mathlib.Core.List.{List, [], _∷_}
 use mathlib.Core.Bool.{Bool, true, false, not, cond, _&&_}
@@ -15,8 +15,8 @@ use Rattle.system.specs.Outcome.{accepted, refused, fromInput}
 use Rattle.partition.specs.Assignment.{among}
 use Rattle.writer.specs.File.{fileOf}
 use Rattle.writer.specs.Writing.{orElse, typesFault, systemFault, writeFault, writeOutcome}
-use Rattle.writer.specs.Meaning.{CountWithin, EnginesWithin, SizesWithin, columnsTo, MayBeWritten, WritesInOrder}
-use Rattle.writer.proofs.Bytes.{file-size}
+use Rattle.writer.specs.Meaning.{fileOut, CountWithin, EnginesWithin, SizesWithin, columnsTo, MayBeWritten, WritesInOrder}
+use Rattle.writer.proofs.Bytes.{file-out}
 use Rattle.writer.proofs.Writable.{or-none}
 use Rattle.writer.proofs.Tests.{Test, finds-nothing, holds, fails, says, says-alone, row, skips}
 use Rattle.writer.proofs.Tests.{manyFault, noneFault, enginesFault, ruleFault, sizesFault, productFault, shortFault}
@@ -95,8 +95,8 @@ module _ (y : System) (room : ℕ) (six : length (y .types) ≡ 6) where
     columns-asked : Test (columnsTo y (y .typecount) ≤ 1024) 10 (productFault y)
     columns-asked = columns-test y (omega arith)
 
-    room-asked : Test (13 * (y .typecount + 1) ≤ room) 30 (shortFault y room)
-    room-asked = subst (λ (size : ℕ). Test (size ≤ room) 30 (shortFault y room)) (file-size y (omega arith)) (room-test y room)
+    room-asked : Test (length (fileOut y) ≤ room) 30 (shortFault y room)
+    room-asked = subst (λ (file : List ℕ). Test (length file ≤ room) 30 (shortFault y room)) (file-out y (omega arith)) (room-test y room)
 
     says-ten : among (10 ∷ 30 ∷ 0 ∷ []) (fromTen y room) ≡ true
     says-ten = says (30 ∷ 0 ∷ []) (shortFault y room) (omega arith) columns-asked (says-alone room-asked)
@@ -145,16 +145,16 @@ module _ (y : System) (room : ℕ) (six : length (y .types) ≡ 6) where
           in-row y room (fromNine y room) (9 ∷ 5 ∷ 6 ∷ 8 ∷ 10 ∷ 30 ∷ 0 ∷ []) (omega arith) (many-test y) (from-seven y room)
           (says-nine y room six (ltb-false typeLimit (y .typecount) q)) refl (over (y .typecount) 6)
 
-  then-thirty : MayBeWritten y → (writeOutcome y room ≡ refused fromInput 30) ↔ (room < 13 * (y .typecount + 1))
+  then-thirty : MayBeWritten y → (writeOutcome y room ≡ refused fromInput 30) ↔ (room < length (fileOut y))
   then-thirty w =
       let left = left-thirty y room six w in
       let at = fails (omega arith) (room-asked y room six (w .count .1)) in
-      Iff·trans (refuses y room 30 (omega arith)) (Iff·trans ((λ e. sym left ∙ e), (λ e. left ∙ e)) (Iff·trans at (over (13 * (y .typecount + 1)) room)))
+      Iff·trans (refuses y room 30 (omega arith)) (Iff·trans ((λ e. sym left ∙ e), (λ e. left ∙ e)) (Iff·trans at (over (length (fileOut y)) room)))
 
-  pub written-where : MayBeWritten y → 13 * (y .typecount + 1) ≤ room → writeFault y room ≡ 0
+  written-where : MayBeWritten y → length (fileOut y) ≤ room → writeFault y room ≡ 0
   written-where w enough = left-thirty y room six w ∙ finds-nothing (room-asked y room six (w .count .1)) enough
 
-  -- and what is written may be
+  -- what is written may be
   pub may-be-written : writeFault y room ≡ 0 → MayBeWritten y
   may-be-written e =
       let a = or-none (manyFault y) (fromNine y room) (sym (from-seven y room) ∙ e) in
@@ -172,9 +172,9 @@ module _ (y : System) (room : ℕ) (six : length (y .types) ≡ 6) where
         columns = holds (omega arith) (columns-asked y room six few) (q .0);
       }
 
-  or-written : MayBeWritten y → 13 * (y .typecount + 1) ≤ room → writeOutcome y room ≡ accepted (13 * (y .typecount + 1) ∷ [])
+  or-written : MayBeWritten y → length (fileOut y) ≤ room → writeOutcome y room ≡ accepted (length (fileOut y) ∷ [])
   unfolding writeOutcome
-  or-written w enough = rw (written-where w enough, file-size y (omega (arith, w .count .1)))
+  or-written w enough = rw (written-where w enough, file-out y (omega (arith, w .count .1)))
 
   pub writes-in-order : WritesInOrder y room (writeOutcome y room)
   unfolding among

@@ -1,5 +1,5 @@
 -- What the call `write_system` promises, from the two laws that say its answer and the buffer: the order of refusals, demand 1, the bytes of an accepted system, and both round trips.
-use Prim.Native.Nat.{ℕ, _+_, _*_, _≤_}
+use Prim.Native.Nat.{ℕ, _+_, _≤_}
 use mathlib.Core.Path.{_≡_, refl, sym, ap, _∙_}
 use mathlib.Core.List.{List, [], _∷_, _++_}
 use mathlib.Core.Bool.{Bool, true, false, cond}
@@ -16,15 +16,16 @@ use Rattle.system.specs.declared.Refusal.the-variants.{Input}
 use Rattle.system.specs.Values.{cleared}
 use Rattle.system.specs.Layout.{readFile, opened}
 use Rattle.system.specs.Outcome.{Source, accepted, refused, fromInput, outcomeOf}
+use Rattle.system.proofs.Laws.{read-limits}
 use Rattle.buffer.specs.Written.{Puts}
 use Rattle.writer.specs.File.{fileOf}
 use Rattle.writer.specs.Writing.{systemFault, writeFault, writeOutcome, writtenTo}
-use Rattle.writer.specs.Meaning.{fileOut, IsBytes, SameToK, MayBeWritten, WritePromises}
-use Rattle.writer.proofs.Bytes.{file-out, file-size}
+use Rattle.writer.specs.Meaning.{fileWith, fileOut, NoZero, IsBytes, SameToK, MayBeWritten, WritePromises}
+use Rattle.writer.proofs.Bytes.{file-out}
+use Rattle.writer.proofs.Told.{comes-back-exactly}
 use Rattle.writer.proofs.Cleared.{same-to-k}
 use Rattle.writer.proofs.Writable.{read-writable}
 use Rattle.writer.proofs.Written.{written-reads}
-use Rattle.writer.proofs.Read.{read-comes-back}
 use Rattle.writer.proofs.Order.{fault-none, may-be-written, writes-in-order}
 
 -- intermediate: the answer and the buffer by the fault
@@ -83,17 +84,19 @@ module _ (y : System) (old new : List ℕ) (r : Answer) (six : length (y .types)
     file-first : new ≡ fileOf y ++ drop n old
     file-first = leaves ∙ writes-file y old no-fault ∙ ap (λ (m : ℕ). fileOf y ++ drop m old) (sym size)
 
-    written : (MayBeWritten y) × (n ≡ 13 * (y .typecount + 1)) × (new ≡ fileOut y ++ drop n old)
-    written = (may, size ∙ file-size y inside, file-first ∙ ap (λ (file : List ℕ). file ++ drop n old) (file-out y inside))
+    written : (MayBeWritten y) × (n ≡ length (fileOut y)) × (new ≡ fileOut y ++ drop n old)
+    written = (may, size ∙ ap length (file-out y inside), file-first ∙ ap (λ (file : List ℕ). file ++ drop n old) (file-out y inside))
 
     read-back : (z : System) × (readFile (take n new) ≡ opened z) × SameToK y z
     read-back =
         let front : take n new ≡ fileOf y = rw (file-first, size) (take-append-seam (fileOf y) (drop (length (fileOf y)) old)) in
         (cleared y, rw front (written-reads y six (fault-none y (length old) no-fault .0)), same-to-k y six (may .count .1))
 
-  come-back : (file : List ℕ) → IsBytes file → readFile file ≡ opened y → length file ≤ length old → (outcomeOf r ≡ accepted (length file ∷ [])) × (new ≡ file ++ drop (length file) old)
-  come-back file bytes reads enough =
-      let same : fileOf y ≡ file = read-comes-back file y bytes reads in
+  come-back : (file : List ℕ) (told : ℕ → Bool) → IsBytes file → readFile file ≡ opened y → file ≡ fileWith told y → NoZero told y → length file ≤ length old
+      → (outcomeOf r ≡ accepted (length file ∷ [])) × (new ≡ file ++ drop (length file) old)
+  come-back file told bytes reads is quiet enough =
+      let few = read-limits file y reads .typecount in
+      let same : fileOf y ≡ file = file-out y (omega arith) ∙ comes-back-exactly told y .1 quiet ∙ sym is in
       let none : writeFault y (length old) ≡ 0 = fits-fault y (length old) (read-writable file y reads .0) (rw same enough) in
       (answers ∙ accepts y (length old) none ∙ rw same, leaves ∙ writes-file y old none ∙ rw same)
 

@@ -1,30 +1,30 @@
--- What is read comes back: along a reading, the file of the system so far and the bytes that are left are the whole file.
--- A field that was accepted has the 13 bytes that its platform or its type is written with, since bytes that were read as a number are that number's bytes.
-use Prim.Native.Nat.{ℕ, zero, suc, _+_, _≤_, _<_}
+-- What is read comes back: along a reading, some file of the system so far and the bytes that are left are the whole file.
+-- A field that was accepted has the bytes that its platform, its type or its d is written with, since bytes that were read as a number are that number's bytes. A type comes without a tag 3; where one follows, it is told.
+use Prim.Native.Nat.{ℕ, zero, suc, _+_, _-_, _≤_, _<_}
 use mathlib.Core.Path.{_≡_, refl, sym, ap, ap₂, _∙_, subst}
 use mathlib.Core.List.{List, [], _∷_, _++_, append-nil, append-assoc}
-use mathlib.Core.Bool.{Bool, cond, _||_}
-use mathlib.Core.Logic.{_⊎_, inl, inr}
+use mathlib.Core.Bool.{Bool, true, false, cond, _||_}
 use native.Mathlib.Omega.{arith}
 use native.Mathlib.Nat.{le-refl}
 use borrow.Author.Tests.{leb-true, leb-false, eqb-false, eq-eqb, ne-eqb}
-use lib.ListN.{length, take, drop, length-set, length-drop, take-append-drop}
-use lib.Seq.{drop-cons, getD-drop, take-suc-set}
-use lib.Dec.{leb, eqb}
-use Rattle.buffer.specs.Bytes.{bytes4}
+use lib.ListN.{length, getD, take, drop, length-drop, take-append-drop}
+use lib.Seq.{drop-cons, getD-drop, getD-set-same, getD-set-other}
+use lib.Dec.{leb, eqb, lit<}
 use Rattle.buffer.proofs.Laws.{bytes2-back, bytes4-back}
 use Rattle.system.specs.declared.TaskType.{TaskType}
 use Rattle.system.specs.declared.System.{System}
 use Rattle.system.specs.declared.rules.FieldRule.{FieldRule}
-use Rattle.system.specs.Values.{blank, withPlatform, withType}
+use Rattle.system.specs.Values.{taskOf, withData, noTask, blank, withPlatform, withType, lastType, withLast}
 use Rattle.system.specs.Limits.{typeLimit, platformFault, typeFault, columnsFault}
-use Rattle.system.specs.Rules.{platformRule, typeRule, ruleOf, headSize}
+use Rattle.system.specs.Rules.{platformRule, typeRule, dataRule, headSize, ruledSize}
 use Rattle.system.specs.Layout.{Reading, opened, unread, byteAt, word2, word4, fieldSize, wholeField, bodyPart}
-use Rattle.system.specs.Layout.{platformFrom, platformOf, typeFrom, typeOf, bodyOf, fieldOf, endOf, afterField, fieldsFrom, readFile}
-use Rattle.system.proofs.Laws.{passes, no-fault, either-false, platform-first, type-later, Passed, fieldOf-opened}
-use Rattle.writer.specs.File.{fieldBytes, platformBytes, typeBytes, typesBytes, fileOf}
-use Rattle.writer.specs.Meaning.{IsBytes}
-use Rattle.writer.proofs.Bytes.{types-more}
+use Rattle.system.specs.Layout.{platformFrom, platformOf, typeFrom, typeOf, dataFrom, dataOf, bodyOf, fieldOf, endOf, afterField, fieldsFrom, readFile}
+use Rattle.system.proofs.Laws.{passes, no-fault, either-false, platform-first, type-later, data-after-type, OneOf, a-platform, a-type, a-data, Passed, fieldOf-opened}
+use Rattle.system.proofs.Laws.{Sound, sound-blank, sound-field}
+use Rattle.partition.specs.Plain.{typeNo}
+use Rattle.writer.specs.Meaning.{fourOut, platformOut, typeOut, typesOut, fileWith, IsBytes}
+use Rattle.writer.proofs.Bytes.{four-out}
+use Rattle.writer.proofs.Told.{type-given, types-same}
 
 -- intermediate: the bytes of a field, one by one
 
@@ -37,151 +37,236 @@ take-bytes : (n i : ℕ) (s : List ℕ) → i + n ≤ length s → take n (drop 
 take-bytes zero i s h = refl
 take-bytes (suc n) i s h = ap (take (suc n)) (drop-cons s i 0 (omega arith)) ∙ ap (λ (l : List ℕ). byteAt s i ∷ l) (take-bytes n (suc i) s (omega arith))
 
--- a field of 13 bytes
-record Field13 (s : List ℕ) (tag : ℕ) : Type 0 where
-  first : byteAt s 0 ≡ tag
-  size : fieldSize s ≡ 13
-  long : 13 ≤ length s
-  body : bodyPart s ≡ bytesFrom 10 3 s
+-- a whole field of a rule
+record Whole (s : List ℕ) (r : FieldRule) : Type 0 where
+  first : byteAt s 0 ≡ r .tag
+  size : word2 s 1 ≡ r .body
+  long : ruledSize r ≤ length s
+  body : bodyPart s ≡ bytesFrom (r .body) headSize s
 
-field-13 : (s : List ℕ) (last : ℕ) (r : FieldRule) → r .body ≡ 10 → Passed (byteAt s 0) (word2 s 1) (wholeField s) last r → Field13 s (r .tag)
-field-13 s last r ten p =
-    let two : word2 s 1 ≡ 10 = p .length ∙ ten in
-    let long : 13 ≤ length s = omega (arith, leb-true (fieldSize s) (length s) (p .whole)) in
+whole-field : (s : List ℕ) (last : ℕ) (r : FieldRule) → Passed (byteAt s 0) (word2 s 1) (wholeField s) last r → Whole s r
+whole-field s last r p =
+    let long : ruledSize r ≤ length s = omega (arith, p .length, leb-true (fieldSize s) (length s) (p .whole)) in
     record {
       first = sym (p .rule .same-tag);
-      size = ap (λ (n : ℕ). headSize + n) two;
+      size = p .length;
       long = long;
       body =
           ap (λ (b : Bool). cond b (take (word2 s 1) (drop headSize s)) []) (p .whole)
-          ∙ ap (λ (n : ℕ). take n (drop headSize s)) two
-          ∙ take-bytes 10 3 s long;
+          ∙ ap (λ (n : ℕ). take n (drop headSize s)) (p .length)
+          ∙ take-bytes (r .body) headSize s long;
     }
 
 module _ (s : List ℕ) (bytes : IsBytes s) where
-  four-back : (i : ℕ) → bytes4 (word4 s i) ≡ byteAt s i ∷ byteAt s (i + 1) ∷ byteAt s (i + 2) ∷ byteAt s (i + 2 + 1) ∷ []
-  four-back i = bytes4-back (byteAt s i) (byteAt s (i + 1)) (byteAt s (i + 2)) (byteAt s (i + 2 + 1)) (bytes (i + 1)) (bytes (i + 2)) (bytes (i + 2 + 1))
+  four-back : (i : ℕ) → fourOut (word4 s i) ≡ byteAt s i ∷ byteAt s (i + 1) ∷ byteAt s (i + 2) ∷ byteAt s (i + 2 + 1) ∷ []
+  four-back i =
+      sym (four-out (word4 s i)) ∙ bytes4-back (byteAt s i) (byteAt s (i + 1)) (byteAt s (i + 2)) (byteAt s (i + 2 + 1)) (bytes (i + 1)) (bytes (i + 2)) (bytes (i + 2 + 1))
 
-  -- the head: its tag, and a length of 10 in two bytes
-  module _ (tag : ℕ) (f : Field13 s tag) where
+  -- the head: its tag, and its length in two bytes
+  module _ (r : FieldRule) (short : r .body < 256) (f : Whole s r) where
     high : 0 ≡ byteAt s 1
     high = omega (arith, f .size, bytes 2)
 
-    low : 10 ≡ byteAt s 2
+    low : r .body ≡ byteAt s 2
     low = omega (arith, f .size, bytes 2)
 
-    whole-13 : take (fieldSize s) s ≡ bytesFrom 13 0 s
-    whole-13 = ap (λ (n : ℕ). take n s) (f .size) ∙ take-bytes 13 0 s (f .long)
+    whole-bytes : take (fieldSize s) s ≡ bytesFrom (ruledSize r) 0 s
+    whole-bytes = ap (λ (n : ℕ). take (headSize + n) s) (f .size) ∙ take-bytes (ruledSize r) 0 s (omega (arith, f .long))
 
-  platform-back : Field13 s 1 → (z : System) → platformBytes (withPlatform (byteAt s 3) (byteAt s 4) (word4 s 5) (word4 s 9) z) ≡ take (fieldSize s) s
-  unfolding fieldBytes ruleOf
+  platform-back : Whole s platformRule → (z : System) → platformOut (withPlatform (byteAt s 3) (byteAt s 4) (word4 s 5) (word4 s 9) z) ≡ take (fieldSize s) s
   platform-back f z =
-      (λ i. sym (f .first) i ∷ high 1 f i ∷ low 1 f i ∷ byteAt s 3 ∷ byteAt s 4 ∷ (four-back 5 i ++ four-back 9 i)) ∙ sym (whole-13 1 f)
+      (λ i. sym (f .first) i ∷ high platformRule (lit< tt) f i ∷ low platformRule (lit< tt) f i ∷ byteAt s 3 ∷ byteAt s 4 ∷ (four-back 5 i ++ four-back 9 i))
+      ∙ sym (whole-bytes platformRule (lit< tt) f)
 
-  type-back : Field13 s 2 → typeBytes (record { time = word4 s 3; memory = word4 s 7; ceiling = word2 s 11 }) ≡ take (fieldSize s) s
-  unfolding fieldBytes ruleOf
+  type-back : Whole s typeRule → typeOut false (taskOf (word4 s 3) (word4 s 7) (word2 s 11)) ≡ take (fieldSize s) s
   type-back f =
-      (λ i. sym (f .first) i ∷ high 2 f i ∷ low 2 f i ∷ (four-back 3 i ++ (four-back 7 i ++ bytes2-back (byteAt s 11) (byteAt s 12) (bytes 12) i))) ∙ sym (whole-13 2 f)
+      (λ i. sym (f .first) i ∷ high typeRule (lit< tt) f i ∷ low typeRule (lit< tt) f i ∷ (four-back 3 i ++ (four-back 7 i ++ bytes2-back (byteAt s 11) (byteAt s 12) (bytes 12) i)))
+      ∙ sym (whole-bytes typeRule (lit< tt) f)
+
+  data-back : Whole s dataRule → 3 ∷ 0 ∷ 4 ∷ fourOut (word4 s 3) ≡ take (fieldSize s) s
+  data-back f = (λ i. sym (f .first) i ∷ high dataRule (lit< tt) f i ∷ low dataRule (lit< tt) f i ∷ four-back 3 i) ∙ sym (whole-bytes dataRule (lit< tt) f)
+
+-- intermediate: a file with one field more
+
+-- what is told of type k, and of all others what was told before
+abbrev tells : ℕ → Bool → (ℕ → Bool) → ℕ → Bool
+tells k b told t = cond (eqb t k) b (told t)
+
+tells-it : (k : ℕ) (b : Bool) (told : ℕ → Bool) → tells k b told k ≡ b
+tells-it k b told = rw (eq-eqb k k refl)
+
+tells-other : (k : ℕ) (b : Bool) (told : ℕ → Bool) (t : ℕ) → (t ≡ k → ⊥) → tells k b told t ≡ told t
+tells-other k b told t n = rw (ne-eqb t k n)
+
+-- types 1 to k, the last by itself
+types-last : (told : ℕ → Bool) (y : System) (k : ℕ) → 1 ≤ k → typesOut told y k ≡ typesOut told y (k - 1) ++ typeOut (told k) (typeNo y k)
+unfolding typesOut
+types-last told y zero h = absurd (omega arith)
+types-last told y (suc k) h = let back : k ≡ suc k - 1 = omega arith in ap (λ (j : ℕ). typesOut told y j ++ typeOut (told (suc k)) (typeNo y (suc k))) back
+
+-- type k in another form, told another way: it changes its own bytes alone
+types-set : (told : ℕ → Bool) (z next : System) (k : ℕ) (b : Bool) (t : TaskType) → 1 ≤ k → typeNo next k ≡ t → ((i : ℕ) → (i ≡ k - 1 → ⊥) → getD (next .types) i noTask ≡ getD (z .types) i noTask)
+    → typesOut (tells k b told) next k ≡ typesOut told z (k - 1) ++ typeOut b t
+types-set told z next k b t some here others =
+    types-last (tells k b told) next k some
+    ∙ ap₂ (λ (a c : List ℕ). a ++ c)
+    (types-same (tells k b told) told next z (k - 1) (λ i low high. λ j. typeOut (tells-other k b told i (λ e. omega arith) j) (others (i - 1) (λ e. omega arith) j)))
+    (λ i. typeOut (tells-it k b told i) (here i))
+
+file-platform : (told : ℕ → Bool) (z : System) → z .typecount ≡ 0 → fileWith told z ≡ platformOut z
+unfolding typesOut
+file-platform told z e = ap (λ (k : ℕ). platformOut z ++ typesOut told z k) e
+
+file-type : (told : ℕ → Bool) (z : System) (t : TaskType) → z .typecount < length (z .types) → fileWith (tells (suc (z .typecount)) false told) (withType t z) ≡ fileWith told z ++ typeOut false t
+file-type told z t h =
+    let k = z .typecount in
+    let back : suc k - 1 ≡ k = omega arith in
+    ap (λ (l : List ℕ). platformOut z ++ l)
+    (types-set told z (withType t z) (suc k) false t (omega arith) (ap (λ (j : ℕ). getD (withType t z .types) j noTask) back ∙ getD-set-same (z .types) k t noTask h)
+    (λ i n. getD-set-other (z .types) k i t noTask (λ e. n (e ∙ sym back))))
+    ∙ ap (λ (j : ℕ). platformOut z ++ (typesOut told z j ++ typeOut false t)) back
+    ∙ sym (append-assoc (platformOut z) (typesOut told z k) (typeOut false t))
+
+file-data : (told : ℕ → Bool) (z : System) (d : ℕ) → 1 ≤ z .typecount → z .typecount ≤ length (z .types) → told (z .typecount) ≡ false → lastType z .data ≡ 0
+    → fileWith (tells (z .typecount) true told) (withLast (withData d (lastType z)) z) ≡ fileWith told z ++ (3 ∷ 0 ∷ 4 ∷ fourOut d)
+file-data told z d some most quiet none =
+    let k = z .typecount in
+    let before = typesOut told z (k - 1) in
+    let field : List ℕ = 3 ∷ 0 ∷ 4 ∷ fourOut d in
+    let old : typesOut told z k ≡ before ++ typeOut false (lastType z) = types-last told z k some ∙ ap (λ (b : Bool). before ++ typeOut b (lastType z)) quiet in
+    let t = withData d (lastType z) in
+    ap (λ (l : List ℕ). platformOut z ++ l)
+    (types-set told z (withLast t z) k true t some (getD-set-same (z .types) (k - 1) t noTask (omega arith)) (λ i n. getD-set-other (z .types) (k - 1) i t noTask n)
+    ∙ ap (λ (l : List ℕ). before ++ l) (type-given (lastType z) d none)
+    ∙ sym (append-assoc before (typeOut false (lastType z)) field)
+    ∙ ap (λ (l : List ℕ). l ++ field) (sym old))
+    ∙ sym (append-assoc (platformOut z) (typesOut told z k) field)
 
 -- intermediate: what was read so far, as it is written
 
--- nothing before the platform, after it the file of the system so far
-abbrev written : ℕ → System → List ℕ
-written last z = cond (eqb last 0) [] (fileOf z)
+-- nothing before the platform, after it a file of the system so far
+abbrev written : (ℕ → Bool) → ℕ → System → List ℕ
+written told last z = cond (eqb last 0) [] (fileWith told z)
 
-written-some : (last : ℕ) (z : System) → (last ≡ 0 → ⊥) → written last z ≡ fileOf z
-written-some last z n = rw (ne-eqb last 0 n)
+written-some : (told : ℕ → Bool) (last : ℕ) (z : System) → (last ≡ 0 → ⊥) → written told last z ≡ fileWith told z
+written-some told last z n = rw (ne-eqb last 0 n)
 
--- a system so far: six types, and none before the platform
-record SoFar (last : ℕ) (z : System) : Type 0 where
-  six : length (z .types) ≡ typeLimit
+-- a system so far: no type before the platform, and no d directly after a type
+record SoFar (told : ℕ → Bool) (last : ℕ) (z : System) : Type 0 where
+  sound : Sound last z
   start : last ≡ 0 → z .typecount ≡ 0
+  quiet : last ≡ 2 → (told (z .typecount) ≡ false) × (lastType z .data ≡ 0)
 
 -- an accepted field adds its bytes to what is written
-record Adds (s : List ℕ) (last : ℕ) (z next : System) : Type 0 where
-  soFar : SoFar (byteAt s 0) next
-  inside : fieldSize s ≡ 13
-  bytes : written (byteAt s 0) next ≡ written last z ++ take (fieldSize s) s
+record Adds (told : ℕ → Bool) (s : List ℕ) (last : ℕ) (z next : System) : Type 0 where
+  tells-now : ℕ → Bool
+  start : byteAt s 0 ≡ 0 → next .typecount ≡ 0
+  quiet : byteAt s 0 ≡ 2 → (tells-now (next .typecount) ≡ false) × (lastType next .data ≡ 0)
+  bytes : written tells-now (byteAt s 0) next ≡ written told last z ++ take (fieldSize s) s
 
-file-platform : (z : System) → z .typecount ≡ 0 → fileOf z ≡ platformBytes z
-unfolding fileOf typesBytes
-file-platform z e = ap (λ (k : ℕ). platformBytes z ++ typesBytes (take k (z .types))) e ∙ append-nil (platformBytes z)
-
-file-type : (z : System) (t : TaskType) → z .typecount < length (z .types) → fileOf (withType t z) ≡ fileOf z ++ typeBytes t
-unfolding fileOf
-file-type z t h =
-    ap (λ (ts : List TaskType). platformBytes z ++ typesBytes ts) (take-suc-set (z .types) (z .typecount) t h)
-    ∙ ap (λ (l : List ℕ). platformBytes z ++ l) (types-more (take (z .typecount) (z .types)) t)
-    ∙ sym (append-assoc (platformBytes z) (typesBytes (take (z .typecount) (z .types))) (typeBytes t))
-
-module _ (s : List ℕ) (bytes : IsBytes s) (last : ℕ) (z next : System) (soFar : SoFar last z) where
-  some-first : (tag : ℕ) → Field13 s tag → (tag ≡ 0 → ⊥) → byteAt s 0 ≡ 0 → ⊥
-  some-first tag f n e = n (sym (f .first) ∙ e)
-
-  adds-platform : Field13 s 1 → last ≡ 0 → platformOf (bodyPart s) z ≡ opened next → Adds s last z next
+module _ (told : ℕ → Bool) (s : List ℕ) (bytes : IsBytes s) (last : ℕ) (z next : System) (soFar : SoFar told last z) where
+  adds-platform : Whole s platformRule → last ≡ 0 → platformOf (bodyPart s) z ≡ opened next → Adds told s last z next
   unfolding platformFrom
   adds-platform f first e =
+      let some : byteAt s 0 ≡ 0 → ⊥ = λ w. omega (arith, f .first) in
+      let new = withPlatform (byteAt s 3) (byteAt s 4) (word4 s 5) (word4 s 9) z in
       let read : platformOf (bytesFrom 10 3 s) z ≡ opened next = ap (λ (b : List ℕ). platformOf b z) (sym (f .body)) ∙ e in
-      let q = no-fault (platformFault (byteAt s 3) (byteAt s 4) (word4 s 5) (word4 s 9)) (withPlatform (byteAt s 3) (byteAt s 4) (word4 s 5) (word4 s 9) z) next read in
-      subst (Adds s last z) (q .1)
+      let q = no-fault (platformFault (byteAt s 3) (byteAt s 4) (word4 s 5) (word4 s 9)) new next read in
+      subst (Adds told s last z) (q .1)
       (record {
-        soFar = record { six = soFar .six; start = λ w. absurd (some-first 1 f (λ n. omega arith) w) };
-        inside = f .size;
+        tells-now = told;
+        start = λ w. absurd (some w);
+        quiet = λ w. absurd (omega (arith, f .first));
         bytes =
-            written-some (byteAt s 0) _ (some-first 1 f (λ n. omega arith))
-            ∙ file-platform (withPlatform (byteAt s 3) (byteAt s 4) (word4 s 5) (word4 s 9) z) (soFar .start first)
+            written-some told (byteAt s 0) new some
+            ∙ file-platform told new (soFar .start first)
             ∙ platform-back s bytes f z
-            ∙ sym (ap (λ (b : Bool). cond b [] (fileOf z) ++ take (fieldSize s) s) (eq-eqb last 0 first));
+            ∙ sym (ap (λ (b : Bool). cond b [] (fileWith told z) ++ take (fieldSize s) s) (eq-eqb last 0 first));
       })
 
-  adds-type : Field13 s 2 → (last ≡ 0 → ⊥) → z .typecount < typeLimit → typeOf (bodyPart s) z ≡ opened next → Adds s last z next
+  adds-type : Whole s typeRule → (last ≡ 0 → ⊥) → z .typecount < typeLimit → typeOf (bodyPart s) z ≡ opened next → Adds told s last z next
   unfolding typeFrom
   adds-type f later few e =
-      let t : TaskType = record { time = word4 s 3; memory = word4 s 7; ceiling = word2 s 11 } in
+      let some : byteAt s 0 ≡ 0 → ⊥ = λ w. omega (arith, f .first) in
+      let t = taskOf (word4 s 3) (word4 s 7) (word2 s 11) in
+      let now = tells (suc (z .typecount)) false told in
+      let room : z .typecount < length (z .types) = omega (arith, soFar .sound .six) in
+      let back : suc (z .typecount) - 1 ≡ z .typecount = omega arith in
+      let here : lastType (withType t z) ≡ t = ap (λ (j : ℕ). getD (withType t z .types) j noTask) back ∙ getD-set-same (z .types) (z .typecount) t noTask room in
       let read : typeOf (bytesFrom 10 3 s) z ≡ opened next = ap (λ (b : List ℕ). typeOf b z) (sym (f .body)) ∙ e in
       let q = no-fault (typeFault t) (withType t z) next read in
-      subst (Adds s last z) (q .1)
+      subst (Adds told s last z) (q .1)
       (record {
-        soFar = record { six = length-set (z .types) (z .typecount) t ∙ soFar .six; start = λ w. absurd (some-first 2 f (λ n. omega arith) w) };
-        inside = f .size;
+        tells-now = now;
+        start = λ w. absurd (some w);
+        quiet = λ w. (tells-it (suc (z .typecount)) false told, ap (λ (x : TaskType). x .data) here);
         bytes =
-            written-some (byteAt s 0) (withType t z) (some-first 2 f (λ n. omega arith))
-            ∙ file-type z t (omega (arith, soFar .six))
-            ∙ ap₂ (λ (a b : List ℕ). a ++ b) (sym (written-some last z later)) (type-back s bytes f);
+            written-some now (byteAt s 0) (withType t z) some
+            ∙ file-type told z t room
+            ∙ ap₂ (λ (a b : List ℕ). a ++ b) (sym (written-some told last z later)) (type-back s bytes f);
       })
 
-  adds-field : fieldOf s last z ≡ opened next → Adds s last z next
+  adds-data : Whole s dataRule → last ≡ 2 → dataOf (bodyPart s) z ≡ opened next → Adds told s last z next
+  unfolding dataFrom
+  adds-data f after e =
+      let some : byteAt s 0 ≡ 0 → ⊥ = λ w. omega (arith, f .first) in
+      let d = word4 s 3 in
+      let t = withData d (lastType z) in
+      let now = tells (z .typecount) true told in
+      let old = soFar .quiet after in
+      let sound = soFar .sound in
+      let one : 1 ≤ z .typecount = sound .some-type (omega arith) in
+      let read : dataOf (bytesFrom 4 3 s) z ≡ opened next = ap (λ (b : List ℕ). dataOf b z) (sym (f .body)) ∙ e in
+      let q = no-fault (typeFault t) (withLast t z) next read in
+      subst (Adds told s last z) (q .1)
+      (record {
+        tells-now = now;
+        start = λ w. absurd (some w);
+        quiet = λ w. absurd (omega (arith, f .first));
+        bytes =
+            written-some now (byteAt s 0) (withLast t z) some
+            ∙ file-data told z d one (omega (arith, sound .six, sound .typecount)) (old .0) (old .1)
+            ∙ ap₂ (λ (a b : List ℕ). a ++ b) (sym (written-some told last z (λ n. omega arith))) (data-back s bytes f);
+      })
+
+  adds-field : fieldOf s last z ≡ opened next → Adds told s last z next
   unfolding bodyOf
   adds-field e =
       let a = fieldOf-opened s last z next e in
       at (a .rule) (a .passed) (a .body) (a .passed .rule .which)
     where
-      at : (r : FieldRule) → Passed (byteAt s 0) (word2 s 1) (wholeField s) last r → bodyOf r (bodyPart s) z ≡ opened next → (r ≡ platformRule) ⊎ (r ≡ typeRule) → Adds s last z next
-      at r p b (inl w) =
-          let f = field-13 s last platformRule refl (subst (Passed (byteAt s 0) (word2 s 1) (wholeField s) last) w p) in
-          adds-platform f (platform-first last (rw w at (p .place))) (rw w at b)
-      at r p b (inr w) =
-          let f = field-13 s last typeRule refl (subst (Passed (byteAt s 0) (word2 s 1) (wholeField s) last) w p) in
+      of-rule : (r rule : FieldRule) → r ≡ rule → Passed (byteAt s 0) (word2 s 1) (wholeField s) last r → Whole s rule
+      of-rule r rule w p = whole-field s last rule (subst (Passed (byteAt s 0) (word2 s 1) (wholeField s) last) w p)
+
+      at : (r : FieldRule) → Passed (byteAt s 0) (word2 s 1) (wholeField s) last r → bodyOf r (bodyPart s) z ≡ opened next → OneOf r → Adds told s last z next
+      at r p b (a-platform w) = adds-platform (of-rule r platformRule w p) (platform-first last (rw w at (p .place))) (rw w at b)
+      at r p b (a-type w) =
           let q = passes (leb typeLimit (z .typecount)) 7 (typeOf (bodyPart s) z) next (rw w at b) in
-          adds-type f (type-later last (rw w at (p .place))) (leb-false typeLimit (z .typecount) (q .0)) (q .1)
+          adds-type (of-rule r typeRule w p) (type-later last (rw w at (p .place))) (leb-false typeLimit (z .typecount) (q .0)) (q .1)
+      at r p b (a-data w) = adds-data (of-rule r dataRule w p) (data-after-type last .0 (rw w at (p .place))) (rw w at b)
 
 -- intermediate: along a reading
 
-end-back : (last : ℕ) (z y : System) → endOf last z ≡ opened y → written last z ++ [] ≡ fileOf y
+-- the bytes are a file of y
+abbrev IsFile : List ℕ → System → Type 0
+IsFile file y = (told : ℕ → Bool) × (file ≡ fileWith told y)
+
+end-back : (told : ℕ → Bool) (last : ℕ) (z y : System) → endOf last z ≡ opened y → IsFile (written told last z ++ []) y
 unfolding endOf
-end-back last z y e =
+end-back told last z y e =
     let a = passes (eqb last 0 || eqb (z .typecount) 0) 9 _ y e in
     let some = either-false (eqb last 0) (eqb (z .typecount) 0) (a .0) in
     let c = no-fault (columnsFault (z .types)) z y (a .1) in
-    append-nil (written last z) ∙ written-some last z (eqb-false last 0 (some .0)) ∙ ap fileOf (c .1)
+    (told, append-nil (written told last z) ∙ written-some told last z (eqb-false last 0 (some .0)) ∙ ap (fileWith told) (c .1))
 
-fields-back : (f : ℕ) (s : List ℕ) (last : ℕ) (z y : System) → length s ≤ f → IsBytes s → SoFar last z → fieldsFrom f s last z ≡ opened y → written last z ++ s ≡ fileOf y
+fields-back : (f : ℕ) (told : ℕ → Bool) (s : List ℕ) (last : ℕ) (z y : System) → length s ≤ f → IsBytes s → SoFar told last z → fieldsFrom f s last z ≡ opened y
+    → IsFile (written told last z ++ s) y
 unfolding fieldsFrom
-fields-back zero [] last z y enough bytes soFar e = end-back last z y e
-fields-back zero (b ∷ s) last z y enough bytes soFar e = absurd (omega arith)
-fields-back (suc f) [] last z y enough bytes soFar e = end-back last z y e
-fields-back (suc f) (b ∷ s) last z y enough bytes soFar e =
-    after (fieldOf (b ∷ s) last z) refl (λ next. fields-back f (drop (fieldSize (b ∷ s)) (b ∷ s)) b next y) e
+fields-back zero told [] last z y enough bytes soFar e = end-back told last z y e
+fields-back zero told (b ∷ s) last z y enough bytes soFar e = absurd (omega arith)
+fields-back (suc f) told [] last z y enough bytes soFar e = end-back told last z y e
+fields-back (suc f) told (b ∷ s) last z y enough bytes soFar e =
+    after (fieldOf (b ∷ s) last z) refl (λ now next. fields-back f now (drop (fieldSize (b ∷ s)) (b ∷ s)) b next y) e
   where
     left : List ℕ
     left = drop (fieldSize (b ∷ s)) (b ∷ s)
@@ -190,21 +275,24 @@ fields-back (suc f) (b ∷ s) last z y enough bytes soFar e =
     left-bytes i = rw (getD-drop (fieldSize (b ∷ s)) (b ∷ s) i 0) (bytes (fieldSize (b ∷ s) + i))
 
     after : (x : Reading) → fieldOf (b ∷ s) last z ≡ x
-        → ((next : System) → length left ≤ f → IsBytes left → SoFar b next → fieldsFrom f left b next ≡ opened y → written b next ++ left ≡ fileOf y)
+        → ((now : ℕ → Bool) (next : System) → length left ≤ f → IsBytes left → SoFar now b next → fieldsFrom f left b next ≡ opened y → IsFile (written now b next ++ left) y)
         → afterField x (λ (next : System). fieldsFrom f left b next) ≡ opened y
-        → written last z ++ (b ∷ s) ≡ fileOf y
+        → IsFile (written told last z ++ (b ∷ s)) y
     after (unread n) q rest e = let z : _≡_ {A = ℕ} 0 1 = cc in absurd (omega arith)
     after (opened next) q rest e =
-        let a = adds-field (b ∷ s) bytes last z next soFar q in
-        let joined : (written last z ++ take (fieldSize (b ∷ s)) (b ∷ s)) ++ left ≡ written last z ++ (b ∷ s) =
-        append-assoc (written last z) (take (fieldSize (b ∷ s)) (b ∷ s)) left ∙ ap (λ (l : List ℕ). written last z ++ l) (take-append-drop (fieldSize (b ∷ s)) (b ∷ s)) in
-        sym joined
-        ∙ ap (λ (l : List ℕ). l ++ left) (sym (a .bytes))
-        ∙ rest next (omega (arith, length-drop (fieldSize (b ∷ s)) (b ∷ s), a .inside)) left-bytes (a .soFar) e
+        let a = adds-field told (b ∷ s) bytes last z next soFar q in
+        let joined : written (a .tells-now) b next ++ left ≡ written told last z ++ (b ∷ s) =
+        ap (λ (l : List ℕ). l ++ left) (a .bytes)
+        ∙ append-assoc (written told last z) (take (fieldSize (b ∷ s)) (b ∷ s)) left
+        ∙ ap (λ (l : List ℕ). written told last z ++ l) (take-append-drop (fieldSize (b ∷ s)) (b ∷ s)) in
+        let now : SoFar (a .tells-now) b next = record { sound = sound-field (b ∷ s) last z next (soFar .sound) q; start = a .start; quiet = a .quiet } in
+        subst (λ (l : List ℕ). IsFile l y) joined
+        (rest (a .tells-now) next (omega (arith, length-drop (fieldSize (b ∷ s)) (b ∷ s))) left-bytes now e)
 
--- main: every file that is read is the file of its system
+-- main: every file that is read is a file of its system
 
-pub read-comes-back : (file : List ℕ) (y : System) → IsBytes file → readFile file ≡ opened y → fileOf y ≡ file
+pub read-comes-back : (file : List ℕ) (y : System) → IsBytes file → readFile file ≡ opened y → (told : ℕ → Bool) × (file ≡ fileWith told y)
 unfolding readFile
 read-comes-back file y bytes e =
-    sym (fields-back (length file) file 0 blank y (le-refl (length file)) bytes (record { six = refl; start = λ n. refl }) e)
+    fields-back (length file) (λ (t : ℕ). false) file 0 blank y (le-refl (length file)) bytes
+    (record { sound = sound-blank; start = λ n. refl; quiet = λ n. absurd (omega arith) }) e

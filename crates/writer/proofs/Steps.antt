@@ -1,20 +1,20 @@
 -- The steps of the writer's loops over a system's types, which the functions' proofs cite.
-use Prim.Native.Nat.{ℕ, _+_, _*_, _≤_, _<_}
-use mathlib.Core.Path.{_≡_, refl, sym, ap, _∙_}
-use mathlib.Core.List.{List, _++_}
-use mathlib.Core.Logic.{_⊎_, inl, inr}
+use Prim.Native.Nat.{ℕ, zero, suc, _+_, _≤_, _<_}
+use mathlib.Core.Path.{_≡_, refl, sym, _∙_}
+use mathlib.Core.List.{List, [], _∷_, _++_}
+use native.Mathlib.Omega.{arith}
 use native.Mathlib.Numerals.{add-one}
 use borrow.Author.Tests.{ne-eqb}
-use lib.ListN.{length, getD, take, drop, drop-of-length-le}
-use lib.Seq.{take-suc, drop-cons, length-take-le}
+use lib.ListN.{length, getD, take, drop, length-append, drop-of-length-le}
+use lib.Seq.{take-suc, drop-cons}
 use lib.Dec.{lit<}
 use Rattle.system.specs.declared.TaskType.{TaskType}
 use Rattle.system.specs.declared.System.{System}
 use Rattle.system.specs.declared.rules.FieldRule.{FieldRule}
 use Rattle.system.specs.declared.rules.RuleFound.{RuleFound}
 use Rattle.system.specs.declared.rules.RuleFound.the-variants.{Known}
-use Rattle.system.specs.Rules.{platformRule, typeRule, fieldRules, ruleOf}
-use Rattle.system.proofs.Laws.{ruleOf-known}
+use Rattle.system.specs.Rules.{fieldRules, ruleOf}
+use Rattle.system.proofs.Laws.{OneOf, a-platform, a-type, a-data, ruleOf-known}
 use Rattle.system.specs.Values.{cleared}
 use Rattle.system.specs.Limits.{platformFault, typeFault, columnsFault}
 use Rattle.writer.specs.File.{typeBytes, typesBytes}
@@ -26,9 +26,10 @@ use Rattle.writer.proofs.Bytes.{types-more, types-size}
 pub body-short : (tag : ℕ) {found : RuleFound} {r : FieldRule} → found ≡ ruleOf fieldRules tag → found ≡ Known r → r .body < 65536
 body-short tag {r = r} look known = at (ruleOf-known tag r (sym look ∙ known) .which)
   where
-    at : (r ≡ platformRule) ⊎ (r ≡ typeRule) → r .body < 65536
-    at (inl w) = rw w (lit< tt)
-    at (inr w) = rw w (lit< tt)
+    at : OneOf r → r .body < 65536
+    at (a-platform w) = rw w (lit< tt)
+    at (a-type w) = rw w (lit< tt)
+    at (a-data w) = rw w (lit< tt)
 
 -- One test after another: this one finds a fault, or what comes after it decides
 
@@ -78,10 +79,18 @@ module _ (ts : List TaskType) (i : ℕ) where
   unfolding typesFault
   types-end h inv = rw (drop-of-length-le ts h) at inv
 
--- The types that are written: 13 bytes each, and one more
-
-pub types-taken : (ts : List TaskType) (k : ℕ) → k ≤ length ts → length (typesBytes (take k ts)) ≡ 13 * k
-types-taken ts k h = types-size (take k ts) ∙ ap (λ (n : ℕ). 13 * n) (length-take-le k ts h)
+-- The types that are written: one more, which is among the first k
 
 pub types-suc : (ts : List TaskType) (i : ℕ) (d : TaskType) → i < length ts → typesBytes (take (i + 1) ts) ≡ typesBytes (take i ts) ++ typeBytes (getD ts i d)
 types-suc ts i d h = rw (add-one i, take-suc ts i d h) (types-more (take i ts) (getD ts i d))
+
+pub types-suc-size : (ts : List TaskType) (i : ℕ) (d : TaskType) → i < length ts → length (typesBytes (take (i + 1) ts)) ≡ length (typesBytes (take i ts)) + length (typeBytes (getD ts i d))
+types-suc-size ts i d h = rw (add-one i, take-suc ts i d h) (types-size (take i ts) (getD ts i d))
+
+pub types-within : (ts : List TaskType) (i k : ℕ) (d : TaskType) → i < k → i < length ts → length (typesBytes (take i ts)) + length (typeBytes (getD ts i d)) ≤ length (typesBytes (take k ts))
+unfolding typesBytes
+types-within [] i k d less h = absurd (omega arith)
+types-within (t ∷ ts) i zero d less h = absurd (omega arith)
+types-within (t ∷ ts) zero (suc k) d less h = omega (arith, length-append (typeBytes t) (typesBytes (take k ts)))
+types-within (t ∷ ts) (suc i) (suc k) d less h =
+    omega (arith, length-append (typeBytes t) (typesBytes (take i ts)), length-append (typeBytes t) (typesBytes (take k ts)), types-within ts i k d (omega arith) (omega arith))

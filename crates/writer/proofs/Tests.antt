@@ -13,8 +13,8 @@ use lib.Dec.{leb, ltb, eqb}
 use Rattle.system.specs.declared.TaskType.{TaskType}
 use Rattle.system.specs.declared.System.{System}
 use Rattle.system.specs.Values.{noTask, cleared}
-use Rattle.system.specs.Limits.{engineLimit, typeLimit, sizeLimit, columnLimit, sizeFault, columnsOf, columnsFault}
-use Rattle.system.proofs.Laws.{and-parts, and-both}
+use Rattle.system.specs.Limits.{engineLimit, typeLimit, sizeLimit, columnLimit, sizeFault, typeFault, columnsOf, columnsFault}
+use Rattle.system.proofs.Laws.{and-parts, and-both, sized-task}
 use Rattle.partition.specs.Assignment.{among}
 use Rattle.writer.specs.File.{fileOf}
 use Rattle.writer.specs.Writing.{orElse, typesFault, roomFault}
@@ -121,13 +121,22 @@ engines-test y = both-test 1 (y .engines) (y .engines) engineLimit
 pub rule-test : (y : System) → Test (y .rule ≤ 1) 6 (ruleFault y)
 rule-test y = one-test (y .rule) 1
 
--- 8: u and s of types 1 to k, where those past k are cleared
+-- 8: u, s and d of types 1 to k, where those past k are cleared
 
 abbrev Within : TaskType → Type 0
-Within t = (t .time ≤ 1000000) × (t .memory ≤ 1000000)
+Within t = (t .time ≤ 1000000) × (t .memory ≤ 1000000) × (t .data ≤ 1000000)
 
 size-test : (u s : ℕ) → Test ((u ≤ 1000000) × (s ≤ 1000000)) 8 (sizeFault u s)
 size-test u s = both-test u sizeLimit s sizeLimit
+
+type-test : (t : TaskType) → Test (Within t) 8 (typeFault t)
+type-test t =
+    let u = leb (t .time) sizeLimit in
+    let s = leb (t .memory) sizeLimit in
+    let d = leb (t .data) sizeLimit in
+    test-of (not (u && s && d))
+    (λ q h. let two = and-both u s (le-leb (t .time) sizeLimit (h .0)) (le-leb (t .memory) sizeLimit (h .1)) in false≢true (sym (not-true _ q) ∙ and-both (u && s) d two (le-leb (t .data) sizeLimit (h .2))))
+    (λ q. let h = sized-task t (rw q) in (h .time, h .memory, h .data))
 
 none-faulty : (n : ℕ) → typesFault (replicate n noTask) ≡ 0
 unfolding typesFault
@@ -137,8 +146,8 @@ none-faulty (suc n) = none-faulty n
 types-test : (k n : ℕ) (ts : List TaskType) → Test ((i : ℕ) → i < k → Within (getD ts i noTask)) 8 (typesFault (take k ts ++ replicate n noTask))
 unfolding typesFault
 types-test zero n ts = rw (none-faulty n) (passed (λ i h. absurd (omega arith)))
-types-test (suc k) n [] = rw (none-faulty n) (passed (λ i h. (omega arith, omega arith)))
-types-test (suc k) n (t ∷ ts) = asked (each, λ all. (all zero (omega arith), λ i h. all (suc i) (omega arith))) (both (omega arith) (size-test (t .time) (t .memory)) (types-test k n ts))
+types-test (suc k) n [] = rw (none-faulty n) (passed (λ i h. (omega arith, omega arith, omega arith)))
+types-test (suc k) n (t ∷ ts) = asked (each, λ all. (all zero (omega arith), λ i h. all (suc i) (omega arith))) (both (omega arith) (type-test t) (types-test k n ts))
   where
     each : (Within t × ((i : ℕ) → i < k → Within (getD ts i noTask))) → (i : ℕ) → i < suc k → Within (getD (t ∷ ts) i noTask)
     each h zero less = h .0

@@ -2,7 +2,7 @@
 -- Tests are joined by `orElse`, which is 0 exactly where both are; with 0 past k the writer judges what `keepsLimits` judges.
 use Prim.Native.Nat.{ℕ, zero, suc, _≤_}
 use mathlib.Core.Path.{_≡_, refl, ap, _∙_}
-use mathlib.Core.List.{List, [], _∷_, _++_}
+use mathlib.Core.List.{List, [], _∷_}
 use mathlib.Core.Bool.{Bool, true, false, cond}
 use native.Mathlib.Omega.{arith}
 use borrow.Author.Tests.{ltb-false, le-ltb, le-leb, eqb-true, eqb-false, eq-eqb, ne-eqb}
@@ -13,7 +13,7 @@ use Rattle.system.specs.declared.System.{System}
 use Rattle.system.specs.Values.{noTask, cleared}
 use Rattle.system.specs.Limits.{engineLimit, typeLimit, columnLimit, platformFault, typeFault, columnsFault, columns, keepsLimits}
 use Rattle.system.specs.Layout.{readFile, opened}
-use Rattle.system.proofs.Laws.{Limits, Sized, limits-of, read-keeps-limits, sizes-keep}
+use Rattle.system.proofs.Laws.{Limits, Sized, limits-of, read-keeps-limits, sizes-keep, sized-test}
 use Rattle.writer.specs.Writing.{orElse, countFault, typesFault, systemFault}
 use Rattle.writer.proofs.Cleared.{cleared-same}
 
@@ -45,17 +45,18 @@ count-kept k e = most (ltb typeLimit k) refl e
 count-keeps : (k : ℕ) → 1 ≤ k → k ≤ typeLimit → countFault k ≡ 0
 count-keeps k low high = rw (le-ltb typeLimit k high, ne-eqb k 0 (λ e. omega arith))
 
--- u and s of some types
+-- u, s and d of some types
 
-pub types-front : (a b : List TaskType) → typesFault (a ++ b) ≡ 0 → typesFault a ≡ 0
+pub types-each : (ts : List TaskType) → typesFault ts ≡ 0 → (i : ℕ) → typeFault (getD ts i noTask) ≡ 0
 unfolding typesFault
-types-front [] b e = refl
-types-front (t ∷ a) b e = let p = or-none (typeFault t) (typesFault (a ++ b)) e in none-or (typeFault t) (typesFault a) (p .0) (types-front a b (p .1))
+types-each [] e i = refl
+types-each (t ∷ ts) e zero = or-none (typeFault t) (typesFault ts) e .0
+types-each (t ∷ ts) e (suc i) = types-each ts (or-none (typeFault t) (typesFault ts) e .1) i
 
 types-sized : (ts : List TaskType) → ((i : ℕ) → Sized (getD ts i noTask)) → typesFault ts ≡ 0
 unfolding typesFault
 types-sized [] h = refl
-types-sized (t ∷ ts) h = none-or (typeFault t) (typesFault ts) (sizes-keep (t .time) (t .memory) (h zero .time) (h zero .memory)) (types-sized ts (λ i. h (suc i)))
+types-sized (t ∷ ts) h = none-or (typeFault t) (typesFault ts) (eqb-true (typeFault t) 0 (sized-test t (h zero))) (types-sized ts (λ i. h (suc i)))
 
 -- main: no fault is found where every test passes
 

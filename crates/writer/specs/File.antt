@@ -1,13 +1,15 @@
 -- The bytes of a system's file: document 01's "System file", from the system to the bytes. Tag and length of each field are those of the reader's own table of field rules.
 use Prim.Native.Nat.{ℕ}
 use mathlib.Core.List.{List, [], _∷_, _++_}
+use mathlib.Core.Bool.{cond}
 use lib.ListN.{take}
+use lib.Dec.{eqb}
 use Rattle.buffer.specs.Bytes.{bytes2, bytes4}
 use Rattle.system.specs.declared.TaskType.{TaskType}
 use Rattle.system.specs.declared.System.{System}
 use Rattle.system.specs.declared.rules.RuleFound.{RuleFound}
 use Rattle.system.specs.declared.rules.RuleFound.the-variants.{Known, Unknown}
-use Rattle.system.specs.Rules.{platformRule, typeRule, fieldRules, ruledSize}
+use Rattle.system.specs.Rules.{platformRule, typeRule, dataRule, fieldRules, ruledSize}
 unfoldable use Rattle.system.specs.Rules.{ruleOf}
 
 -- "tag (1 byte), body length (2 bytes)", as the table's rule has them; nothing for a tag that it does not have
@@ -28,9 +30,13 @@ fieldBytes tag body = headBytes (ruleOf fieldRules tag) ++ body
 abbrev pub platformBytes : System → List ℕ
 platformBytes y = fieldBytes (platformRule .tag) (y .engines ∷ y .rule ∷ (bytes4 (y .timecap) ++ bytes4 (y .memorycap)))
 
--- a type: u (4), s (4), n (2)
+-- d (4): "The writer omits d = 0" (request 2026-03)
+abbrev pub dataBytes : ℕ → List ℕ
+dataBytes d = cond (eqb d 0) [] (fieldBytes (dataRule .tag) (bytes4 d))
+
+-- a type: u (4), s (4), n (2); then its d
 abbrev pub typeBytes : TaskType → List ℕ
-typeBytes t = fieldBytes (typeRule .tag) (bytes4 (t .time) ++ (bytes4 (t .memory) ++ bytes2 (t .ceiling)))
+typeBytes t = fieldBytes (typeRule .tag) (bytes4 (t .time) ++ (bytes4 (t .memory) ++ bytes2 (t .ceiling))) ++ dataBytes (t .data)
 
 -- the fields of some types, one after another
 unfoldable pub typesBytes : List TaskType → List ℕ

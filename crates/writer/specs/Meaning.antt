@@ -2,9 +2,11 @@
 -- None of these words stands in the definitions by which the writer's code is described, so that code and statement cannot be wrong together.
 use Prim.Native.Nat.{ℕ, zero, suc, _+_, _*_, _/_, _%_, _≤_, _<_}
 use mathlib.Core.List.{List, [], _∷_, _++_}
+use mathlib.Core.Bool.{Bool, false, not, cond, _&&_}
 use mathlib.Core.Path.{_≡_}
 use mathlib.Core.Logic.{_↔_}
 use lib.ListN.{length, getD, take, drop}
+use lib.Dec.{eqb}
 use Rattle.system.specs.declared.TaskType.{TaskType}
 use Rattle.system.specs.declared.System.{System}
 use Rattle.system.specs.declared.Answer.{Answer}
@@ -26,26 +28,42 @@ fourOut n = (n / 16777216) ∷ (n / 65536 % 256) ∷ (n / 256 % 256) ∷ (n % 25
 abbrev pub platformOut : System → List ℕ
 platformOut y = 1 ∷ 0 ∷ 10 ∷ y .engines ∷ y .rule ∷ (fourOut (y .timecap) ++ fourOut (y .memorycap))
 
--- type t, counted from 1: tag 2, length 10, u, s, n
-abbrev pub typeOut : System → ℕ → List ℕ
-typeOut y t = 2 ∷ 0 ∷ 10 ∷ (fourOut (typeNo y t .time) ++ (fourOut (typeNo y t .memory) ++ twoOut (typeNo y t .ceiling)))
+-- d: tag 3, length 4, d. A d of 0 may be left out, and it may be given, as `told` says
+abbrev pub dataOut : Bool → ℕ → List ℕ
+dataOut told d = cond (eqb d 0 && not told) [] (3 ∷ 0 ∷ 4 ∷ fourOut d)
 
--- types 1 to n, in order of their number
-unfoldable pub typesOut : System → ℕ → List ℕ
-typesOut y zero = []
-typesOut y (suc n) = typesOut y n ++ typeOut y (suc n)
+-- type t, counted from 1: tag 2, length 10, u, s, n; then its d
+abbrev pub typeOut : Bool → TaskType → List ℕ
+typeOut told t = 2 ∷ 0 ∷ 10 ∷ (fourOut (t .time) ++ (fourOut (t .memory) ++ (twoOut (t .ceiling) ++ dataOut told (t .data))))
 
--- the file of a system
+-- types 1 to n, in order of their number; `told t` says whether type t has a tag 3 where its d is 0
+unfoldable pub typesOut : (ℕ → Bool) → System → ℕ → List ℕ
+typesOut told y zero = []
+typesOut told y (suc n) = typesOut told y n ++ typeOut (told (suc n)) (typeNo y (suc n))
+
+-- the files of a system: they differ in the zero tags 3 alone
+abbrev pub fileWith : (ℕ → Bool) → System → List ℕ
+fileWith told y = platformOut y ++ typesOut told y (y .typecount)
+
+-- its file without a zero tag 3, which is the one that is written
 abbrev pub fileOut : System → List ℕ
-fileOut y = platformOut y ++ typesOut y (y .typecount)
+fileOut y = fileWith (λ (t : ℕ). false) y
+
+-- no zero tag 3 stands in the file that `told` tells
+abbrev pub NoZero : (ℕ → Bool) → System → Type 0
+NoZero told y = (t : ℕ) → 1 ≤ t → t ≤ y .typecount → typeNo y t .data ≡ 0 → told t ≡ false
 
 -- a list of bytes
 abbrev pub IsBytes : List ℕ → Type 0
 IsBytes file = (i : ℕ) → getD file i 0 < 256
 
--- Both round trips in one: a file is read as y exactly where it is, byte by byte, the file of y, and y keeps the limits, with 0 past k
+-- Both round trips in one: a file is read as y exactly where it is, byte by byte, a file of y, and y keeps the limits, with 0 past k
 abbrev pub ReadsExactly : List ℕ → System → Type 0
-ReadsExactly file y = (readFile file ≡ opened y) ↔ ((file ≡ fileOut y) × LimitsOut y)
+ReadsExactly file y = (readFile file ≡ opened y) ↔ (((told : ℕ → Bool) × (file ≡ fileWith told y)) × LimitsOut y)
+
+-- "byte equality holds for files without a zero tag 3", and for no others
+abbrev pub ComesBackExactly : (ℕ → Bool) → System → Type 0
+ComesBackExactly told y = (fileOut y ≡ fileWith told y) ↔ NoZero told y
 
 -- some file gives the system
 pub record Given (y : System) : Type 0 where
@@ -62,11 +80,11 @@ pub record SameToK (y z : System) : Type 0 where
   pub typecount : z .typecount ≡ y .typecount
   pub six : length (z .types) ≡ 6
   pub types : (t : ℕ) → 1 ≤ t → t ≤ y .typecount → typeNo z t ≡ typeNo y t
-  pub past : (t : ℕ) → y .typecount < t → typeNo z t ≡ record { time = 0; memory = 0; ceiling = 0 }
+  pub past : (t : ℕ) → y .typecount < t → typeNo z t ≡ record { time = 0; memory = 0; ceiling = 0; «data» = 0 }
 
 -- The order of the refusals: each number is said exactly where its row says so and all that stand before it pass
 
--- 7 and 9: k is 1 to 6. 5: m is 1 to 16. 8: U, S, and u and s of types 1 to k are at most 1,000,000
+-- 7 and 9: k is 1 to 6. 5: m is 1 to 16. 8: U, S, and u, s and d of types 1 to k are at most 1,000,000
 abbrev pub CountWithin : System → Type 0
 CountWithin y = (1 ≤ y .typecount) × (y .typecount ≤ 6)
 
@@ -75,7 +93,7 @@ EnginesWithin y = (1 ≤ y .engines) × (y .engines ≤ 16)
 
 pub record SizesWithin (y : System) : Type 0 where
   pub capacities : (y .timecap ≤ 1000000) × (y .memorycap ≤ 1000000)
-  pub costs : (t : ℕ) → 1 ≤ t → t ≤ y .typecount → (typeNo y t .time ≤ 1000000) × (typeNo y t .memory ≤ 1000000)
+  pub costs : (t : ℕ) → 1 ≤ t → t ≤ y .typecount → (typeNo y t .time ≤ 1000000) × (typeNo y t .memory ≤ 1000000) × (typeNo y t .data ≤ 1000000)
 
 -- 10: the columns of types 1 to n
 unfoldable pub columnsTo : System → ℕ → ℕ
@@ -97,8 +115,8 @@ pub record WritesInOrder (y : System) (room : ℕ) (o : Outcome) : Type 0 where
   pub thenSix : CountWithin y → EnginesWithin y → (o ≡ refused fromInput 6) ↔ (1 < y .rule)
   pub thenEight : CountWithin y → EnginesWithin y → y .rule ≤ 1 → (o ≡ refused fromInput 8) ↔ (SizesWithin y → ⊥)
   pub thenTen : CountWithin y → EnginesWithin y → y .rule ≤ 1 → SizesWithin y → (o ≡ refused fromInput 10) ↔ (1024 < columnsTo y (y .typecount))
-  pub thenThirty : MayBeWritten y → (o ≡ refused fromInput 30) ↔ (room < 13 * (y .typecount + 1))
-  pub orWritten : MayBeWritten y → 13 * (y .typecount + 1) ≤ room → o ≡ accepted (13 * (y .typecount + 1) ∷ [])
+  pub thenThirty : MayBeWritten y → (o ≡ refused fromInput 30) ↔ (room < length (fileOut y))
+  pub orWritten : MayBeWritten y → length (fileOut y) ≤ room → o ≡ accepted (length (fileOut y) ∷ [])
 
 -- What the call `write_system` promises: its answer and the buffer, whole; the order of its refusals; demand 1; the bytes of an accepted system; and both round trips of the buffer
 pub record WritePromises (y : System) (old new : List ℕ) (r : Answer) : Type 0 where
@@ -106,7 +124,7 @@ pub record WritePromises (y : System) (old new : List ℕ) (r : Answer) : Type 0
   pub leaves : new ≡ writtenTo y old
   pub order : WritesInOrder y (length old) (outcomeOf r)
   pub asLent : (s : Source) (n : ℕ) → outcomeOf r ≡ refused s n → new ≡ old
-  pub writes : (n : ℕ) → outcomeOf r ≡ accepted (n ∷ []) → (MayBeWritten y) × (n ≡ 13 * (y .typecount + 1)) × (new ≡ fileOut y ++ drop n old)
+  pub writes : (n : ℕ) → outcomeOf r ≡ accepted (n ∷ []) → (MayBeWritten y) × (n ≡ length (fileOut y)) × (new ≡ fileOut y ++ drop n old)
   pub readsBack : (n : ℕ) → outcomeOf r ≡ accepted (n ∷ []) → (z : System) × (readFile (take n new) ≡ opened z) × SameToK y z
-  pub comesBack : (file : List ℕ) → IsBytes file → readFile file ≡ opened y → length file ≤ length old
+  pub comesBack : (file : List ℕ) (told : ℕ → Bool) → IsBytes file → readFile file ≡ opened y → file ≡ fileWith told y → NoZero told y → length file ≤ length old
       → (outcomeOf r ≡ accepted (length file ∷ [])) × (new ≡ file ++ drop (length file) old)

@@ -19,7 +19,7 @@ orElse fault later = cond (eqb fault 0) later fault
 abbrev pub countFault : ℕ → ℕ
 countFault k = cond (ltb typeLimit k) 7 (cond (eqb k 0) 9 0)
 
--- u and s of some types: 8
+-- u, s and d of some types: 8
 unfoldable pub typesFault : List TaskType → ℕ
 typesFault [] = 0
 typesFault (t ∷ ts) = orElse (typeFault t) (typesFault ts)

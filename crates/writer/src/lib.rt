@@ -1,19 +1,20 @@
-// The writer of system files: request 2026-01. A system within document 01's limits becomes the bytes that the reader reads as it.
+// The writer of system files: request 2026-01, with the d of request 2026-03. A system within document 01's limits becomes the bytes that the reader reads as it.
 //
 // The functions that put something into the buffer answer the place after it. Tag and length of a field are asked of the reader's own table of field rules.
 ghost use mathlib.Core.Path.{_≡_};
-ghost use Prim.Native.Nat.{_+_, _*_, _≤_};
+ghost use Prim.Native.Nat.{_+_, _≤_};
 ghost use lib.ListN.{length, take};
 ghost use Rattle.buffer.specs.Written.{Puts};
 ghost use Rattle.system.specs.Limits.{engineLimit, typeLimit};
-ghost use Rattle.system.specs.Rules.{platformRule, typeRule, fieldRules, ruleOf, headSize, ruledSize};
-ghost use Rattle.writer.specs.File.{headBytes, foundSize, platformBytes, typeBytes, typesBytes, fileOf};
+ghost use Rattle.system.specs.Rules.{platformRule, fieldRules, ruleOf, headSize, ruledSize};
+ghost use Rattle.writer.specs.File.{headBytes, foundSize, platformBytes, dataBytes, typeBytes, typesBytes, fileOf};
 ghost use Rattle.writer.specs.Writing.{countFault, typesFault, systemFault, writeFault};
 ghost use Rattle.writer.specs.Meaning.{WritePromises};
 use buffer::put_byte;
 use buffer::put_four;
 use buffer::put_two;
 use system::Answer;
+use system::DATA;
 use system::HEAD_SIZE;
 use system::PLATFORM;
 use system::Refusal;
@@ -87,12 +88,36 @@ fn field_size(tag: u8) -> usize
     HEAD_SIZE + rule.body
 }
 
+// The bytes of a type: its d has a field of its own where it is not 0.
+fn type_size(t: TaskType) -> usize
+    ensures { λ r. ⌜ r ≡ length (typeBytes t) ⌝ }
+{
+    let size = field_size(TYPE);
+    if t.data == 0 {
+        return size;
+    }
+    size + field_size(DATA)
+}
+
+// The bytes of the first `typecount` types.
+fn types_size(types: [TaskType; TYPE_LIMIT], typecount: usize) -> usize
+    requires { ⌜ typecount ≤ typeLimit ⌝ }
+    ensures { λ r. ⌜ r ≡ length (typesBytes (take typecount types)) ⌝ }
+{
+    let mut size: usize = 0;
+    for i in 0..typecount {
+        size += type_size(types[i]);
+    }
+    size
+}
+
 // The bytes of a system's file.
 fn file_size(y: System) -> usize
     requires { ⌜ y .typecount ≤ typeLimit ⌝ }
     ensures { λ r. ⌜ r ≡ length (fileOf y) ⌝ }
 {
-    field_size(PLATFORM) + y.typecount * field_size(TYPE)
+    let types = y.types;
+    field_size(PLATFORM) + types_size(types, y.typecount)
 }
 
 // All that refuses a system, with 30 for a buffer of `room` bytes that is too short; 0 where it is written.
@@ -134,15 +159,28 @@ fn put_platform(out: &mut [u8], y: System) -> usize
     put_four(out, timed, y.memorycap)
 }
 
-// Puts one type: u, s, n.
+// Puts the d of a type; nothing where it is 0.
+fn put_data(out: &mut [u8], at: usize, d: u32) -> usize
+    requires { ⌜ at + length (dataBytes d) ≤ length (now out) ⌝ }
+    ensures { λ r. ⌜ Puts (dataBytes d) at (now (out .entry)) (now (out .exit)) r ⌝ }
+{
+    if d == 0 {
+        return at;
+    }
+    let headed = put_head(out, at, DATA);
+    put_four(out, headed, d)
+}
+
+// Puts one type: u, s, n, and then its d.
 fn put_type(out: &mut [u8], at: usize, t: TaskType) -> usize
-    requires { ⌜ at + ruledSize typeRule ≤ length (now out) ⌝ }
+    requires { ⌜ at + length (typeBytes t) ≤ length (now out) ⌝ }
     ensures { λ r. ⌜ Puts (typeBytes t) at (now (out .entry)) (now (out .exit)) r ⌝ }
 {
     let headed = put_head(out, at, TYPE);
     let timed = put_four(out, headed, t.time);
     let stored = put_four(out, timed, t.memory);
-    put_two(out, stored, t.ceiling)
+    let limited = put_two(out, stored, t.ceiling);
+    put_data(out, limited, t.data)
 }
 
 // Puts the first `typecount` types.

@@ -15,7 +15,7 @@ abbrev Inv-loop : tie.InvT-loop
 Inv-loop y counts types time₀ memory₀ i₀ time memory i =
     (i ≤ typeLimit)
     × (time ≤ i * 2 ^ 48)
-    × (memory ≤ i * 2 ^ 48)
+    × (memory ≤ i * 2 ^ 49)
     × (time + timeOf (drop i types) (drop i counts) ≡ timeOf types counts)
     × (memory + memoryOf (y .rule) (drop i types) (drop i counts) ≡ memoryOf (y .rule) types counts)
 

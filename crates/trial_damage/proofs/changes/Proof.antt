@@ -1,14 +1,14 @@
--- The loop's invariant: `at` is at most 39.
+-- The loop's invariant: `at` is at most 256.
 use Prim.Native.Nat.{_-_, _≤_}
 use borrow.Author.Needs.{needs}
 use Rattle.trial_damage.proofs.changes.Statement.{statement}
 use Rattle.trial_damage.proofs.changes.Tie as tie
 
 abbrev Inv-loop : tie.InvT-loop
-Inv-loop f t₀ at₀ t at = at ≤ 39
+Inv-loop f t₀ at₀ t at = at ≤ 256
 
 abbrev μ-loop : tie.MeasureT-loop
-μ-loop f t₀ at₀ t at = 39 - at
+μ-loop f t₀ at₀ t at = 256 - at
 
 no-tally-requires : tie.Need-no-tally-requires Inv-loop μ-loop
 no-tally-requires c κs = search needs

@@ -5,10 +5,10 @@ use Rattle.trial_damage.proofs.changes_at.Statement.{statement}
 use Rattle.trial_damage.proofs.changes_at.Tie as tie
 
 abbrev Inv-loop : tie.InvT-loop
-Inv-loop at bytes₀ all₀ v₀ bytes all v = v ≤ 256
+Inv-loop at size bytes₀ all₀ v₀ bytes all v = v ≤ 256
 
 abbrev μ-loop : tie.MeasureT-loop
-μ-loop at bytes₀ all₀ v₀ bytes all v = 256 - v
+μ-loop at size bytes₀ all₀ v₀ bytes all v = 256 - v
 
 loop-holds : tie.Need-loop-holds Inv-loop μ-loop
 loop-holds c = search needs

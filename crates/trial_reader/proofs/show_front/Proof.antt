@@ -13,7 +13,7 @@ array-share-prefix-bytes c = search needs
 slice-aggregate-show-bytes : tie.Need-slice-aggregate-show-bytes
 slice-aggregate-show-bytes c =
     let a = c .before .before .before .args in
-    let whole : length (a .t2) ≡ 128 = search needs in
+    let whole : length (a .t2) ≡ 256 = search needs in
     sym (length-take-le (a .n) (a .t2) (omega arith))
 
 show-bytes-requires : tie.Need-show-bytes-requires

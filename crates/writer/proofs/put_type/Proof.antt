@@ -1,4 +1,4 @@
--- `put_type`: the head, then u, s and n.
+-- `put_type`: the head, then u, s and n, and then d.
 use Prim.Native.Nat.{_≤_}
 use native.Mathlib.Omega.{arith}
 use lib.ListN.{length}
@@ -10,33 +10,40 @@ use Rattle.writer.proofs.put_type.Statement.{statement}
 use Rattle.writer.proofs.put_type.Tie as tie
 
 put-head-requires : tie.Need-put-head-requires
+unfolding fieldBytes ruleOf
 put-head-requires c κs = search needs
 
 put-four-requires : tie.Need-put-four-requires
-unfolding ruleOf
+unfolding fieldBytes ruleOf
 put-four-requires c κs = search needs
 
 put-four-requires-2 : tie.Need-put-four-requires-2
-unfolding ruleOf
+unfolding fieldBytes ruleOf
 put-four-requires-2 c κs = search needs
 
 put-two-requires : tie.Need-put-two-requires
-unfolding ruleOf
+unfolding fieldBytes ruleOf
 put-two-requires c κs = search needs
+
+put-data-requires : tie.Need-put-data-requires
+unfolding fieldBytes ruleOf
+put-data-requires c κs = search needs
 
 same-length : tie.Need-same-length
 same-length c = search needs
 
 returns : tie.Need-returns
-unfolding ruleOf fieldBytes
+unfolding fieldBytes ruleOf
 returns c =
-    let limit = c .before .before in
+    let given = c .before .before in
+    let limit = given .before .before .before .before in
     let stored = limit .before .before .before .before in
     let timed = stored .before .before .before .before in
     let headed = timed .before .before .before .before in
     let start = headed .before .before .before in
     let room : start .args .at ≤ length (start .args .out .now) = omega (arith, start .pre) in
-    puts-then room (puts-then room (puts-then room (headed .put-head .ensures) (timed .put-four .ensures)) (stored .put-four2 .ensures)) (limit .put-two .ensures)
+    let costs = puts-then room (puts-then room (headed .put-head .ensures) (timed .put-four .ensures)) (stored .put-four2 .ensures) in
+    puts-then room (puts-then room costs (limit .put-two .ensures)) (given .put-data .ensures)
 
 pub put-type-spec : {M : Type 1} → statement M
 put-type-spec =
@@ -46,5 +53,6 @@ put-type-spec =
     put-four-requires
     put-four-requires-2
     put-two-requires
+    put-data-requires
     same-length
     returns)

@@ -9,7 +9,7 @@ use Rattle.system.specs.Limits.{typeLimit}
 use Rattle.buffer.specs.Written.{Puts}
 use Rattle.buffer.proofs.Laws.{puts-then, puts-none}
 use Rattle.writer.specs.File.{typesBytes}
-use Rattle.writer.proofs.Steps.{types-taken, types-suc}
+use Rattle.writer.proofs.Steps.{types-suc, types-within}
 use Rattle.writer.proofs.put_types.Statement.{statement}
 use Rattle.writer.proofs.put_types.Tie as tie
 
@@ -36,7 +36,7 @@ put-type-requires c κs =
     let start = turn .before .before in
     let l : length (start .args .t3) ≡ typeLimit = search needs in
     let few = start .pre .0 in
-    omega (arith, turn .loop .inv .2 .next, types-taken (start .args .t3) (start .args .typecount) (omega arith), types-taken (start .args .t3) (turn .loop .i) (omega arith), start .pre .1)
+    omega (arith, turn .loop .inv .2 .next, types-within (start .args .t3) (turn .loop .i) (start .args .typecount) noTask (omega arith) (omega arith), start .pre .1)
 
 add-i : tie.Need-add-i Inv-loop μ-loop
 add-i c = search needs

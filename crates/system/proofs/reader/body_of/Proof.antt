@@ -1,6 +1,6 @@
 -- `reader::body_of` meets its contract: one law for each answer.
 use native.Mathlib.Omega.{arith}
-use Rattle.system.proofs.Goes.{body-many, body-platform, body-type, types-seen}
+use Rattle.system.proofs.Goes.{body-many, body-type, body-data, body-platform, types-seen}
 use borrow.Author.Needs.{needs}
 use Rattle.system.proofs.reader.body_of.Statement.{statement}
 use Rattle.system.proofs.reader.body_of.Tie as tie
@@ -21,7 +21,7 @@ type-of-requires : tie.Need-type-of-requires
 type-of-requires c κs =
     let a = c .before .before .before .before .before .args in
     let n = c .before .before .before .seen-of .ensures in
-    omega (arith, types-seen (a .rule .tag) (a .y) (c .if2 .taken))
+    omega (arith, types-seen (a .rule .tag) (a .y) (c .if2 .taken), c .before .before .before .before .before .pre .allowed)
 
 returns-2 : tie.Need-returns-2
 returns-2 c =
@@ -29,14 +29,26 @@ returns-2 c =
     let n = c .before .before .before .before .seen-of in
     body-type (a .rule) (a .b .now) (a .y) (c .type-of .result) (n .result) (n .ensures) (c .before .before .if1 .left) (c .before .if2 .taken) (c .type-of .ensures)
 
-platform-of-requires : tie.Need-platform-of-requires
-platform-of-requires c κs = search needs
+data-of-requires : tie.Need-data-of-requires
+data-of-requires c κs = c .before .before .before .before .before .before .pre .typed (c .if3 .taken)
 
 returns-3 : tie.Need-returns-3
 returns-3 c =
-    let a = c .before .before .before .before .before .before .args in
-    let n = c .before .before .before .before .seen-of in
-    body-platform (a .rule) (a .b .now) (a .y) (c .platform-of .result) (n .result) (n .ensures) (c .before .before .if1 .left) (c .before .if2 .left)
+    let p = c .before in
+    let a = p .before .before .before .before .before .before .args in
+    let n = p .before .before .before .before .seen-of in
+    body-data (a .rule) (a .b .now) (a .y) (c .data-of .result) (n .result) (n .ensures) (p .before .before .if1 .left) (p .before .if2 .left) (p .if3 .taken)
+    (c .data-of .ensures)
+
+platform-of-requires : tie.Need-platform-of-requires
+platform-of-requires c κs = search needs
+
+returns-4 : tie.Need-returns-4
+returns-4 c =
+    let p = c .before in
+    let a = p .before .before .before .before .before .before .args in
+    let n = p .before .before .before .before .seen-of in
+    body-platform (a .rule) (a .b .now) (a .y) (c .platform-of .result) (n .result) (n .ensures) (p .before .before .if1 .left) (p .before .if2 .left) (p .if3 .left)
     (c .platform-of .ensures)
 
 pub body-of-spec : {M : Type 1} → statement M
@@ -48,5 +60,7 @@ body-of-spec =
     returns
     type-of-requires
     returns-2
+    data-of-requires
+    returns-3
     platform-of-requires
-    returns-3)
+    returns-4)

@@ -7,7 +7,7 @@ use mathlib.Core.Logic.{⊎-elim}
 use lib.ListN.{length}
 use denote.Enum.Declared.{tagOf}
 use Rattle.system.proofs.Answer.{the-type}
-use Rattle.system.proofs.Goes.{reads-as, Reached, reached-start, reached-end, reached-refused, next-is, next-inside, reached-next}
+use Rattle.system.proofs.Goes.{reads-as, Reached, reached-start, reached-typed, reached-end, reached-refused, next-is, next-inside, reached-next}
 use Rattle.system.proofs.reader.read_system.Statement.{statement}
 use Rattle.system.proofs.reader.read_system.Tie as tie
 
@@ -30,7 +30,7 @@ body-part-requires : tie.Need-body-part-requires Inv-loop μ-loop
 body-part-requires c κs = search needs
 
 field-of-requires : tie.Need-field-of-requires Inv-loop μ-loop
-field-of-requires c κs = search needs
+field-of-requires c κs = reached-typed (c .before .before .before .before .loop .inv)
 
 enum-told : tie.Need-enum-told Inv-loop μ-loop
 enum-told c = search needs

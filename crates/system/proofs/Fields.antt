@@ -1,0 +1,119 @@
+-- What a field that is read does to the system so far: a type is one more, with d 0, and a tag 3 sets d of the last type and nothing else (request 2026-03).
+use Prim.Native.Nat.{ℕ, suc, _-_, _≤_, _<_}
+use native.Mathlib.Omega.{arith}
+use mathlib.Core.List.{List}
+use mathlib.Core.Bool.{true}
+use mathlib.Core.Path.{_≡_, refl, ap, _∙_, subst}
+use borrow.Author.Tests.{le-leb, lt-leb, leb-false}
+use lib.ListN.{length, getD}
+use lib.Seq.{getD-set-same, getD-set-other}
+use lib.Dec.{leb}
+use Rattle.system.specs.declared.TaskType.{TaskType}
+use Rattle.system.specs.declared.System.{System}
+use Rattle.system.specs.declared.rules.FieldRule.{FieldRule}
+use Rattle.system.specs.Values.{taskOf, withData, noTask, withType, lastType, withLast}
+use Rattle.system.specs.Limits.{typeLimit, sizeLimit, typeFault}
+use Rattle.system.specs.Layout.{typeRule, dataRule, follows, mayFollow, opened, unread, byteAt, word2, word4, bodyPart, typeFrom, typeOf, dataFrom, bodyOf, fieldOf}
+use Rattle.system.proofs.Laws.{passes, no-fault, Sound, OneOf, a-platform, a-type, a-data, data-after-type, fieldOf-opened}
+
+-- type t, counted from 0
+abbrev typeAt : System → ℕ → TaskType
+typeAt y t = getD (y .types) t noTask
+
+-- the platform's numbers
+pub record SamePlatform (y z : System) : Type 0 where
+  pub engines : z .engines ≡ y .engines
+  pub rule : z .rule ≡ y .rule
+  pub timecap : z .timecap ≡ y .timecap
+  pub memorycap : z .memorycap ≡ y .memorycap
+
+-- one type more, with these u, s and n and with d 0
+pub record AddsType (u s n : ℕ) (y z : System) : Type 0 where
+  pub platform : SamePlatform y z
+  pub typecount : z .typecount ≡ suc (y .typecount)
+  pub time : typeAt z (y .typecount) .time ≡ u
+  pub memory : typeAt z (y .typecount) .memory ≡ s
+  pub ceiling : typeAt z (y .typecount) .ceiling ≡ n
+  pub no-data : typeAt z (y .typecount) .data ≡ 0
+  pub others : (i : ℕ) → (i ≡ y .typecount → ⊥) → typeAt z i ≡ typeAt y i
+
+-- d of the last type
+pub record SetsData (d : ℕ) (y z : System) : Type 0 where
+  pub platform : SamePlatform y z
+  pub some-type : 0 < y .typecount
+  pub typecount : z .typecount ≡ y .typecount
+  pub time : typeAt z (y .typecount - 1) .time ≡ typeAt y (y .typecount - 1) .time
+  pub memory : typeAt z (y .typecount - 1) .memory ≡ typeAt y (y .typecount - 1) .memory
+  pub ceiling : typeAt z (y .typecount - 1) .ceiling ≡ typeAt y (y .typecount - 1) .ceiling
+  pub data-set : typeAt z (y .typecount - 1) .data ≡ d
+  pub others : (i : ℕ) → (i ≡ y .typecount - 1 → ⊥) → typeAt z i ≡ typeAt y i
+
+adds-type : (t : TaskType) (y : System) → y .typecount < length (y .types) → t .data ≡ 0 → AddsType (t .time) (t .memory) (t .ceiling) y (withType t y)
+adds-type t y h none =
+    let new = getD-set-same (y .types) (y .typecount) t noTask h in
+    record {
+      platform = record { engines = refl; rule = refl; timecap = refl; memorycap = refl };
+      typecount = refl;
+      time = ap (λ (x : TaskType). x .time) new;
+      memory = ap (λ (x : TaskType). x .memory) new;
+      ceiling = ap (λ (x : TaskType). x .ceiling) new;
+      no-data = ap (λ (x : TaskType). x .data) new ∙ none;
+      others = λ i n. getD-set-other (y .types) (y .typecount) i t noTask n;
+    }
+
+sets-data : (d : ℕ) (y : System) → 0 < y .typecount → y .typecount ≤ length (y .types) → SetsData d y (withLast (withData d (lastType y)) y)
+sets-data d y some h =
+    let t = withData d (lastType y) in
+    let new = getD-set-same (y .types) (y .typecount - 1) t noTask (omega arith) in
+    record {
+      platform = record { engines = refl; rule = refl; timecap = refl; memorycap = refl };
+      some-type = some;
+      typecount = refl;
+      time = ap (λ (x : TaskType). x .time) new;
+      memory = ap (λ (x : TaskType). x .memory) new;
+      ceiling = ap (λ (x : TaskType). x .ceiling) new;
+      data-set = ap (λ (x : TaskType). x .data) new;
+      others = λ i n. getD-set-other (y .types) (y .typecount - 1) i t noTask n;
+    }
+
+-- of a whole field: its body is that of its tag
+module _ (s : List ℕ) (last : ℕ) (y z : System) (sound : Sound last y) (read : fieldOf s last y ≡ opened z) where
+  pub type-adds : byteAt s 0 ≡ typeRule .tag → AddsType (word4 (bodyPart s) 0) (word4 (bodyPart s) 4) (word2 (bodyPart s) 8) y z
+  unfolding bodyOf typeFrom
+  type-adds is = let a = fieldOf-opened s last y z read in at (a .rule) (a .passed .rule .same-tag ∙ is) (a .body) (a .passed .rule .which)
+    where
+      at : (r : FieldRule) → r .tag ≡ typeRule .tag → bodyOf r (bodyPart s) y ≡ opened z → OneOf r → AddsType (word4 (bodyPart s) 0) (word4 (bodyPart s) 4) (word2 (bodyPart s) 8) y z
+      at r tag e (a-platform w) = absurd (omega (arith, ap (λ (x : FieldRule). x .tag) w))
+      at r tag e (a-data w) = absurd (omega (arith, ap (λ (x : FieldRule). x .tag) w))
+      at r tag e (a-type w) =
+          let t = taskOf (word4 (bodyPart s) 0) (word4 (bodyPart s) 4) (word2 (bodyPart s) 8) in
+          let q = passes (leb typeLimit (y .typecount)) 7 (typeOf (bodyPart s) y) z (rw w at e) in
+          subst (AddsType (t .time) (t .memory) (t .ceiling) y) (no-fault (typeFault t) (withType t y) z (q .1) .1)
+          (adds-type t y (omega (arith, sound .six, leb-false typeLimit (y .typecount) (q .0))) refl)
+
+  pub data-sets : byteAt s 0 ≡ dataRule .tag → SetsData (word4 (bodyPart s) 0) y z
+  unfolding bodyOf dataFrom
+  data-sets is = let a = fieldOf-opened s last y z read in at (a .rule) (a .passed .rule .same-tag ∙ is) (a .passed .place) (a .body) (a .passed .rule .which)
+    where
+      at : (r : FieldRule) → r .tag ≡ dataRule .tag → mayFollow follows last (r .tag) ≡ true → bodyOf r (bodyPart s) y ≡ opened z → OneOf r → SetsData (word4 (bodyPart s) 0) y z
+      at r tag p e (a-platform w) = absurd (omega (arith, ap (λ (x : FieldRule). x .tag) w))
+      at r tag p e (a-type w) = absurd (omega (arith, ap (λ (x : FieldRule). x .tag) w))
+      at r tag p e (a-data w) =
+          let t = withData (word4 (bodyPart s) 0) (lastType y) in
+          let after = data-after-type last .0 (rw w at p) in
+          subst (SetsData (word4 (bodyPart s) 0) y) (no-fault (typeFault t) (withLast t y) z (rw w at e) .1)
+          (sets-data (word4 (bodyPart s) 0) y (sound .some-type (omega arith)) (omega (arith, sound .six, sound .typecount)))
+
+-- d is judged alone: over 1,000,000 it is refused 8, and any other is read
+module _ (d last : ℕ) (y : System) (sound : Sound last y) where
+  pub data-over : sizeLimit < d → dataFrom d y ≡ unread 8
+  unfolding dataFrom
+  data-over h =
+      let t = sound .sized (y .typecount - 1) in
+      rw (le-leb (lastType y .time) sizeLimit (t .time), le-leb (lastType y .memory) sizeLimit (t .memory), lt-leb d sizeLimit h)
+
+  pub data-within : d ≤ sizeLimit → dataFrom d y ≡ opened (withLast (withData d (lastType y)) y)
+  unfolding dataFrom
+  data-within h =
+      let t = sound .sized (y .typecount - 1) in
+      rw (le-leb (lastType y .time) sizeLimit (t .time), le-leb (lastType y .memory) sizeLimit (t .memory), le-leb d sizeLimit h)
