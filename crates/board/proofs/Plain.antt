@@ -1,6 +1,6 @@
 -- The plain words of a board mean what the code's words say: the sums over six types, fit, counts and totals, the engines that are used, and a row of the recovery on its engine.
 use Prim.Native.Nat.{ℕ, zero, suc, _+_, _-_, _*_, _≤_, _<_}
-use mathlib.Core.Path.{_≡_, refl, sym, ap, ap₂, _∙_}
+use mathlib.Core.Path.{_≡_, refl, sym, ap, ap₂, subst, _∙_}
 use mathlib.Core.List.{List, [], _∷_, map}
 use mathlib.Core.Bool.{Bool, true, false, cond, _&&_}
 use mathlib.Core.Logic.{⊎-elim}
@@ -9,13 +9,14 @@ use native.Mathlib.Omega.{arith}
 use borrow.Author.Tests.{eqb-true, eqb-false, eq-eqb, ne-eqb}
 use lib.ListN.{length, getD}
 use lib.Dec.{eqb, eqb·suc-zero}
+use Rattle.system.specs.declared.Most.the-variants.{AtMost}
 use Rattle.system.specs.declared.TaskType.{TaskType}
 use Rattle.system.specs.declared.System.{System}
 use Rattle.system.specs.Values.{noTask}
 use Rattle.system.specs.Limits.{typeLimit}
 use Rattle.loads.specs.declared.EngineLoad.{EngineLoad}
-use Rattle.loads.specs.Load.{sumOver, timeAt, timeOf, memoryAt, memoryOf, fitsEngine, holdsNone, engineWith, idleEngine, oneMore, oneLess}
-use Rattle.loads.proofs.Laws.{own-all, fits-of, fits-time, fits-memory}
+use Rattle.loads.specs.Load.{sumOver, timeAt, timeOf, memoryAt, memoryOf, apart, fitsEngine, holdsNone, engineWith, idleEngine, oneMore, oneLess}
+use Rattle.loads.proofs.Laws.{own-all, apart-entries, fits-of, fits-time, fits-memory, fits-apart}
 use Rattle.loads.proofs.Change.{getD-plus, getD-oneMore, getD-oneLess}
 use Rattle.partition.specs.Assignment.{every, numbersFrom, enginesTo}
 use Rattle.partition.specs.Shares.{sumOf, usedLoads, rowOn}
@@ -69,7 +70,12 @@ module _ (y : System) (f g : ℕ → ℕ) (h : (t : ℕ) → 1 ≤ t → f t ≡
       (λ t k. rw (h t k))
 
   pub fits-same : FitsOut y f → FitsOut y g
-  fits-same p = record { time = rw (← time-same) (p .time); ownCopies = λ r. rw (← own-same) (p .ownCopies r); sharedCode = λ r. rw (← shared-same) (p .sharedCode r) }
+  fits-same p = record {
+    time = rw (← time-same) (p .time);
+    ownCopies = λ r. rw (← own-same) (p .ownCopies r);
+    sharedCode = λ r. rw (← shared-same) (p .sharedCode r);
+    separate = λ t q low given. rw (← (h t low)) (p .separate t q low given);
+  }
 
 module _ (y : System) (ls : length (y .types) ≡ 6) (x : List ℕ) (lx : length x ≡ 6) where
   abbrev counts : ℕ → ℕ
@@ -91,11 +97,17 @@ module _ (y : System) (ls : length (y .types) ≡ 6) (x : List ℕ) (lx : length
     time = rw (← time-out) (fits-time y x h);
     ownCopies = λ r. rw (← (own-out r)) (fits-memory y x h);
     sharedCode = λ r. rw (← (shared-out r)) (fits-memory y x h);
+    separate = λ t q low given. apart-entries (y .types) x .0 (fits-apart y x h) (t - 1) q given;
   }
 
   pub out-fits : y .rule ≤ 1 → FitsOut y counts → fitsEngine y x ≡ true
-  out-fits rule p = fits-of y x (rw time-out (p .time)) (memory (eqb (y .rule) 0) refl)
+  out-fits rule p = fits-of y x (rw time-out (p .time)) (memory (eqb (y .rule) 0) refl) (apart-entries (y .types) x .1 kept)
     where
+      kept : (i q : ℕ) → getD (y .types) i noTask .most ≡ AtMost q → getD x i 0 ≤ q
+      kept i =
+          let same : suc i - 1 ≡ i = omega arith in
+          subst (λ (j : ℕ). (q : ℕ) → getD (y .types) j noTask .most ≡ AtMost q → getD x j 0 ≤ q) same (λ q. p .separate (suc i) q (omega arith))
+
       memory : (q : Bool) → eqb (y .rule) 0 ≡ q → memoryOf (y .rule) (y .types) x ≤ y .memorycap
       memory true e = let r = eqb-true (y .rule) 0 e in rw (own-out r) (p .ownCopies r)
       memory false e = let n = eqb-false (y .rule) 0 e in let r : y .rule ≡ 1 = omega arith in rw (shared-out r) (p .sharedCode r)

@@ -6,6 +6,7 @@ use mathlib.Core.Bool.{cond, _&&_}
 use mathlib.Core.Path.{_≡_}
 use lib.ListN.{length, getD}
 use lib.Dec.{eqb}
+use Rattle.system.specs.declared.Most.the-variants.{AtMost}
 use Rattle.system.specs.declared.System.{System}
 use Rattle.loads.specs.declared.EngineLoad.{EngineLoad}
 use Rattle.partition.specs.Assignment.{Assignment, enginesTo}
@@ -53,11 +54,12 @@ ownOut y count = sumSix (λ (t : ℕ). count t * (typeNo y t .memory + typeNo y 
 abbrev pub sharedOut : System → (ℕ → ℕ) → ℕ
 sharedOut y count = sumSix (λ (t : ℕ). cond (eqb (count t) 0) 0 (typeNo y t .memory + count t * typeNo y t .data))
 
--- "A load fits an engine if its time is at most U and its memory at most S"
+-- "A load fits an engine if its time is at most U and its memory at most S"; "A load fits only if it keeps q too" (request 2026-04)
 pub record FitsOut (y : System) (count : ℕ → ℕ) : Type 0 where
   pub time : timeOut y count ≤ y .timecap
   pub ownCopies : y .rule ≡ 0 → ownOut y count ≤ y .memorycap
   pub sharedCode : y .rule ≡ 1 → sharedOut y count ≤ y .memorycap
+  pub separate : (t q : ℕ) → 1 ≤ t → typeNo y t .most ≡ AtMost q → count t ≤ q
 
 -- the stored time and memory of a record are the sums of its own counts
 pub record SumsOut (y : System) (l : EngineLoad) : Type 0 where
@@ -135,7 +137,7 @@ pub record Frees (b : Board) (t e : ℕ) (after : Board) : Type 0 where
 pub record IsTrue (b : Board) : Type 0 where
   pub sixteen : length (b .loads) ≡ 16
   pub six : (e : ℕ) → 1 ≤ e → e ≤ 16 → length (recordNo (b .loads) e .counts) ≡ 6
-  -- "its system breaks a limit", "the system's own u, s and n too", and d
+  -- "its system breaks a limit", "the system's own u, s and n too", d and q
   pub limits : LimitsOut (b .system)
   -- "an entry for an engine past m or a type past k is not 0"
   pub pastEngines : (e : ℕ) → b .system .engines < e → HoldsNothing (recordNo (b .loads) e)

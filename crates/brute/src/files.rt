@@ -6,6 +6,7 @@ use buffer::put_byte;
 use buffer::put_four;
 use buffer::put_two;
 use std::num::wrapping_add_usize;
+use system::Most;
 use system::System;
 use system::TYPE_LIMIT;
 use system::TaskType;
@@ -29,10 +30,23 @@ fn put_data(bytes: &mut [u8; 256], at: usize, data: u32) -> usize
     put_four(bytes, sized, data)
 }
 
+// The field of a type's q, where it is given. Answers the place after it.
+fn put_most(bytes: &mut [u8; 256], at: usize, most: Most) -> usize
+    requires { ⌜ at ≤ 240 ⌝ }
+    ensures { λ r. ⌜ r ≤ at + 5 ⌝ }
+{
+    let Most::AtMost(q) = most else {
+        return at;
+    };
+    let tagged = put_byte(bytes, at, 4);
+    let sized = put_two(bytes, tagged, 2);
+    put_two(bytes, sized, q)
+}
+
 // The fields of the type at index t, where the system has it. Answers the place after them.
 fn put_type(bytes: &mut [u8; 256], at: usize, y: System, t: usize) -> usize
     requires { ⌜ at ≤ 220 ⌝ }
-    ensures { λ r. ⌜ r ≤ at + 20 ⌝ }
+    ensures { λ r. ⌜ r ≤ at + 25 ⌝ }
 {
     if 6 <= t {
         return at;
@@ -46,7 +60,9 @@ fn put_type(bytes: &mut [u8; 256], at: usize, y: System, t: usize) -> usize
     let timed = put_four(bytes, sized, task.time);
     let stored = put_four(bytes, timed, task.memory);
     let counted = put_two(bytes, stored, task.ceiling);
-    put_data(bytes, counted, task.data)
+    let stacked = put_data(bytes, counted, task.data);
+    let most = task.most;
+    put_most(bytes, stacked, most)
 }
 
 fn put_platform(bytes: &mut [u8; 256], y: System) {
@@ -116,20 +132,24 @@ pub struct Reading {
     pub refusal: usize,
 }
 
-// A field of this tag may follow one of tag `last`: the platform is first and nothing else is, and a d follows its type directly.
+// A field of this tag may follow one of tag `last`: the platform is first and nothing else is, a d follows its type directly, and a q its
+// type or the d of it.
 fn may_stand(tag: usize, last: usize) -> bool {
-    if tag == 1 {
-        return last == 0;
+    match tag {
+        1 => last == 0,
+        2 => last != 0,
+        3 => last == 2,
+        _ => (last == 2) | (last == 3),
     }
-    if tag == 2 {
-        return last != 0;
-    }
-    last == 2
 }
 
 // The bytes of a field with its head.
 fn span_of(tag: usize) -> usize {
-    if tag == 3 { 7 } else { 13 }
+    match tag {
+        3 => 7,
+        4 => 5,
+        _ => 13,
+    }
 }
 
 // What the head of the field at a place is refused with, 0 for nothing: start cut 1, 2, 3, 4, body cut 1.
@@ -138,7 +158,7 @@ fn head_refusal(file: &[u8], at: usize, last: usize) -> usize {
         return 1;
     }
     let tag = byte_of(file, at, 0);
-    if (tag < 1) | (3 < tag) {
+    if (tag < 1) | (4 < tag) {
         return 2;
     }
     if !may_stand(tag, last) {
@@ -217,6 +237,19 @@ fn data_read(file: &[u8], r: Reading) -> Reading {
     }
 }
 
+// A q: 31.
+fn most_read(file: &[u8], r: Reading) -> Reading {
+    let y = r.system;
+    let q = two_of(file, r.at, 3);
+    Reading {
+        at: wrapping_add_usize(r.at, 5),
+        last: 4,
+        system: systems::with_most(y, q as u16),
+        zero: r.zero,
+        refusal: if q == 0 { 31 } else { 0 },
+    }
+}
+
 fn refused(r: Reading, refusal: usize) -> Reading {
     let mut next = r;
     next.refusal = refusal;
@@ -236,7 +269,10 @@ fn field_read(file: &[u8], r: Reading) -> Reading {
     if tag == 2 {
         return type_read(file, r);
     }
-    data_read(file, r)
+    if tag == 3 {
+        return data_read(file, r);
+    }
+    most_read(file, r)
 }
 
 // The columns of the six ceilings are at most 1,024: dividing by each n + 1 in turn leaves something.
@@ -262,7 +298,7 @@ fn ended(r: Reading) -> Reading {
     r
 }
 
-// What a file reads as. No file has a fourteenth field that is read: the platform, and six types with a d each, come before it.
+// What a file reads as. No file has a twentieth field that is read: the platform, and six types with a d and a q each, come before it.
 pub fn reading_of(file: &[u8]) -> Reading {
     let mut r = Reading {
         at: 0,
@@ -271,7 +307,7 @@ pub fn reading_of(file: &[u8]) -> Reading {
         zero: false,
         refusal: 0,
     };
-    for field in 0..14usize {
+    for field in 0..20usize {
         if (r.refusal == 0) & (r.at < file.len()) {
             let next = field_read(file, r);
             r = next;

@@ -3,6 +3,7 @@ use crate::search;
 use loads::EngineLoad;
 use std::num::wrapping_add_usize;
 use system::Answer;
+use system::Most;
 use system::Refusal;
 use system::System;
 use system::TYPE_LIMIT;
@@ -94,13 +95,23 @@ pub fn say_load(l: EngineLoad, typecount: usize) {
     }
 }
 
-// A type's u, s, n and d.
+// A type's q, where it is given.
+fn say_most(most: Most) {
+    if let Most::AtMost(q) = most {
+        say(b" q");
+        say_also(search::wide(q));
+    }
+}
+
+// A type's u, s, n and d, and its q.
 fn say_task(t: TaskType) {
     say(b" |");
     say_also(t.time as usize);
     say_also(t.memory as usize);
     say_also(t.ceiling as usize);
     say_also(t.data as usize);
+    let most = t.most;
+    say_most(most);
 }
 
 // A line for a system: m, rule, U, S, then each type.

@@ -1,7 +1,9 @@
 // Every assignment of a few single instances to a few engines, tried one after the other, with sums over single instances.
 ghost use Prim.Native.Nat.{_≤_, _<_};
+use std::num::wrapping_add_u16;
 use std::num::wrapping_add_u64;
 use std::num::wrapping_add_usize;
+use system::Most;
 use system::System;
 use system::TYPE_LIMIT;
 use system::TaskType;
@@ -12,12 +14,14 @@ pub const NONE: usize = 255;
 // More instances or engines than the search tries: eight and four.
 pub const UNTRIED: usize = 254;
 
-// What the engines hold while instances are placed one by one; type t on engine e is at e * 6 + t, both counted from 0.
+// What the engines hold while instances are placed one by one; the count of type t on engine e is at e * 6 + t, both counted from 0.
+// `apart` says that no engine has held more of a type than its q.
 struct Held {
     time: [u64; 4],
     memory: [u64; 4],
     used: [bool; 4],
-    types: [bool; 24],
+    counts: [u16; 24],
+    apart: bool,
 }
 
 // A number of eight digits, and whether the last step took it from its largest value back to 0.
@@ -92,6 +96,14 @@ fn kinds_of(load: [usize; 8]) -> [usize; 8] {
     ]
 }
 
+// So many of a type may be on one engine.
+fn keeps(most: Most, count: u16) -> bool {
+    match most {
+        Most::NotGiven => true,
+        Most::AtMost(q) => count <= q,
+    }
+}
+
 // One instance more on engine e, counted from 0. It brings its data memory; under rule 0 its own code too, under rule 1 only the first
 // of its type does.
 fn placed(y: System, h: Held, kind: usize, e: usize) -> Held {
@@ -106,12 +118,15 @@ fn placed(y: System, h: Held, kind: usize, e: usize) -> Held {
     let mut next = h;
     next.time[e] = wrapping_add_u64(h.time[e], task.time as u64);
     let mut brought = task.data as u64;
-    if (y.rule == 0) | !h.types[at] {
+    if (y.rule == 0) | (h.counts[at] == 0) {
         brought = wrapping_add_u64(brought, task.memory as u64);
     }
     next.memory[e] = wrapping_add_u64(h.memory[e], brought);
     next.used[e] = true;
-    next.types[at] = true;
+    let count = wrapping_add_u16(h.counts[at], 1);
+    let most = task.most;
+    next.counts[at] = count;
+    next.apart = h.apart & keeps(most, count);
     next
 }
 
@@ -121,7 +136,8 @@ fn holding(y: System, kinds: [usize; 8], engines: [usize; 8]) -> Held {
         time: [0; 4],
         memory: [0; 4],
         used: [false; 4],
-        types: [false; 24],
+        counts: [0; 24],
+        apart: true,
     };
     for j in 0..8 {
         let next = placed(y, h, kinds[j], engines[j]);
@@ -135,7 +151,8 @@ fn engine_fits(y: System, time: u64, memory: u64) -> bool {
 }
 
 fn good(y: System, h: Held) -> bool {
-    engine_fits(y, h.time[0], h.memory[0])
+    h.apart
+        & engine_fits(y, h.time[0], h.memory[0])
         & engine_fits(y, h.time[1], h.memory[1])
         & engine_fits(y, h.time[2], h.memory[2])
         & engine_fits(y, h.time[3], h.memory[3])
@@ -228,6 +245,7 @@ pub fn sums_of(y: System, load: [usize; 8]) -> Sums {
 
 // The load fits one engine.
 pub fn fits_one(y: System, load: [usize; 8]) -> bool {
-    let s = sums_of(y, load);
-    engine_fits(y, s.time, s.memory)
+    let kinds = kinds_of(load);
+    let h = holding(y, kinds, [0; 8]);
+    good(y, h)
 }

@@ -1,6 +1,8 @@
 // A small generator of numbers, the same at every run, and systems drawn with it: a linear congruential step on 31 bits.
 use crate::systems;
 use std::num::wrapping_add_usize;
+use std::num::wrapping_sub_usize;
+use system::Most;
 use system::System;
 use system::TYPE_LIMIT;
 
@@ -37,6 +39,17 @@ fn data_steps(value: usize) -> usize {
     if 4 <= value { value - 3 } else { 0 }
 }
 
+// The q of a type of ceiling n, drawn below 8: none in three of the draws, 1 in two, 2, one more than n, or the largest there is.
+fn drawn_limit(value: usize, ceiling: u16) -> Most {
+    match value {
+        0..=2 => Most::NotGiven,
+        3 | 4 => Most::AtMost(1),
+        5 => Most::AtMost(2),
+        6 => Most::AtMost(ceiling % 65535 + 1),
+        _ => Most::AtMost(65535),
+    }
+}
+
 // A system drawn, and the seed after it.
 pub struct DrawnSystem {
     pub seed: u64,
@@ -70,7 +83,27 @@ pub fn with_drawn_data(d: DrawnSystem, large: bool) -> DrawnSystem {
     }
 }
 
-// The system with one type more, of at most `most` instances that cost up to eight steps, and up to four of data memory.
+// The system with a q drawn for its last type, where it has one to six.
+pub fn with_drawn_most(d: DrawnSystem) -> DrawnSystem {
+    let drawn = draw(d.seed, 8);
+    let y = d.system;
+    let last = wrapping_sub_usize(y.typecount, 1);
+    DrawnSystem {
+        seed: drawn.seed,
+        system: systems::with_most_at(y, last, drawn_limit(drawn.value, ceiling_at(y, last))),
+    }
+}
+
+// The n of the type at index t, 0 where there is none.
+fn ceiling_at(y: System, t: usize) -> u16 {
+    if 6 <= t {
+        return 0;
+    }
+    let task = y.types[t];
+    task.ceiling
+}
+
+// The system with one type more, of at most `most` instances that cost up to eight steps, and up to four of data memory; with a q or without.
 fn with_drawn_type(d: DrawnSystem, most: usize, large: bool) -> DrawnSystem {
     let time = draw(d.seed, 9);
     let memory = draw(time.seed, 9);
@@ -85,7 +118,7 @@ fn with_drawn_type(d: DrawnSystem, most: usize, large: bool) -> DrawnSystem {
             (ceiling.value % 65536) as u16,
         ),
     };
-    with_drawn_data(with, large)
+    with_drawn_most(with_drawn_data(with, large))
 }
 
 // A system of up to `engines` engines and this many types of at most `most` instances each.

@@ -1,4 +1,6 @@
 // Systems made part by part, document 01's systems A and B, systems at the limits, and whether two systems are the same.
+use std::num::wrapping_sub_usize;
+use system::Most;
 use system::System;
 use system::TYPE_LIMIT;
 use system::TaskType;
@@ -13,7 +15,7 @@ pub fn platform_of(engines: usize, rule: u8, time: u32, memory: u32) -> System {
     y
 }
 
-// The system with one type more: u, s and n, and d 0. As it is, where it has six.
+// The system with one type more: u, s and n, d 0 and no q. As it is, where it has six.
 pub fn with_type(y: System, time: u32, memory: u32, ceiling: u16) -> System {
     let mut z = y;
     let k = y.typecount;
@@ -23,6 +25,7 @@ pub fn with_type(y: System, time: u32, memory: u32, ceiling: u16) -> System {
             memory,
             ceiling,
             data: 0,
+            most: Most::NotGiven,
         };
         z.typecount = k + 1;
     }
@@ -40,13 +43,37 @@ pub fn with_data(y: System, data: u32) -> System {
         return z;
     }
     let last = y.types[k - 1];
+    let most = last.most;
     z.types[k - 1] = TaskType {
         time: last.time,
         memory: last.memory,
         ceiling: last.ceiling,
         data,
+        most,
     };
     z
+}
+
+// The system with another q, or none, of the type at index t; that may be past the last one. As it is, where it has no such entry.
+pub fn with_most_at(y: System, t: usize, most: Most) -> System {
+    if 6 <= t {
+        return y;
+    }
+    let mut z = y;
+    let old = y.types[t];
+    z.types[t] = TaskType {
+        time: old.time,
+        memory: old.memory,
+        ceiling: old.ceiling,
+        data: old.data,
+        most,
+    };
+    z
+}
+
+// The system with this q of its last type, where it has one to six.
+pub fn with_most(y: System, q: u16) -> System {
+    with_most_at(y, wrapping_sub_usize(y.typecount, 1), Most::AtMost(q))
 }
 
 // Document 01's system A, with this many engines.
@@ -89,8 +116,8 @@ pub fn system_full(rule: u8) -> System {
     with_type(five, 65432, 210987, 1)
 }
 
-// The same with a d for each type, by which types 5 and 6 no longer share an engine: no file that opens is longer.
-pub fn system_longest(rule: u8) -> System {
+// The same with a d for each type, by which types 5 and 6 no longer share an engine.
+pub fn system_stacked(rule: u8) -> System {
     let one = with_type(platform_of(16, rule, 987654, 765432), 411111, 98765, 31);
     let two = with_type(with_data(one, 12345), 432109, 87654, 1);
     let three = with_type(with_data(two, 23456), 150001, 345678, 1);
@@ -99,9 +126,30 @@ pub fn system_longest(rule: u8) -> System {
     with_data(with_type(with_data(five, 56789), 65432, 210987, 1), 67890)
 }
 
+// The same with a q for each type too, that of type 1 just met: no file that opens is longer.
+pub fn system_longest(rule: u8) -> System {
+    let one = with_most_at(system_stacked(rule), 0, Most::AtMost(2));
+    let two = with_most_at(one, 1, Most::AtMost(1));
+    let three = with_most_at(two, 2, Most::AtMost(65535));
+    let four = with_most_at(three, 3, Most::AtMost(256));
+    let five = with_most_at(four, 4, Most::AtMost(1));
+    with_most_at(five, 5, Most::AtMost(513))
+}
+
+// A q as a number, 65,536 where it is not given.
+pub fn most_number(most: Most) -> usize {
+    match most {
+        Most::NotGiven => 65536,
+        Most::AtMost(q) => q as usize,
+    }
+}
+
 // Two entries for a type say the same.
 fn same_task(a: TaskType, b: TaskType) -> bool {
-    (a.time == b.time) & (a.memory == b.memory) & (a.ceiling == b.ceiling) & (a.data == b.data)
+    let p = a.most;
+    let q = b.most;
+    let same = (a.time == b.time) & (a.memory == b.memory) & (a.ceiling == b.ceiling);
+    same & (a.data == b.data) & (most_number(p) == most_number(q))
 }
 
 pub fn same_system(a: System, b: System) -> bool {

@@ -1,9 +1,10 @@
 -- Document 01's "Edges", and a file for every row of "From the input" that a file can be refused by: what it reads as against the number that 01 writes,
--- and the same of tag 3 (request 2026-03).
+-- and the same of tag 3 (request 2026-03) and tag 4 (2026-04).
 use Prim.Native.Nat.{ℕ, zero, suc, _/_, _%_}
 use mathlib.Core.List.{List, [], _∷_, _++_, map}
 use mathlib.Core.Path.{_≡_}
 use lib.ListN.{replicate}
+use Rattle.system.specs.declared.Most.{Most}
 use Rattle.system.specs.declared.TaskType.{TaskType}
 use Rattle.system.specs.Layout.{readFile, readOutcome, readSystem}
 use Rattle.system.specs.Outcome.{Outcome, accepted, refused, fromInput}
@@ -28,7 +29,10 @@ typeWith u s n = field 2 10 (four u ++ (four s ++ two n))
 abbrev pub dataWith : ℕ → List ℕ
 dataWith d = field 3 4 (four d)
 
--- a good platform, a good type, and a good type with its d
+abbrev pub mostWith : ℕ → List ℕ
+mostWith q = field 4 2 (two q)
+
+-- a good platform, a good type, one with its d, and one with its d and its q
 abbrev pub goodPlatform : List ℕ
 goodPlatform = platformWith 3 0 10 8
 
@@ -37,6 +41,9 @@ goodType = typeWith 4 3 1
 
 abbrev pub goodBoth : List ℕ
 goodBoth = goodType ++ dataWith 5
+
+abbrev pub goodAll : List ℕ
+goodAll = goodBoth ++ mostWith 1
 
 -- the file with these types
 unfoldable pub typesOf : List (List ℕ) → List ℕ
@@ -65,14 +72,19 @@ edges =
     ∷ edge (withTypes (goodType ∷ dataWith 0 ∷ goodType ∷ [])) 0
     ∷ edge (withTypes (goodType ∷ dataWith 1000000 ∷ [])) 0
     ∷ edge (withTypes (replicate 6 goodBoth)) 0
+    ∷ edge (withTypes (goodType ∷ mostWith 1 ∷ goodType ∷ [])) 0
+    ∷ edge (withTypes (typeWith 4 3 0 ∷ dataWith 0 ∷ mostWith 65535 ∷ [])) 0
+    ∷ edge (withTypes (replicate 6 goodAll)) 0
     ∷ edge (1 ∷ []) 1
     ∷ edge (withTypes (goodType ∷ (2 ∷ 0 ∷ []) ∷ [])) 1
     ∷ edge (field 1 10 (3 ∷ 0 ∷ four 10)) 1
     ∷ edge (withTypes (field 2 10 (four 4 ++ four 3) ∷ [])) 1
     ∷ edge (withTypes (goodType ∷ (3 ∷ 0 ∷ []) ∷ [])) 1
     ∷ edge (withTypes (goodType ∷ field 3 4 (0 ∷ two 5) ∷ [])) 1
+    ∷ edge (withTypes (goodBoth ∷ (4 ∷ 0 ∷ []) ∷ [])) 1
+    ∷ edge (withTypes (goodType ∷ field 4 2 (1 ∷ []) ∷ [])) 1
     ∷ edge (field 0 10 [] ++ goodType) 2
-    ∷ edge (withTypes (goodBoth ∷ field 4 2 (two 1) ∷ [])) 2
+    ∷ edge (withTypes (goodAll ∷ field 5 2 (two 1) ∷ [])) 2
     ∷ edge goodType 3
     ∷ edge (goodPlatform ++ goodPlatform) 3
     ∷ edge (withTypes (goodType ∷ goodPlatform ∷ [])) 3
@@ -81,23 +93,35 @@ edges =
     ∷ edge (withTypes (dataWith 5 ∷ goodType ∷ [])) 3
     ∷ edge (withTypes (goodBoth ∷ dataWith 5 ∷ [])) 3
     ∷ edge (withTypes (goodBoth ∷ goodPlatform ∷ [])) 3
+    ∷ edge (mostWith 1) 3
+    ∷ edge (withTypes (field 4 3 [] ∷ [])) 3
+    ∷ edge (withTypes (mostWith 1 ∷ goodType ∷ [])) 3
+    ∷ edge (withTypes (goodType ∷ mostWith 1 ∷ dataWith 5 ∷ [])) 3
+    ∷ edge (withTypes (goodAll ∷ mostWith 1 ∷ [])) 3
+    ∷ edge (withTypes (goodAll ∷ goodPlatform ∷ [])) 3
     ∷ edge (field 1 9 []) 4
     ∷ edge (withTypes (field 2 11 [] ∷ [])) 4
     ∷ edge (withTypes (goodType ∷ field 3 5 [] ∷ [])) 4
+    ∷ edge (withTypes (goodType ∷ field 4 3 [] ∷ [])) 4
+    ∷ edge (withTypes (goodBoth ∷ field 4 1 (1 ∷ []) ∷ [])) 4
     ∷ edge (platformWith 0 2 1000001 8 ++ goodType) 5
     ∷ edge (platformWith 17 0 10 8 ++ goodType) 5
     ∷ edge (platformWith 3 2 1000001 8 ++ goodType) 6
     ∷ edge (withTypes (replicate 7 goodType)) 7
     ∷ edge (withTypes (replicate 6 goodBoth ++ (typeWith 1000001 3 1 ∷ []))) 7
+    ∷ edge (withTypes (replicate 6 goodAll ++ (goodType ∷ mostWith 0 ∷ []))) 7
     ∷ edge (platformWith 3 0 1000001 8 ++ goodType) 8
     ∷ edge (platformWith 3 0 10 1000001 ++ goodType) 8
     ∷ edge (withTypes (typeWith 1000001 3 1 ∷ [])) 8
     ∷ edge (withTypes (typeWith 4 1000001 1 ∷ [])) 8
     ∷ edge (withTypes (goodType ∷ dataWith 1000001 ∷ [])) 8
+    ∷ edge (withTypes (goodType ∷ dataWith 1000001 ∷ mostWith 0 ∷ [])) 8
     ∷ edge [] 9
     ∷ edge goodPlatform 9
     ∷ edge (withTypes (typeWith 4 3 1024 ∷ [])) 10
     ∷ edge (withTypes (typeWith 4 3 31 ∷ typeWith 4 3 32 ∷ [])) 10
+    ∷ edge (withTypes (goodBoth ∷ mostWith 0 ∷ [])) 31
+    ∷ edge (withTypes (typeWith 4 3 1024 ∷ mostWith 0 ∷ typeWith 1000001 3 1 ∷ [])) 31
     ∷ []
 
 -- the number as an outcome
@@ -112,3 +136,7 @@ EdgesHold es = map (λ (e : Edge). readOutcome (readFile (e .file))) es ≡ map 
 -- the file's types have these d, 0 past k
 abbrev pub DataRead : List ℕ → List ℕ → Type 0
 DataRead file ds = map (λ (t : TaskType). t .data) (readSystem (readFile file) .types) ≡ ds
+
+-- and these q, none past k
+abbrev pub MostRead : List ℕ → List Most → Type 0
+MostRead file qs = map (λ (t : TaskType). t .most) (readSystem (readFile file) .types) ≡ qs

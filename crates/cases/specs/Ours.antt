@@ -1,15 +1,15 @@
--- Worked examples of our own beside W1 to W12: a recovery with three different loads, what a cell holds that says no, and systems with d.
+-- Worked examples of our own beside W1 to W12: a recovery with three different loads, what a cell holds that says no, systems with d, and systems with q.
 use Prim.Native.Nat.{ℕ}
 use mathlib.Core.List.{List, [], _∷_, _++_, map}
 use lib.ListN.{take, replicate}
 use Rattle.system.specs.Layout.{readFile}
-use Rattle.system.specs.Outcome.{Outcome, refused, fromInput}
+use Rattle.system.specs.Outcome.{Outcome, refused, fromInput, fromState}
 use Rattle.loads.specs.declared.EngineLoad.{EngineLoad}
 use Rattle.planner.specs.Plan.{verdictOf, planOutcome, planLoads}
 use Rattle.board.specs.Boards.{openedBoard}
 use Rattle.ledger.specs.Ledger.{Call, admit, seat, retire, repack, freshLedger, ledgerAfter}
 use Rattle.ledger.specs.Demand3.{Request, Made, boardAfter, answersOf, played}
-use Rattle.cases.specs.Cases.{platform, taskType, fileB, systemOf, systemA, entryAt, planAnswer, planLines, answers, boardLines, Case, case, number, lines, outcome, outcomes, done, on}
+use Rattle.cases.specs.Cases.{platform, taskType, fileB, systemOf, systemA, entryAt, planAnswer, planLines, answers, boardLines, entered, counted, Case, case, number, lines, outcome, outcomes, done, on}
 
 -- system C: m 4, rule 0, U 10, S 9, and three types, each with n 2: u 5, s 2; u 2, s 3; u 4, s 4
 abbrev pub fileC : List ℕ
@@ -54,6 +54,24 @@ callsD = admit 1 ∷ admit 1 ∷ admit 1 ∷ admit 1 ∷ retire 1 1 ∷ []
 abbrev pub afterD : List Call
 afterD = callsD ++ (retire 1 2 ∷ [])
 
+-- a firewall, u 2, s 1, n 2, with what comes after its type, and another type, u 4, s 1, with n: rule 0, U 9, S 8
+abbrev pub fileF : ℕ → List ℕ → ℕ → List ℕ
+fileF m after n = platform m 0 9 8 ++ taskType 2 1 2 ++ after ++ taskType 4 1 n
+
+-- no q; and the field of q, q below 256
+abbrev pub noQ : List ℕ
+noQ = []
+
+abbrev pub withQ : ℕ → List ℕ
+withQ q = 4 ∷ 0 ∷ 2 ∷ 0 ∷ q ∷ []
+
+-- two of the other type are on engine 2 and none on engine 1; then both firewalls
+abbrev pub callsF : List Call
+callsF = admit 2 ∷ admit 2 ∷ admit 2 ∷ admit 2 ∷ retire 2 1 ∷ retire 2 1 ∷ admit 1 ∷ admit 1 ∷ []
+
+abbrev pub answersF : Outcome → List Outcome
+answersF last = on 1 ∷ on 1 ∷ on 2 ∷ on 2 ∷ done ∷ done ∷ on 1 ∷ last ∷ []
+
 unfoldable pub ours : List Case
 ours =
     case 1 (outcome (planOutcome (verdictOf (readFile fileC) lentC 4))) (outcome (on 3))
@@ -75,4 +93,20 @@ ours =
     -- rule 0, d 3: one for each engine, with 5 + 3 of memory; d 4: none, as 5 + 4 passes 8
     ∷ case 7 (lines (planLines 4 (fileD 0 3))) (lines (replicate 4 (2 ∷ 8 ∷ 1 ∷ 0 ∷ [])))
     ∷ case 8 (outcome (planAnswer (fileD 0 4))) (outcome (refused fromInput 12))
+    -- two firewalls: one engine does without q, or with q 2; with q 1 it takes two, and of one engine there is no plan
+    ∷ case 9 (outcome (planAnswer (fileF 2 noQ 0))) (outcome (on 1))
+    ∷ case 9 (outcome (planAnswer (fileF 1 (withQ 2) 0))) (outcome (on 1))
+    ∷ case 9 (outcome (planAnswer (fileF 2 (withQ 1) 0))) (outcome (on 2))
+    ∷ case 9 (lines (planLines 2 (fileF 2 (withQ 1) 0))) (lines (replicate 2 (2 ∷ 1 ∷ 1 ∷ 0 ∷ [])))
+    ∷ case 9 (outcome (planAnswer (fileF 1 (withQ 1) 0))) (outcome (refused fromInput 12))
+    -- on a board: q is of one engine, so that the second goes to engine 2; of one engine there is no room
+    ∷ case 10 (outcomes (answers (fileF 2 (withQ 1) 0) (admit 1 ∷ admit 1 ∷ []))) (outcomes (on 1 ∷ on 2 ∷ []))
+    ∷ case 10 (outcomes (answers (fileF 1 (withQ 1) 0) (admit 1 ∷ admit 1 ∷ []))) (outcomes (on 1 ∷ refused fromState 24 ∷ []))
+    ∷ case 10 (outcomes (entered (fileF 1 (withQ 1) 0) (admit 1 ∷ admit 1 ∷ []))) (outcomes (on 1 ∷ refused fromState 24 ∷ []))
+    -- engine 1 would take the second firewall without q; with it there is room only when the others move
+    ∷ case 11 (outcomes (answers (fileF 2 noQ 4) callsF)) (outcomes (answersF (on 1)))
+    ∷ case 11 (outcomes (answers (fileF 2 (withQ 1) 4) callsF)) (outcomes (answersF (refused fromState 23)))
+    ∷ case 11 (outcomes (entered (fileF 2 (withQ 1) 4) callsF)) (outcomes (answersF (refused fromState 23)))
+    ∷ case 11 (lines (boardLines 2 (fileF 2 (withQ 1) 4) (callsF ++ (seat 1 ∷ [])))) (lines (replicate 2 (6 ∷ 2 ∷ 1 ∷ 1 ∷ [])))
+    ∷ case 11 (lines (counted (fileF 2 (withQ 1) 4) (callsF ++ (seat 1 ∷ [])))) (lines (replicate 2 (1 ∷ 1 ∷ [])))
     ∷ []

@@ -5,7 +5,7 @@ use mathlib.Core.Path.{_≡_, refl}
 use lib.ListN.{replicate}
 use Rattle.system.specs.Limits.{columnsOf}
 use Rattle.system.specs.Layout.{fieldAt, bodyAt, ruleOf, platformFrom, typeFrom, ruledHead, headOf, bodyOf, ruledField, fieldOf, endOf, fieldsFrom, readFile}
-use Rattle.loads.specs.Load.{sumOver, fitsEngine, within, less}
+use Rattle.loads.specs.Load.{sumOver, apart, fitsEngine, within, less}
 use Rattle.loads.specs.Column.{columnFrom, loadOf}
 use Rattle.partition.specs.Assignment.{numbersFrom}
 use Rattle.partition.specs.Shares.{rowOn}
@@ -71,7 +71,7 @@ abbrev noEngine : List ℕ
 noEngine = 101 ∷ 110 ∷ 103 ∷ 105 ∷ 110 ∷ 101 ∷ 115 ∷ 32 ∷ 48 ∷ 10 ∷ []
 
 pub examples : map (λ (file : List ℕ). fileListing file table) (systemA 3 2 ∷ systemB 3 ∷ systemA 0 0 ∷ []) ≡ twoEngines ∷ refused12 ∷ noEngine ∷ []
-unfolding fieldAt bodyAt ruleOf platformFrom typeFrom ruledHead headOf bodyOf ruledField fieldOf endOf fieldsFrom readFile columnsOf sumOver fitsEngine within less columnFrom loadOf lowest precedes cell lowestRow recover recovery rowOn numbersFrom verdictOf recordsFrom decimalFrom parted engineLine recordLines listingOf
+unfolding fieldAt bodyAt ruleOf platformFrom typeFrom ruledHead headOf bodyOf ruledField fieldOf endOf fieldsFrom readFile columnsOf sumOver apart fitsEngine within less columnFrom loadOf lowest precedes cell lowestRow recover recovery rowOn numbersFrom verdictOf recordsFrom decimalFrom parted engineLine recordLines listingOf
 examples = refl
 
 -- an empty file is `refused 9`, m 17 is `refused 5`, six types of too many columns are `refused 10`, of program `plan` too; a table that is too short is `refused 11`

@@ -1,20 +1,23 @@
--- Laws of time, memory and fit: of the empty load, of a smaller load, of two loads together, and of one instance more or less.
--- Each is proved once of the sum over the types; time and memory are instances of it.
+-- Laws of time, memory, q and fit: of the empty load, of a smaller load, of two loads together, and of one instance more or less.
+-- Those of time and memory are proved once, of the sum over the types.
 use Prim.Native.Nat.{ℕ, zero, suc, _+_, _-_, _*_, _≤_, _<_, zero-le}
 use mathlib.Core.Path.{_≡_, refl, sym, ap, _∙_}
 use mathlib.Core.List.{List, [], _∷_}
-use mathlib.Core.Bool.{Bool, true, false, cond, false≢true}
+use mathlib.Core.Bool.{Bool, true, false, cond, _&&_, false≢true}
+use mathlib.Core.Logic.{_↔_}
 use native.Mathlib.Nat.{zero-mul, mul-zero, add-mul, mul-le-mul-right, add-le-add, sub-le, le-refl, le-trans, le-of-suc-le-suc, not-suc-le-zero, suc-inj}
 use native.Mathlib.Nat.{sub-add-cancel, lt-of-not-le}
 use native.Mathlib.Omega.{arith}
 use borrow.Author.Tests.{leb-true, le-leb, eqb-true, eqb-false, eq-eqb, ne-eqb}
 use lib.ListN.{length, getD, set, replicate, List·getD-eq-default}
 use lib.Dec.{leb, eqb}
+use Rattle.system.specs.declared.Most.{Most}
+use Rattle.system.specs.declared.Most.the-variants.{NotGiven, AtMost}
 use Rattle.system.specs.declared.TaskType.{TaskType}
 use Rattle.system.specs.declared.System.{System}
 use Rattle.system.specs.Values.{noTask}
 use Rattle.system.specs.Limits.{typeLimit}
-use Rattle.loads.specs.Load.{sumOver, timeAt, timeOf, memoryAt, memoryOf, fitsEngine, emptyLoad, within, plus, oneMore, oneLess, engineWith, idleEngine}
+use Rattle.loads.specs.Load.{sumOver, timeAt, timeOf, memoryAt, memoryOf, apartAt, apart, fitsEngine, emptyLoad, within, plus, oneMore, oneLess, engineWith, idleEngine}
 use Rattle.loads.proofs.Order.{and-parts, and-both, within-refl}
 
 -- intermediate: lists of counts
@@ -142,20 +145,86 @@ shared-some t x h = ap (λ (e : Bool). cond e 0 (sharedCode t x)) (ne-eqb x 0 (�
 shared-none : (t : TaskType) (x : ℕ) → x ≡ 0 → memoryAt 1 t x ≡ 0
 shared-none t x e = ap (λ (b : Bool). cond b 0 (sharedCode t x)) (eq-eqb x 0 e)
 
--- main: fit is a bound on time and one on memory
+-- intermediate: q of one type
+
+not-given : (q : ℕ) → NotGiven ≡ AtMost q → ⊥
+not-given q e = let z : _≡_ {A = ℕ} 0 1 = cc in omega arith
+
+same-most : (p q : ℕ) → AtMost p ≡ AtMost q → p ≡ q
+same-most p q e = cc
+
+-- "no engine holds more than q of that type. Without it there is no limit"
+apartAt-keeps : (m : Most) (x : ℕ) → (apartAt m x ≡ true) ↔ ((q : ℕ) → m ≡ AtMost q → x ≤ q)
+apartAt-keeps NotGiven x = ((λ h q e. absurd (not-given q e)), (λ h. refl))
+apartAt-keeps (AtMost p) x = ((λ h q e. omega (arith, leb-true x p h, same-most p q e)), (λ h. le-leb x p (h p refl)))
+
+apartAt-none : (m : Most) → apartAt m 0 ≡ true
+apartAt-none m = apartAt-keeps m 0 .1 (λ q e. zero-le)
+
+apartAt-le : (m : Most) (x z : ℕ) → x ≤ z → apartAt m z ≡ true → apartAt m x ≡ true
+apartAt-le m x z h k = apartAt-keeps m x .1 (λ q e. le-trans h (apartAt-keeps m z .0 k q e))
+
+-- main: a load keeps q exactly where each of its counts is at most the q of its type
+
+apart-kept : (ts : List TaskType) (xs : List ℕ) → apart ts xs ≡ true → (i q : ℕ) → getD ts i noTask .most ≡ AtMost q → getD xs i 0 ≤ q
+unfolding apart
+apart-kept [] xs h i q e = absurd (not-given q e)
+apart-kept (t ∷ ts) [] h i q e = zero-le
+apart-kept (t ∷ ts) (x ∷ xs) h zero q e = apartAt-keeps (t .most) x .0 (and-parts (apartAt (t .most) x) (apart ts xs) h .0) q e
+apart-kept (t ∷ ts) (x ∷ xs) h (suc i) q e = apart-kept ts xs (and-parts (apartAt (t .most) x) (apart ts xs) h .1) i q e
+
+apart-of : (ts : List TaskType) (xs : List ℕ) → ((i q : ℕ) → getD ts i noTask .most ≡ AtMost q → getD xs i 0 ≤ q) → apart ts xs ≡ true
+unfolding apart
+apart-of [] xs h = refl
+apart-of (t ∷ ts) [] h = refl
+apart-of (t ∷ ts) (x ∷ xs) h = and-both (apartAt (t .most) x) (apart ts xs) (apartAt-keeps (t .most) x .1 (h zero)) (apart-of ts xs (λ i. h (suc i)))
+
+pub apart-entries : (ts : List TaskType) (xs : List ℕ) → (apart ts xs ≡ true) ↔ ((i q : ℕ) → getD ts i noTask .most ≡ AtMost q → getD xs i 0 ≤ q)
+apart-entries ts xs = (apart-kept ts xs, apart-of ts xs)
+
+apart-empty : (ts : List TaskType) (n : ℕ) → apart ts (replicate n 0) ≡ true
+unfolding apart
+apart-empty [] n = refl
+apart-empty (t ∷ ts) zero = refl
+apart-empty (t ∷ ts) (suc n) = and-both (apartAt (t .most) 0) (apart ts (replicate n 0)) (apartAt-none (t .most)) (apart-empty ts n)
+
+apart-within : (ts : List TaskType) (x z : List ℕ) → within x z ≡ true → apart ts z ≡ true → apart ts x ≡ true
+unfolding apart within
+apart-within [] x z h k = refl
+apart-within (t ∷ ts) [] z h k = refl
+apart-within (t ∷ ts) (x ∷ xs) [] h k = absurd (false≢true h)
+apart-within (t ∷ ts) (x ∷ xs) (z ∷ zs) h k =
+    let b = and-parts (leb x z) (within xs zs) h in
+    let a = and-parts (apartAt (t .most) z) (apart ts zs) k in
+    and-both (apartAt (t .most) x) (apart ts xs) (apartAt-le (t .most) x z (leb-true x z (b .0)) (a .0)) (apart-within ts xs zs (b .1) (a .1))
+
+-- main: fit is a bound on time, one on memory, and q kept
 
 module _ (y : System) (x : List ℕ) where
-  pub fits-of : timeOf (y .types) x ≤ y .timecap → memoryOf (y .rule) (y .types) x ≤ y .memorycap → fitsEngine y x ≡ true
+  abbrev timely : Bool
+  timely = leb (timeOf (y .types) x) (y .timecap)
+
+  abbrev stored : Bool
+  stored = leb (memoryOf (y .rule) (y .types) x) (y .memorycap)
+
+  pub fits-of : timeOf (y .types) x ≤ y .timecap → memoryOf (y .rule) (y .types) x ≤ y .memorycap → apart (y .types) x ≡ true → fitsEngine y x ≡ true
   unfolding fitsEngine
-  fits-of h k = and-both (leb (timeOf (y .types) x) (y .timecap)) _ (le-leb _ _ h) (le-leb _ _ k)
+  fits-of h k a = and-both (timely && stored) (apart (y .types) x) (and-both timely stored (le-leb _ _ h) (le-leb _ _ k)) a
+
+  fits-sums : fitsEngine y x ≡ true → (timely && stored) ≡ true
+  unfolding fitsEngine
+  fits-sums h = and-parts (timely && stored) (apart (y .types) x) h .0
 
   pub fits-time : fitsEngine y x ≡ true → timeOf (y .types) x ≤ y .timecap
-  unfolding fitsEngine
-  fits-time h = leb-true _ _ (and-parts (leb (timeOf (y .types) x) (y .timecap)) _ h .0)
+  fits-time h = leb-true _ _ (and-parts timely stored (fits-sums h) .0)
 
   pub fits-memory : fitsEngine y x ≡ true → memoryOf (y .rule) (y .types) x ≤ y .memorycap
+  fits-memory h = leb-true _ _ (and-parts timely stored (fits-sums h) .1)
+
+  -- "A load fits only if it keeps q too"
+  pub fits-apart : fitsEngine y x ≡ true → apart (y .types) x ≡ true
   unfolding fitsEngine
-  fits-memory h = leb-true _ _ (and-parts (leb (timeOf (y .types) x) (y .timecap)) _ h .1)
+  fits-apart h = and-parts (timely && stored) (apart (y .types) x) h .1
 
 -- main: the empty load
 
@@ -166,7 +235,8 @@ pub memory-empty : (rule : ℕ) (ts : List TaskType) (n : ℕ) → memoryOf rule
 memory-empty rule = sum-empty (memoryAt rule) (memoryAt-none rule)
 
 pub zeros-fit : (y : System) (n : ℕ) → fitsEngine y (replicate n 0) ≡ true
-zeros-fit y n = fits-of y (replicate n 0) (rw (time-empty (y .types) n) zero-le) (rw (memory-empty (y .rule) (y .types) n) zero-le)
+zeros-fit y n =
+    fits-of y (replicate n 0) (rw (time-empty (y .types) n) zero-le) (rw (memory-empty (y .rule) (y .types) n) zero-le) (apart-empty (y .types) n)
 
 pub empty-fits : (y : System) → fitsEngine y emptyLoad ≡ true
 empty-fits y = zeros-fit y typeLimit
@@ -187,6 +257,7 @@ fits-within y x z h f =
     fits-of y x
     (le-trans (time-within (y .types) x z h) (fits-time y z f))
     (le-trans (memory-within (y .rule) (y .types) x z h) (fits-memory y z f))
+    (apart-within (y .types) x z h (fits-apart y z f))
 
 -- main: the two loads together
 

@@ -10,7 +10,7 @@ use lib.Dec.{eqb}
 use Rattle.system.specs.declared.TaskType.{TaskType}
 use Rattle.system.specs.Values.{noTask}
 use Rattle.system.specs.Limits.{columnsOf}
-use Rattle.loads.specs.Load.{sumOver, holdsNone, less}
+use Rattle.loads.specs.Load.{sumOver, apartAt, apart, holdsNone, less}
 use Rattle.loads.specs.Column.{columnFrom, loadOf}
 
 -- of an array in a struct whose elements are structs, `search (needs, length-mapped)` finds the length
@@ -21,12 +21,16 @@ length-mapped X Y f l n h = sym (length-map l f) ∙ h
 abbrev pub ceilings : List TaskType → List ℕ
 ceilings ts = map (λ (t : TaskType). t .ceiling) ts
 
--- the sums over types and counts
+-- types and counts
 module _ (ts : List TaskType) (xs : List ℕ) (i : ℕ) (ht : i < length ts) (hx : i < length xs) where
   pub sum-turn : (each : TaskType → ℕ → ℕ) →
       sumOver each (drop i ts) (drop i xs) ≡ each (getD ts i noTask) (getD xs i 0) + sumOver each (drop (i + 1) ts) (drop (i + 1) xs)
   unfolding sumOver
   sum-turn each = rw (add-one i, drop-cons ts i noTask, drop-cons xs i 0)
+
+  pub apart-turn : apart (drop i ts) (drop i xs) ≡ (apartAt (getD ts i noTask .most) (getD xs i 0) && apart (drop (i + 1) ts) (drop (i + 1) xs))
+  unfolding apart
+  apart-turn = rw (add-one i, drop-cons ts i noTask, drop-cons xs i 0)
 
   pub column-turn : (stride : ℕ) →
       columnFrom stride (ceilings (drop i ts)) (drop i xs)
@@ -38,6 +42,10 @@ module _ (ts : List TaskType) (xs : List ℕ) (i : ℕ) (h : length ts ≤ i) wh
   pub sum-end : (each : TaskType → ℕ → ℕ) → sumOver each (drop i ts) xs ≡ 0
   unfolding sumOver
   sum-end each = rw (drop-of-length-le ts {i = i})
+
+  pub apart-end : apart (drop i ts) xs ≡ true
+  unfolding apart
+  apart-end = rw (drop-of-length-le ts {i = i})
 
   pub column-end : (stride : ℕ) → columnFrom stride (ceilings (drop i ts)) xs ≡ 0
   unfolding columnFrom

@@ -4,6 +4,8 @@ use mathlib.Core.List.{List, [], _∷_}
 use mathlib.Core.Bool.{Bool, true, false, cond, _&&_}
 use lib.ListN.{getD, set, replicate}
 use lib.Dec.{leb, eqb}
+use Rattle.system.specs.declared.Most.{Most}
+use Rattle.system.specs.declared.Most.the-variants.{NotGiven, AtMost}
 use Rattle.system.specs.declared.TaskType.{TaskType}
 use Rattle.system.specs.declared.System.{System}
 use Rattle.system.specs.Limits.{typeLimit}
@@ -35,9 +37,20 @@ memoryOf rule ts xs = sumOver (memoryAt rule) ts xs
 abbrev pub sumsOf : System → List ℕ → Sums
 sumsOf y x = record { time = timeOf (y .types) x; memory = memoryOf (y .rule) (y .types) x }
 
--- document 01's "fits": time at most U and memory at most S
+-- request 2026-04: "no engine holds more than q of that type. Without it there is no limit"
+abbrev pub apartAt : Most → ℕ → Bool
+apartAt NotGiven x = true
+apartAt (AtMost q) x = leb x q
+
+-- every count of the load keeps the q of its type
+unfoldable pub apart : List TaskType → List ℕ → Bool
+apart [] xs = true
+apart (t ∷ ts) [] = true
+apart (t ∷ ts) (x ∷ xs) = apartAt (t .most) x && apart ts xs
+
+-- document 01's "fits": time at most U and memory at most S; "A load fits only if it keeps q too" (request 2026-04)
 unfoldable pub fitsEngine : System → List ℕ → Bool
-fitsEngine y x = leb (timeOf (y .types) x) (y .timecap) && leb (memoryOf (y .rule) (y .types) x) (y .memorycap)
+fitsEngine y x = leb (timeOf (y .types) x) (y .timecap) && leb (memoryOf (y .rule) (y .types) x) (y .memorycap) && apart (y .types) x
 
 -- no instance at all
 unfoldable pub holdsNone : List ℕ → Bool

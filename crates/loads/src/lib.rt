@@ -5,8 +5,9 @@ ghost use mathlib.Core.Bool.{true};
 ghost use lib.ListN.{getD};
 ghost use Rattle.system.specs.Values.{ceilingsOf};
 ghost use Rattle.system.specs.Limits.{typeLimit, columns, columnLimit};
-ghost use Rattle.loads.specs.Load.{memoryAt, sumsOf, fitsEngine, holdsNone, less, oneMore, oneLess, engineWith, idleEngine};
+ghost use Rattle.loads.specs.Load.{memoryAt, sumsOf, apartAt, apart, fitsEngine, holdsNone, less, oneMore, oneLess, engineWith, idleEngine};
 ghost use Rattle.loads.specs.Column.{columnOf, loadOf};
+use system::Most;
 use system::System;
 use system::TYPE_LIMIT;
 use system::TaskType;
@@ -63,12 +64,36 @@ pub fn sums_of(y: System, counts: [u16; TYPE_LIMIT]) -> Sums
     }
 }
 
+// Whether `count` instances of one type may be on one engine, by the type's q.
+fn apart_at(most: Most, count: u16) -> bool
+    ensures { λ r. ⌜ r ≡ apartAt most count ⌝ }
+{
+    match most {
+        Most::NotGiven => true,
+        Most::AtMost(q) => count <= q,
+    }
+}
+
+// Whether every count of a load keeps the q of its type.
+fn apart(types: [TaskType; TYPE_LIMIT], counts: [u16; TYPE_LIMIT]) -> bool
+    ensures { λ r. ⌜ r ≡ apart types counts ⌝ }
+{
+    let mut keep = true;
+    for i in 0..TYPE_LIMIT {
+        let task = types[i];
+        let most = task.most;
+        keep = keep & apart_at(most, counts[i]);
+    }
+    keep
+}
+
 // Whether a load fits an engine of the system.
 pub fn fits_engine(y: System, counts: [u16; TYPE_LIMIT]) -> bool
     ensures { λ r. ⌜ r ≡ fitsEngine y counts ⌝ }
 {
     let sums = sums_of(y, counts);
-    (sums.time <= y.timecap as u64) & (sums.memory <= y.memorycap as u64)
+    let types = y.types;
+    (sums.time <= y.timecap as u64) & (sums.memory <= y.memorycap as u64) & apart(types, counts)
 }
 
 // The engine that holds a load, its sums computed anew.

@@ -1,19 +1,19 @@
--- A good assignment is one that keeps source 001, Definition 1 in its own words: the sums over the single instances are the time and the memory of the loads.
+-- A good assignment is one that keeps source 001, Definition 1 in its own words: the sums over the single instances are the time and the memory of the loads, and their counts.
 use Prim.Native.Nat.{ℕ, suc, _+_, _*_, _≤_}
 use mathlib.Core.Path.{_≡_, refl, sym, ap₂, _∙_}
 use mathlib.Core.List.{List, [], _∷_}
 use mathlib.Core.Bool.{Bool, true, false, cond, _||_}
 use mathlib.Core.Logic.{_↔_}
-use native.Mathlib.Nat.{zero-mul, suc-mul, zero-add, add-comm}
+use native.Mathlib.Nat.{zero-mul, mul-one, suc-mul, zero-add, add-comm}
 use native.Mathlib.Omega.{arith}
 use borrow.Author.Tests.{eqb-true, eqb-false}
-use lib.ListN.{getD}
+use lib.ListN.{getD, List·getD-map}
 use lib.Dec.{eqb, eqb·suc-zero}
 use Rattle.system.specs.declared.TaskType.{TaskType}
 use Rattle.system.specs.declared.System.{System}
-use Rattle.loads.specs.Load.{sumOver, timeAt, timeOf, memoryAt, memoryOf, fitsEngine}
+use Rattle.loads.specs.Load.{sumOver, timeAt, timeOf, memoryAt, memoryOf, apart, fitsEngine}
 use Rattle.loads.proofs.Order.{and-both}
-use Rattle.loads.proofs.Laws.{own-all, fits-of, fits-time, fits-memory}
+use Rattle.loads.proofs.Laws.{own-all, apart-entries, fits-of, fits-time, fits-memory, fits-apart}
 use Rattle.partition.specs.Assignment.{Assignment, countOn, loadOn, among, every, good}
 use Rattle.partition.specs.OwnWords.{overInstances, sumOn, timeOn, memoryOn, sharedMemoryOn, placeOf, Definition1}
 use Rattle.partition.proofs.Shares.{good-parts}
@@ -79,6 +79,11 @@ sharedMemoryOn-memoryOf e types χ =
     sumOn-both (λ t places. cond (among places e) (t .memory) 0) (λ t places. overInstances e (t .data) places) types χ
     ∙ sumOn-sumOver e (λ t places. cond (among places e) (t .memory) 0 + overInstances e (t .data) places) (memoryAt 1) (shared-places e) types χ
 
+-- one for each instance of a type on engine e is the load's count of that type
+pub counted-on : (e : ℕ) (χ : Assignment) (t : ℕ) → overInstances e 1 (getD χ t []) ≡ getD (loadOn e χ) t 0
+unfolding countOn
+counted-on e χ t = overInstances-count e 1 (getD χ t []) ∙ mul-one (countOn e (getD χ t [])) ∙ sym (List·getD-map (countOn e) χ t [])
+
 -- main: good says Definition 1
 
 -- where `E` says which engines the list es has
@@ -93,6 +98,7 @@ module _ (y : System) (χ : Assignment) (es : List ℕ) (E : ℕ → Type 0) (sa
     time = λ e at. rw (timeOn-timeOf e (y .types) χ) (fits-time y (loadOn e χ) (each e at));
     ownCopies = λ q e at. rw (memoryOn-memoryOf e (y .types) χ, ← q) (fits-memory y (loadOn e χ) (each e at));
     sharedCode = λ q e at. rw (sharedMemoryOn-memoryOf e (y .types) χ, ← q) (fits-memory y (loadOn e χ) (each e at));
+    separate = λ t q given e at. rw (counted-on e χ t) (apart-entries (y .types) (loadOn e χ) .0 (fits-apart y (loadOn e χ) (each e at)) t q given);
   }
     where
       b : (every (every (among es)) χ ≡ true) × (every fine es ≡ true)
@@ -118,8 +124,11 @@ module _ (y : System) (χ : Assignment) (es : List ℕ) (E : ℕ → Type 0) (sa
           let one′ : y .rule ≡ 1 = omega (arith, eqb-false (y .rule) 0 q) in
           rw (one′, ← (sharedMemoryOn-memoryOf e (y .types) χ)) (d .sharedCode one′ e at)
 
+      kept : (e : ℕ) → E e → apart (y .types) (loadOn e χ) ≡ true
+      kept e at = apart-entries (y .types) (loadOn e χ) .1 (λ t q given. rw (← (counted-on e χ t)) (d .separate t q given e at))
+
       each : (e : ℕ) → E e → fine e ≡ true
-      each e at = fits-of y (loadOn e χ) (rw (← (timeOn-timeOf e (y .types) χ)) (d .time e at)) (memory (eqb (y .rule) 0) refl e at)
+      each e at = fits-of y (loadOn e χ) (rw (← (timeOn-timeOf e (y .types) χ)) (d .time e at)) (memory (eqb (y .rule) 0) refl e at) (kept e at)
 
   pub good-is-definition1 : y .rule ≤ 1 → (good (λ (e : ℕ). fitsEngine y) es χ ≡ true) ↔ Definition1 y E χ
   good-is-definition1 r = (good-keeps, keeps-good r)

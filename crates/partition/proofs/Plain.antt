@@ -9,22 +9,23 @@ use native.Mathlib.Omega.{arith}
 use borrow.Author.Tests.{ltb-true, ltb-false}
 use lib.ListN.{length, getD, length-map, List·getD-map}
 use lib.Dec.{eqb, ltb, eqb·suc-zero}
+use Rattle.system.specs.declared.Most.the-variants.{AtMost}
 use Rattle.system.specs.declared.TaskType.{TaskType}
 use Rattle.system.specs.declared.System.{System}
 use Rattle.system.specs.Values.{noTask, ceilingsOf}
-use Rattle.system.specs.Limits.{typeLimit, columnsOf, columns, keepsLimits}
-use Rattle.system.proofs.Laws.{Limits, Sized, limits-of, limits-keep}
+use Rattle.system.specs.Limits.{typeLimit, mostFault, columnsOf, columns, keepsLimits}
+use Rattle.system.proofs.Laws.{Limits, Sized, some-replica, replicas-keep, limits-of, limits-keep}
 use Rattle.loads.specs.declared.EngineLoad.{EngineLoad}
 use Rattle.loads.specs.Load.{fitsEngine, holdsNone, engineWith, idleEngine, memoryOf}
 use Rattle.loads.proofs.Order.{cons-path}
 use Rattle.partition.specs.Assignment.{Assignment, countOn, loadOn, assigned, among, every, anyOf, usedOf, numbersFrom, enginesTo}
 use Rattle.partition.specs.Shares.{distinct}
 use Rattle.partition.specs.ForSystem.{goodOn, FeasibleOn, Placed, OnFewest}
-use Rattle.partition.specs.Plain.{ceilingNo, columnsOut, LimitsOut, placesNo, Partition, Impossible, hosts, usedTo, RecordIs, recordNo, Stands, StandsOnFewest}
+use Rattle.partition.specs.Plain.{typeNo, ceilingNo, columnsOut, LimitsOut, placesNo, Partition, Impossible, hosts, usedTo, RecordIs, recordNo, Stands, StandsOnFewest}
 use Rattle.partition.proofs.Lists.{distinct-enginesTo, enginesTo-last, getD-inside}
 use Rattle.partition.proofs.Shares.{good-parts}
 use Rattle.partition.proofs.Engines.{usedOf-wider}
-use Rattle.partition.proofs.OwnWords.{overInstances-count, timeOn-timeOf, memoryOn-memoryOf, sharedMemoryOn-memoryOf, good-is-definition1}
+use Rattle.partition.proofs.OwnWords.{counted-on, timeOn-timeOf, memoryOn-memoryOf, sharedMemoryOn-memoryOf, good-is-definition1}
 
 -- main: the columns
 
@@ -58,9 +59,15 @@ module _ (y : System) where
     known = (l .some-type, l .typecount);
     six = l .six;
     costs = λ t low high. (l .sized (t - 1) .time, l .sized (t - 1) .memory, l .sized (t - 1) .data);
+    replicas = λ t q low high given. some-replica (typeNo y t .most) q (l .replicas (t - 1)) given;
     past = λ t h.
-        let none = l .past (t - 1) (omega arith) in
-        (ap (λ (task : TaskType). task .time) none, ap (λ (task : TaskType). task .memory) none, ap (λ (task : TaskType). task .ceiling) none, ap (λ (task : TaskType). task .data) none);
+        let none = l .past (t - 1) (omega arith) in (
+          ap (λ (task : TaskType). task .time) none,
+          ap (λ (task : TaskType). task .memory) none,
+          ap (λ (task : TaskType). task .ceiling) none,
+          ap (λ (task : TaskType). task .data) none,
+          ap (λ (task : TaskType). task .most) none,
+        );
     columns = rw (columns-out y (l .six)) (l .columns);
   }
 
@@ -77,13 +84,14 @@ module _ (y : System) where
     columns = rw (columns-out y (l .six)) at (l .columns);
     past = none;
     sized = λ i. go i (ltb i (y .typecount)) refl;
+    replicas = λ i. replicas-keep (getD (y .types) i noTask .most) (some i (ltb i (y .typecount)) refl);
   }
     where
       none : (i : ℕ) → y .typecount ≤ i → getD (y .types) i noTask ≡ noTask
       none i h =
           let p = l .past (suc i) (omega arith) in
           let same : suc i - 1 ≡ i = omega arith in
-          subst (λ (j : ℕ). getD (y .types) j noTask ≡ noTask) same (λ z. record { time = p .0 z; memory = p .1 z; ceiling = p .2 z; «data» = p .3 z })
+          subst (λ (j : ℕ). getD (y .types) j noTask ≡ noTask) same (λ z. record { time = p .0 z; memory = p .1 z; ceiling = p .2 z; «data» = p .3 z; most = p .4 z })
 
       go : (i : ℕ) (b : Bool) → ltb i (y .typecount) ≡ b → Sized (getD (y .types) i noTask)
       go i true q =
@@ -91,6 +99,13 @@ module _ (y : System) where
           let same : suc i - 1 ≡ i = omega arith in
           subst (λ (j : ℕ). Sized (getD (y .types) j noTask)) same (record { time = c .0; memory = c .1; «data» = c .2 })
       go i false q = rw (none i (ltb-false i (y .typecount) q)) (record { time = omega arith; memory = omega arith; «data» = omega arith })
+
+      some : (i : ℕ) (b : Bool) → ltb i (y .typecount) ≡ b → (q : ℕ) → getD (y .types) i noTask .most ≡ AtMost q → 1 ≤ q
+      some i true e =
+          let same : suc i - 1 ≡ i = omega arith in
+          subst (λ (j : ℕ). (q : ℕ) → getD (y .types) j noTask .most ≡ AtMost q → 1 ≤ q) same (λ q. l .replicas (suc i) q (omega arith) (ltb-true i (y .typecount) e))
+      some i false e =
+          λ q. some-replica (getD (y .types) i noTask .most) q (ap (λ (task : TaskType). mostFault (task .most)) (none i (ltb-false i (y .typecount) e)))
 
   -- the code's test of the limits is this
   pub limits-out : (keepsLimits y ≡ true) ↔ LimitsOut y
@@ -189,9 +204,8 @@ module _ (y : System) (rule : y .rule ≤ 1) (es : List ℕ) (apart : distinct e
   -- main: the records
 
   record-out : (χ : Assignment) (e : ℕ) (l : EngineLoad) → l ≡ engineWith y (loadOn e χ) → RecordIs y χ e l
-  unfolding countOn
   record-out χ e l is = record {
-    counts = λ t low. ap (λ (r : EngineLoad). getD (r .counts) (t - 1) 0) is ∙ List·getD-map (countOn e) χ (t - 1) [] ∙ sym (overInstances-count e 1 (placesNo χ t) ∙ mul-one (countOn e (placesNo χ t)));
+    counts = λ t low. ap (λ (r : EngineLoad). getD (r .counts) (t - 1) 0) is ∙ sym (counted-on e χ (t - 1));
     time = ap (λ (r : EngineLoad). r .time) is ∙ sym (timeOn-timeOf e (y .types) χ);
     ownCopies = λ q. ap (λ (r : EngineLoad). r .memory) is ∙ ap (λ (z : ℕ). memoryOf z (y .types) (loadOn e χ)) q ∙ sym (memoryOn-memoryOf e (y .types) χ);
     sharedCode = λ q. ap (λ (r : EngineLoad). r .memory) is ∙ ap (λ (z : ℕ). memoryOf z (y .types) (loadOn e χ)) q ∙ sym (sharedMemoryOn-memoryOf e (y .types) χ);

@@ -6,6 +6,7 @@ use mathlib.Core.Bool.{cond}
 use mathlib.Core.Path.{_≡_}
 use lib.ListN.{length, getD}
 use lib.Dec.{eqb}
+use Rattle.system.specs.declared.Most.the-variants.{NotGiven, AtMost}
 use Rattle.system.specs.declared.TaskType.{TaskType}
 use Rattle.system.specs.declared.System.{System}
 use Rattle.partition.specs.Assignment.{Assignment, among}
@@ -41,6 +42,13 @@ dataOn e types χ = sumOn (λ (t : TaskType) (places : List ℕ). overInstances 
 abbrev pub sharedMemoryOn : ℕ → List TaskType → Assignment → ℕ
 sharedMemoryOn e types χ = codeOn e types χ + dataOn e types χ
 
+-- type t of the system, from 0; where there is none, a type of nothing
+abbrev pub noType : TaskType
+noType = record { time = 0; memory = 0; ceiling = 0; «data» = 0; most = NotGiven }
+
+abbrev pub typeAt : System → ℕ → TaskType
+typeAt y t = getD (y .types) t noType
+
 -- the engine of instance j of type t, both from 0
 abbrev pub placeOf : Assignment → ℕ → ℕ → ℕ
 placeOf χ t j = getD (getD χ t []) j 0
@@ -55,3 +63,5 @@ pub record Definition1 (y : System) (E : ℕ → Type 0) (χ : Assignment) : Typ
   pub ownCopies : y .rule ≡ 0 → (e : ℕ) → E e → memoryOn e (y .types) χ ≤ y .memorycap
   -- rule 1, shared code: the s of the distinct types among them and the d of the instances sum to at most S
   pub sharedCode : y .rule ≡ 1 → (e : ℕ) → E e → sharedMemoryOn e (y .types) χ ≤ y .memorycap
+  -- replicas (request 2026-04): where q is given for type t, at most q of its instances are sent there, each counting 1
+  pub separate : (t q : ℕ) → typeAt y t .most ≡ AtMost q → (e : ℕ) → E e → overInstances e 1 (getD χ t []) ≤ q

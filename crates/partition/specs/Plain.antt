@@ -5,15 +5,16 @@ use mathlib.Core.List.{List, []}
 use mathlib.Core.Bool.{Bool, cond}
 use mathlib.Core.Path.{_≡_}
 use lib.ListN.{length, getD}
+use Rattle.system.specs.declared.Most.the-variants.{NotGiven, AtMost}
 use Rattle.system.specs.declared.TaskType.{TaskType}
 use Rattle.system.specs.declared.System.{System}
 use Rattle.loads.specs.declared.EngineLoad.{EngineLoad}
 use Rattle.partition.specs.Assignment.{Assignment, among, anyOf}
-use Rattle.partition.specs.OwnWords.{overInstances, timeOn, memoryOn, sharedMemoryOn, Definition1}
+use Rattle.partition.specs.OwnWords.{overInstances, timeOn, memoryOn, sharedMemoryOn, typeAt, Definition1}
 
--- type t, counted from 1: its u, s, n and d; all 0 where there is no such type
+-- type t, counted from 1: its u, s, n, d and q; all 0 and no q where there is no such type
 abbrev pub typeNo : System → ℕ → TaskType
-typeNo y t = getD (y .types) (t - 1) (record { time = 0; memory = 0; ceiling = 0; «data» = 0 })
+typeNo y t = typeAt y (t - 1)
 
 abbrev pub ceilingNo : System → ℕ → ℕ
 ceilingNo y t = typeNo y t .ceiling
@@ -35,8 +36,10 @@ pub record LimitsOut (y : System) : Type 0 where
   pub known : (1 ≤ y .typecount) × (y .typecount ≤ 6)
   pub six : length (y .types) ≡ 6
   pub costs : (t : ℕ) → 1 ≤ t → t ≤ y .typecount → (typeNo y t .time ≤ 1000000) × (typeNo y t .memory ≤ 1000000) × (typeNo y t .data ≤ 1000000)
-  -- "an entry for .. a type past k (the system's own u, s and n too)" is 0, and so is its d
-  pub past : (t : ℕ) → y .typecount < t → (typeNo y t .time ≡ 0) × (typeNo y t .memory ≡ 0) × (typeNo y t .ceiling ≡ 0) × (typeNo y t .data ≡ 0)
+  -- a q that is given is not 0 (request 2026-04)
+  pub replicas : (t q : ℕ) → 1 ≤ t → t ≤ y .typecount → typeNo y t .most ≡ AtMost q → 1 ≤ q
+  -- "an entry for .. a type past k (the system's own u, s and n too)" is 0, and so is its d, and it has no q
+  pub past : (t : ℕ) → y .typecount < t → (typeNo y t .time ≡ 0) × (typeNo y t .memory ≡ 0) × (typeNo y t .ceiling ≡ 0) × (typeNo y t .data ≡ 0) × (typeNo y t .most ≡ NotGiven)
   pub columns : columnsOut y ≤ 1024
 
 -- "m identical engines, numbered 1 to m"

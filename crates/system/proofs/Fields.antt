@@ -1,20 +1,22 @@
--- What a field that is read does to the system so far: a type is one more, with d 0, and a tag 3 sets d of the last type and nothing else (request 2026-03).
+-- What a field that is read does to the system so far: a type is one more, with d 0 and no q; a tag 3 sets d of the last type and nothing else (request 2026-03), and a tag 4 its q and nothing else (2026-04).
 use Prim.Native.Nat.{ℕ, suc, _-_, _≤_, _<_}
 use native.Mathlib.Omega.{arith}
 use mathlib.Core.List.{List}
 use mathlib.Core.Bool.{true}
 use mathlib.Core.Path.{_≡_, refl, ap, _∙_, subst}
-use borrow.Author.Tests.{le-leb, lt-leb, leb-false}
+use borrow.Author.Tests.{le-leb, lt-leb, leb-false, ne-eqb}
 use lib.ListN.{length, getD}
 use lib.Seq.{getD-set-same, getD-set-other}
 use lib.Dec.{leb}
+use Rattle.system.specs.declared.Most.the-variants.{NotGiven, AtMost}
 use Rattle.system.specs.declared.TaskType.{TaskType}
 use Rattle.system.specs.declared.System.{System}
 use Rattle.system.specs.declared.rules.FieldRule.{FieldRule}
-use Rattle.system.specs.Values.{taskOf, withData, noTask, withType, lastType, withLast}
-use Rattle.system.specs.Limits.{typeLimit, sizeLimit, typeFault}
-use Rattle.system.specs.Layout.{typeRule, dataRule, follows, mayFollow, opened, unread, byteAt, word2, word4, bodyPart, typeFrom, typeOf, dataFrom, bodyOf, fieldOf}
-use Rattle.system.proofs.Laws.{passes, no-fault, Sound, OneOf, a-platform, a-type, a-data, data-after-type, fieldOf-opened}
+use Rattle.system.specs.declared.reader.Head.the-variants.{Ruled}
+use Rattle.system.specs.Values.{taskOf, withData, withMost, noTask, withType, lastType, withLast}
+use Rattle.system.specs.Limits.{typeLimit, sizeLimit, typeFault, mostFault}
+use Rattle.system.specs.Layout.{typeRule, dataRule, mostRule, follows, mayFollow, opened, unread, byteAt, word2, word4, bodyPart, typeFrom, typeOf, dataFrom, mostFrom, headOf, bodyOf, ruledField, fieldOf, readFile}
+use Rattle.system.proofs.Laws.{some-replica, passes, no-fault, Sound, OneOf, a-platform, a-type, a-data, a-most, part-later, fieldOf-opened, read-limits}
 
 -- type t, counted from 0
 abbrev typeAt : System → ℕ → TaskType
@@ -27,7 +29,7 @@ pub record SamePlatform (y z : System) : Type 0 where
   pub timecap : z .timecap ≡ y .timecap
   pub memorycap : z .memorycap ≡ y .memorycap
 
--- one type more, with these u, s and n and with d 0
+-- one type more, with these u, s and n, with d 0 and without q
 pub record AddsType (u s n : ℕ) (y z : System) : Type 0 where
   pub platform : SamePlatform y z
   pub typecount : z .typecount ≡ suc (y .typecount)
@@ -35,6 +37,7 @@ pub record AddsType (u s n : ℕ) (y z : System) : Type 0 where
   pub memory : typeAt z (y .typecount) .memory ≡ s
   pub ceiling : typeAt z (y .typecount) .ceiling ≡ n
   pub no-data : typeAt z (y .typecount) .data ≡ 0
+  pub no-most : typeAt z (y .typecount) .most ≡ NotGiven
   pub others : (i : ℕ) → (i ≡ y .typecount → ⊥) → typeAt z i ≡ typeAt y i
 
 -- d of the last type
@@ -46,10 +49,23 @@ pub record SetsData (d : ℕ) (y z : System) : Type 0 where
   pub memory : typeAt z (y .typecount - 1) .memory ≡ typeAt y (y .typecount - 1) .memory
   pub ceiling : typeAt z (y .typecount - 1) .ceiling ≡ typeAt y (y .typecount - 1) .ceiling
   pub data-set : typeAt z (y .typecount - 1) .data ≡ d
+  pub most : typeAt z (y .typecount - 1) .most ≡ typeAt y (y .typecount - 1) .most
   pub others : (i : ℕ) → (i ≡ y .typecount - 1 → ⊥) → typeAt z i ≡ typeAt y i
 
-adds-type : (t : TaskType) (y : System) → y .typecount < length (y .types) → t .data ≡ 0 → AddsType (t .time) (t .memory) (t .ceiling) y (withType t y)
-adds-type t y h none =
+-- q of the last type
+pub record SetsMost (q : ℕ) (y z : System) : Type 0 where
+  pub platform : SamePlatform y z
+  pub some-type : 0 < y .typecount
+  pub typecount : z .typecount ≡ y .typecount
+  pub time : typeAt z (y .typecount - 1) .time ≡ typeAt y (y .typecount - 1) .time
+  pub memory : typeAt z (y .typecount - 1) .memory ≡ typeAt y (y .typecount - 1) .memory
+  pub ceiling : typeAt z (y .typecount - 1) .ceiling ≡ typeAt y (y .typecount - 1) .ceiling
+  pub «data» : typeAt z (y .typecount - 1) .data ≡ typeAt y (y .typecount - 1) .data
+  pub most-set : typeAt z (y .typecount - 1) .most ≡ AtMost q
+  pub others : (i : ℕ) → (i ≡ y .typecount - 1 → ⊥) → typeAt z i ≡ typeAt y i
+
+adds-type : (t : TaskType) (y : System) → y .typecount < length (y .types) → t .data ≡ 0 → t .most ≡ NotGiven → AddsType (t .time) (t .memory) (t .ceiling) y (withType t y)
+adds-type t y h none no-limit =
     let new = getD-set-same (y .types) (y .typecount) t noTask h in
     record {
       platform = record { engines = refl; rule = refl; timecap = refl; memorycap = refl };
@@ -58,6 +74,7 @@ adds-type t y h none =
       memory = ap (λ (x : TaskType). x .memory) new;
       ceiling = ap (λ (x : TaskType). x .ceiling) new;
       no-data = ap (λ (x : TaskType). x .data) new ∙ none;
+      no-most = ap (λ (x : TaskType). x .most) new ∙ no-limit;
       others = λ i n. getD-set-other (y .types) (y .typecount) i t noTask n;
     }
 
@@ -73,6 +90,23 @@ sets-data d y some h =
       memory = ap (λ (x : TaskType). x .memory) new;
       ceiling = ap (λ (x : TaskType). x .ceiling) new;
       data-set = ap (λ (x : TaskType). x .data) new;
+      most = ap (λ (x : TaskType). x .most) new;
+      others = λ i n. getD-set-other (y .types) (y .typecount - 1) i t noTask n;
+    }
+
+sets-most : (q : ℕ) (y : System) → 0 < y .typecount → y .typecount ≤ length (y .types) → SetsMost q y (withLast (withMost q (lastType y)) y)
+sets-most q y some h =
+    let t = withMost q (lastType y) in
+    let new = getD-set-same (y .types) (y .typecount - 1) t noTask (omega arith) in
+    record {
+      platform = record { engines = refl; rule = refl; timecap = refl; memorycap = refl };
+      some-type = some;
+      typecount = refl;
+      time = ap (λ (x : TaskType). x .time) new;
+      memory = ap (λ (x : TaskType). x .memory) new;
+      ceiling = ap (λ (x : TaskType). x .ceiling) new;
+      «data» = ap (λ (x : TaskType). x .data) new;
+      most-set = ap (λ (x : TaskType). x .most) new;
       others = λ i n. getD-set-other (y .types) (y .typecount - 1) i t noTask n;
     }
 
@@ -85,11 +119,12 @@ module _ (s : List ℕ) (last : ℕ) (y z : System) (sound : Sound last y) (read
       at : (r : FieldRule) → r .tag ≡ typeRule .tag → bodyOf r (bodyPart s) y ≡ opened z → OneOf r → AddsType (word4 (bodyPart s) 0) (word4 (bodyPart s) 4) (word2 (bodyPart s) 8) y z
       at r tag e (a-platform w) = absurd (omega (arith, ap (λ (x : FieldRule). x .tag) w))
       at r tag e (a-data w) = absurd (omega (arith, ap (λ (x : FieldRule). x .tag) w))
+      at r tag e (a-most w) = absurd (omega (arith, ap (λ (x : FieldRule). x .tag) w))
       at r tag e (a-type w) =
           let t = taskOf (word4 (bodyPart s) 0) (word4 (bodyPart s) 4) (word2 (bodyPart s) 8) in
           let q = passes (leb typeLimit (y .typecount)) 7 (typeOf (bodyPart s) y) z (rw w at e) in
           subst (AddsType (t .time) (t .memory) (t .ceiling) y) (no-fault (typeFault t) (withType t y) z (q .1) .1)
-          (adds-type t y (omega (arith, sound .six, leb-false typeLimit (y .typecount) (q .0))) refl)
+          (adds-type t y (omega (arith, sound .six, leb-false typeLimit (y .typecount) (q .0))) refl refl)
 
   pub data-sets : byteAt s 0 ≡ dataRule .tag → SetsData (word4 (bodyPart s) 0) y z
   unfolding bodyOf dataFrom
@@ -98,11 +133,24 @@ module _ (s : List ℕ) (last : ℕ) (y z : System) (sound : Sound last y) (read
       at : (r : FieldRule) → r .tag ≡ dataRule .tag → mayFollow follows last (r .tag) ≡ true → bodyOf r (bodyPart s) y ≡ opened z → OneOf r → SetsData (word4 (bodyPart s) 0) y z
       at r tag p e (a-platform w) = absurd (omega (arith, ap (λ (x : FieldRule). x .tag) w))
       at r tag p e (a-type w) = absurd (omega (arith, ap (λ (x : FieldRule). x .tag) w))
+      at r tag p e (a-most w) = absurd (omega (arith, ap (λ (x : FieldRule). x .tag) w))
       at r tag p e (a-data w) =
           let t = withData (word4 (bodyPart s) 0) (lastType y) in
-          let after = data-after-type last .0 (rw w at p) in
           subst (SetsData (word4 (bodyPart s) 0) y) (no-fault (typeFault t) (withLast t y) z (rw w at e) .1)
-          (sets-data (word4 (bodyPart s) 0) y (sound .some-type (omega arith)) (omega (arith, sound .six, sound .typecount)))
+          (sets-data (word4 (bodyPart s) 0) y (sound .some-type (part-later r last (a-data w) (omega arith) p)) (omega (arith, sound .six, sound .typecount)))
+
+  pub most-sets : byteAt s 0 ≡ mostRule .tag → SetsMost (word2 (bodyPart s) 0) y z
+  unfolding bodyOf mostFrom
+  most-sets is = let a = fieldOf-opened s last y z read in at (a .rule) (a .passed .rule .same-tag ∙ is) (a .passed .place) (a .body) (a .passed .rule .which)
+    where
+      at : (r : FieldRule) → r .tag ≡ mostRule .tag → mayFollow follows last (r .tag) ≡ true → bodyOf r (bodyPart s) y ≡ opened z → OneOf r → SetsMost (word2 (bodyPart s) 0) y z
+      at r tag p e (a-platform w) = absurd (omega (arith, ap (λ (x : FieldRule). x .tag) w))
+      at r tag p e (a-type w) = absurd (omega (arith, ap (λ (x : FieldRule). x .tag) w))
+      at r tag p e (a-data w) = absurd (omega (arith, ap (λ (x : FieldRule). x .tag) w))
+      at r tag p e (a-most w) =
+          let t = withMost (word2 (bodyPart s) 0) (lastType y) in
+          subst (SetsMost (word2 (bodyPart s) 0) y) (no-fault (mostFault (t .most)) (withLast t y) z (rw w at e) .1)
+          (sets-most (word2 (bodyPart s) 0) y (sound .some-type (part-later r last (a-most w) (omega arith) p)) (omega (arith, sound .six, sound .typecount)))
 
 -- d is judged alone: over 1,000,000 it is refused 8, and any other is read
 module _ (d last : ℕ) (y : System) (sound : Sound last y) where
@@ -117,3 +165,21 @@ module _ (d last : ℕ) (y : System) (sound : Sound last y) where
   data-within h =
       let t = sound .sized (y .typecount - 1) in
       rw (le-leb (lastType y .time) sizeLimit (t .time), le-leb (lastType y .memory) sizeLimit (t .memory), le-leb d sizeLimit h)
+
+-- q is judged alone: 0 is refused 31, and any other is read
+pub most-zero : (y : System) → mostFrom 0 y ≡ unread 31
+unfolding mostFrom
+most-zero y = refl
+
+pub most-within : (q : ℕ) (y : System) → 1 ≤ q → mostFrom q y ≡ opened (withLast (withMost q (lastType y)) y)
+unfolding mostFrom
+most-within q y h = rw (ne-eqb q 0 (λ none. omega arith))
+
+-- of a whole field that refusals 1 to 4 do not stop
+pub most-zero-field : (s : List ℕ) (last : ℕ) (y : System) → headOf s last ≡ Ruled mostRule → word2 (bodyPart s) 0 ≡ 0 → fieldOf s last y ≡ unread 31
+unfolding fieldOf ruledField bodyOf
+most-zero-field s last y head none = rw head (ap (λ (q : ℕ). mostFrom q y) none ∙ most-zero y)
+
+-- and of a whole file: no q of a system that is read is 0
+pub read-replicas : (file : List ℕ) (y : System) → readFile file ≡ opened y → (i q : ℕ) → typeAt y i .most ≡ AtMost q → 1 ≤ q
+read-replicas file y read i q is = some-replica (typeAt y i .most) q (read-limits file y read .replicas i) is

@@ -17,13 +17,13 @@ use Rattle.system.specs.declared.reader.Head.the-variants.{Ruled, Stops}
 use Rattle.system.specs.declared.reader.Field.{Field}
 use Rattle.system.specs.declared.Answer.the-variants.{Accepted}
 use Rattle.system.specs.declared.Opened.{Opened}
-use Rattle.system.specs.Inner.{partOf, Typed, Placed}
+use Rattle.system.specs.Inner.{partOf, Typed, BodyReady}
 use Rattle.system.specs.Values.{blank}
 use Rattle.system.specs.Limits.{typeLimit}
-use Rattle.system.specs.Rules.{typeRule, dataRule, fieldRules, ruleOf, follows, mayFollow, headSize}
-use Rattle.system.specs.Layout.{Reading, opened, unread, byteAt, word2, fieldSize, wholeField, bodyPart, fieldAt, bodyAt, seenOf, platformOf, typeOf, dataOf}
+use Rattle.system.specs.Rules.{typeRule, dataRule, mostRule, fieldRules, ruleOf, follows, mayFollow, headSize}
+use Rattle.system.specs.Layout.{Reading, opened, unread, byteAt, word2, fieldSize, wholeField, bodyPart, fieldAt, bodyAt, seenOf, platformOf, typeOf, dataOf, mostOf}
 use Rattle.system.specs.Layout.{ruledHead, headFrom, headOf, bodyOf, ruledField, fieldOf, endOf, afterField, fieldsFrom, readFile, Reads}
-use Rattle.system.proofs.Laws.{whole-inside, body-is, OneOf, a-platform, a-type, a-data, data-after-type, headFrom-ruled, fieldOf-opened, fieldsFrom-nil, only-accepted, reads-opened}
+use Rattle.system.proofs.Laws.{whole-inside, body-is, OneOf, a-platform, a-type, a-data, a-most, part-later, headFrom-ruled, fieldOf-opened, fieldsFrom-nil, only-accepted, reads-opened}
 use Rattle.system.proofs.Laws.{Sound, sound-blank, sound-field}
 
 -- The field step, where s is what is left of the file
@@ -103,20 +103,18 @@ module _ (headed : Bool) (tag size : ℕ) (whole : Bool) (last : ℕ) (found : R
       unfolding ruledHead
       head-ruled e w = rw (head-found, known, place, eq-eqb size (rule .body) e, w)
 
--- no rule allows more than six, and d comes where there is a type to have it
+-- no rule allows more than six, and d and q come where there is a type to have them
 rule-six : (rule : FieldRule) → OneOf rule → rule .allowed ≤ typeLimit
 rule-six rule (a-platform w) = rw w (lit≤ tt)
 rule-six rule (a-type w) = rw w (lit≤ tt)
 rule-six rule (a-data w) = rw w (lit≤ tt)
+rule-six rule (a-most w) = rw w (lit≤ tt)
 
-pub ruled-placed : (headed : Bool) (tag size : ℕ) (whole : Bool) (last : ℕ) (y : System) {rule : FieldRule} → (1 < last → Typed y)
-    → Ruled rule ≡ headFrom headed tag size whole last → Placed rule y
-ruled-placed headed tag size whole last y {rule = rule} typed e =
+pub ruled-ready : (headed : Bool) (tag size : ℕ) (whole : Bool) (last : ℕ) (y : System) {rule : FieldRule} → (1 < last → Typed y)
+    → Ruled rule ≡ headFrom headed tag size whole last → BodyReady rule y
+ruled-ready headed tag size whole last y {rule = rule} typed e =
     let p = headFrom-ruled headed tag size whole last rule (sym e) in
-    record {
-      allowed = rule-six rule (p .rule .which);
-      typed = λ d. let after = data-after-type last .0 (rw d at (p .place)) in typed (omega arith);
-    }
+    record { allowed = rule-six rule (p .rule .which); typed = λ h. typed (part-later rule last (p .rule .which) h (p .place)) }
 
 -- A body
 
@@ -135,10 +133,26 @@ module _ (rule : FieldRule) (b : List ℕ) (y : System) (x : Opened) (seen : ℕ
     body-data d read =
         rw (lt-leb (rule .allowed) (seenOf (rule .tag) y) (omega arith), ne-eqb (rule .tag) (typeRule .tag) other, eq-eqb (rule .tag) (dataRule .tag) d) read
 
-    pub body-platform : (rule .tag ≡ dataRule .tag → ⊥) → Reads (platformOf b y) x → Reads (bodyOf rule b y) x
-    unfolding bodyOf
-    body-platform d read =
-        rw (lt-leb (rule .allowed) (seenOf (rule .tag) y) (omega arith), ne-eqb (rule .tag) (typeRule .tag) other, ne-eqb (rule .tag) (dataRule .tag) d) read
+    module _ (no-data : rule .tag ≡ dataRule .tag → ⊥) where
+      pub body-most : rule .tag ≡ mostRule .tag → Reads (mostOf b y) x → Reads (bodyOf rule b y) x
+      unfolding bodyOf
+      body-most q read =
+          rw (
+            lt-leb (rule .allowed) (seenOf (rule .tag) y) (omega arith),
+            ne-eqb (rule .tag) (typeRule .tag) other,
+            ne-eqb (rule .tag) (dataRule .tag) no-data,
+            eq-eqb (rule .tag) (mostRule .tag) q,
+          ) read
+
+      pub body-platform : (rule .tag ≡ mostRule .tag → ⊥) → Reads (platformOf b y) x → Reads (bodyOf rule b y) x
+      unfolding bodyOf
+      body-platform q read =
+          rw (
+            lt-leb (rule .allowed) (seenOf (rule .tag) y) (omega arith),
+            ne-eqb (rule .tag) (typeRule .tag) other,
+            ne-eqb (rule .tag) (dataRule .tag) no-data,
+            ne-eqb (rule .tag) (mostRule .tag) q,
+          ) read
 
 pub types-seen : (tag : ℕ) (y : System) → tag ≡ typeRule .tag → seenOf tag y ≡ y .typecount
 types-seen tag y e = rw (eq-eqb tag (typeRule .tag) e)

@@ -5,11 +5,13 @@ use native.Mathlib.Nat.{mul-pos, mul-le-mul-left, mul-le-mul-right, min-eq-left,
 use mathlib.Core.List.{List, [], _∷_}
 use mathlib.Core.Bool.{Bool, true, false, not, cond, _&&_, _||_, and-eq-true-iff, false≢true}
 use mathlib.Core.Path.{_≡_, refl, sym, ap, _∙_, subst}
-use mathlib.Core.Logic.{_↔_}
-use borrow.Author.Tests.{leb-true, leb-false, eqb-true, eqb-false, le-leb, eq-eqb, not-false}
+use mathlib.Core.Logic.{_↔_, _⊎_, inl, inr, ⊎-elim}
+use borrow.Author.Tests.{leb-true, leb-false, eqb-true, eqb-false, le-leb, eq-eqb, ne-eqb, not-false}
 use lib.ListN.{length, getD, set, take, drop, length-set, length-drop, replicate}
 use lib.Seq.{getD-set-other, drop-drop}
 use lib.Dec.{leb, eqb}
+use Rattle.system.specs.declared.Most.{Most}
+use Rattle.system.specs.declared.Most.the-variants.{NotGiven, AtMost}
 use Rattle.system.specs.declared.TaskType.{TaskType}
 use Rattle.system.specs.declared.System.{System}
 use Rattle.system.specs.declared.rules.FieldRule.{FieldRule}
@@ -22,11 +24,12 @@ use Rattle.system.specs.declared.Answer.{Answer}
 use Rattle.system.specs.declared.Answer.the-variants.{Accepted, Number, Refused}
 use Rattle.system.specs.declared.Refusal.the-variants.{Input, State}
 use Rattle.system.specs.Inner.{partOf}
-use Rattle.system.specs.Values.{taskOf, withData, noTask, blank, withPlatform, withType, lastType, withLast, ceilingsOf}
+use Rattle.system.specs.Values.{taskOf, withData, withMost, noTask, blank, withPlatform, withType, lastType, withLast, ceilingsOf}
 use Rattle.system.specs.Limits.{engineLimit, typeLimit, sizeLimit, columnLimit, columnsOf, columns}
-use Rattle.system.specs.Limits.{sizeFault, platformFault, typeFault, columnsFault, zeroTask, typesKeep, keepsLimits}
+use Rattle.system.specs.Limits.{sizeFault, platformFault, typeFault, mostFault, columnsFault, notGiven, zeroTask, soundTask, typesKeep, keepsLimits}
 use Rattle.system.specs.Layout.{Reading, opened, unread, byteAt, word2, word4, headSize, fieldSize, headedField, wholeField, bodyPart, fieldAt, bodyAt}
-use Rattle.system.specs.Layout.{platformRule, typeRule, dataRule, fieldRules, ruleOf, follows, mayFollow, unlessFault, platformFrom, platformOf, typeFrom, typeOf, dataFrom, dataOf}
+use Rattle.system.specs.Layout.{platformRule, typeRule, dataRule, mostRule, fieldRules, ruleOf, follows, mayFollow, unlessFault}
+use Rattle.system.specs.Layout.{platformFrom, platformOf, typeFrom, typeOf, dataFrom, dataOf, mostFrom, mostOf}
 use Rattle.system.specs.Layout.{ruledHead, headFrom, headOf, bodyOf, ruledField, fieldOf, endOf, afterField, fieldsFrom, readFile, Reads}
 use Rattle.system.specs.Outcome.{accepted, refused, fromInput, outcomeOf}
 
@@ -65,24 +68,31 @@ within-limit c = go (leb c columnLimit) refl
 
 -- The types of a system that keeps the limits
 
+not-given : (m : Most) → notGiven m ≡ true → m ≡ NotGiven
+not-given NotGiven e = refl
+not-given (AtMost q) e = absurd (false≢true e)
+
 zero-task : (t : TaskType) → zeroTask t ≡ true → t ≡ noTask
 zero-task t e =
-    let last = and-parts (eqb (t .time) 0 && eqb (t .memory) 0 && eqb (t .ceiling) 0) (eqb (t .data) 0) e in
+    let numbers = eqb (t .time) 0 && eqb (t .memory) 0 && eqb (t .ceiling) 0 && eqb (t .data) 0 in
+    let none = and-parts numbers (notGiven (t .most)) e in
+    let last = and-parts (eqb (t .time) 0 && eqb (t .memory) 0 && eqb (t .ceiling) 0) (eqb (t .data) 0) (none .0) in
     let p = and-three (eqb (t .time) 0) (eqb (t .memory) 0) (eqb (t .ceiling) 0) (last .0) in
     let time = eqb-true (t .time) 0 (p .0) in
     let memory = eqb-true (t .memory) 0 (p .1) in
     let ceiling = eqb-true (t .ceiling) 0 (p .2) in
     let extra = eqb-true (t .data) 0 (last .1) in
-    λ i. record { time = time i; memory = memory i; ceiling = ceiling i; «data» = extra i }
+    let most = not-given (t .most) (none .1) in
+    λ i. record { time = time i; memory = memory i; ceiling = ceiling i; «data» = extra i; most = most i }
 
--- past k a task is 0
+-- past k a task is 0, and has no q
 types-past : (k : ℕ) (ts : List TaskType) → typesKeep k ts ≡ true → (i : ℕ) → k ≤ i → getD ts i noTask ≡ noTask
 unfolding typesKeep
 types-past k [] e i h = refl
 types-past zero (t ∷ ts) e zero h = zero-task t (and-parts (zeroTask t) (typesKeep zero ts) e .0)
 types-past zero (t ∷ ts) e (suc i) h = types-past zero ts (and-parts (zeroTask t) (typesKeep zero ts) e .1) i zero-le
 types-past (suc k) (t ∷ ts) e zero h = absurd (omega arith)
-types-past (suc k) (t ∷ ts) e (suc i) h = types-past k ts (and-parts (eqb (typeFault t) 0) (typesKeep k ts) e .1) i (omega arith)
+types-past (suc k) (t ∷ ts) e (suc i) h = types-past k ts (and-parts (soundTask t) (typesKeep k ts) e .1) i (omega arith)
 
 -- every task is within the limits of u, s and d
 pub record Sized (t : TaskType) : Type 0 where
@@ -108,16 +118,39 @@ sized-task t e =
     let p = and-three u s d (faultless (u && s && d) 8 0 (omega arith) e .0) in
     record { time = leb-true (t .time) sizeLimit (p .0); memory = leb-true (t .memory) sizeLimit (p .1); «data» = leb-true (t .data) sizeLimit (p .2) }
 
-sized-zero : (t : TaskType) → t ≡ noTask → Sized t
-sized-zero t e = subst Sized (sym e) (record { time = zero-le; memory = zero-le; «data» = zero-le })
+sized-none : Sized noTask
+sized-none = record { time = zero-le; memory = zero-le; «data» = zero-le }
 
-types-sized : (k : ℕ) (ts : List TaskType) → typesKeep k ts ≡ true → (i : ℕ) → Sized (getD ts i noTask)
+-- q of a task: not given, or not 0
+abbrev Limited : TaskType → Type 0
+Limited t = mostFault (t .most) ≡ 0
+
+-- the same in plain words
+pub some-replica : (m : Most) (q : ℕ) → mostFault m ≡ 0 → m ≡ AtMost q → 1 ≤ q
+some-replica m q e is = go (eqb q 0) refl (rw is at e)
+  where
+    go : (b : Bool) → eqb q 0 ≡ b → cond {A = ℕ} b 31 0 ≡ 0 → 1 ≤ q
+    go true p e = absurd (omega arith)
+    go false p e = omega (arith, eqb-false q 0 p)
+
+pub replicas-keep : (m : Most) → ((q : ℕ) → m ≡ AtMost q → 1 ≤ q) → mostFault m ≡ 0
+replicas-keep NotGiven some = refl
+replicas-keep (AtMost q) some = rw (ne-eqb q 0 (λ none. omega (arith, some q refl)))
+
+-- the two tests of an entry
+sound-task : (t : TaskType) → soundTask t ≡ true → Sized t × Limited t
+sound-task t e =
+    let p = and-parts (eqb (typeFault t) 0) (eqb (mostFault (t .most)) 0) e in
+    (sized-task t (eqb-true (typeFault t) 0 (p .0)), eqb-true (mostFault (t .most)) 0 (p .1))
+
+-- what every sound task has, and one past k, every entry has
+types-have : (P : TaskType → Type 0) → P noTask → ((t : TaskType) → soundTask t ≡ true → P t) → (k : ℕ) (ts : List TaskType) → typesKeep k ts ≡ true → (i : ℕ) → P (getD ts i noTask)
 unfolding typesKeep
-types-sized k [] e i = sized-zero noTask refl
-types-sized zero (t ∷ ts) e zero = sized-zero t (zero-task t (and-parts (zeroTask t) (typesKeep zero ts) e .0))
-types-sized zero (t ∷ ts) e (suc i) = types-sized zero ts (and-parts (zeroTask t) (typesKeep zero ts) e .1) i
-types-sized (suc k) (t ∷ ts) e zero = sized-task t (eqb-true (typeFault t) 0 (and-parts (eqb (typeFault t) 0) (typesKeep k ts) e .0))
-types-sized (suc k) (t ∷ ts) e (suc i) = types-sized k ts (and-parts (eqb (typeFault t) 0) (typesKeep k ts) e .1) i
+types-have P none sound k [] e i = none
+types-have P none sound zero (t ∷ ts) e zero = subst P (sym (zero-task t (and-parts (zeroTask t) (typesKeep zero ts) e .0))) none
+types-have P none sound zero (t ∷ ts) e (suc i) = types-have P none sound zero ts (and-parts (zeroTask t) (typesKeep zero ts) e .1) i
+types-have P none sound (suc k) (t ∷ ts) e zero = sound t (and-parts (soundTask t) (typesKeep k ts) e .0)
+types-have P none sound (suc k) (t ∷ ts) e (suc i) = types-have P none sound k ts (and-parts (soundTask t) (typesKeep k ts) e .1) i
 
 -- Every limit of document 01 as a plain fact
 pub record Limits (y : System) : Type 0 where
@@ -130,10 +163,11 @@ pub record Limits (y : System) : Type 0 where
   pub typecount : y .typecount ≤ typeLimit
   pub six : length (y .types) ≡ typeLimit
   pub columns : columnsOf (ceilingsOf y) ≤ columnLimit
-  -- entries past k are 0
+  -- entries past k are 0, and have no q
   pub past : (i : ℕ) → y .typecount ≤ i → getD (y .types) i noTask ≡ noTask
-  -- u, s and d of every entry
+  -- u, s and d of every entry, and its q
   pub sized : (i : ℕ) → Sized (getD (y .types) i noTask)
+  pub replicas : (i : ℕ) → mostFault (getD (y .types) i noTask .most) ≡ 0
 
 -- a platform's numbers within the limits
 record Platform (m r u s : ℕ) : Type 0 where
@@ -181,7 +215,8 @@ limits-of y q =
       six = eqb-true (length (y .types)) typeLimit (p .3);
       columns = columns-kept y (eqb-true (columnsFault (y .types)) 0 (p .5));
       past = types-past (y .typecount) (y .types) (p .4);
-      sized = types-sized (y .typecount) (y .types) (p .4);
+      sized = types-have Sized sized-none (λ t h. sound-task t h .0) (y .typecount) (y .types) (p .4);
+      replicas = types-have Limited refl (λ t h. sound-task t h .1) (y .typecount) (y .types) (p .4);
     }
 
 -- the other way
@@ -192,13 +227,16 @@ sizes-keep u s p q = rw (le-leb u sizeLimit p, le-leb s sizeLimit q)
 pub sized-test : (t : TaskType) → Sized t → eqb (typeFault t) 0 ≡ true
 sized-test t h = rw (le-leb (t .time) sizeLimit (h .time), le-leb (t .memory) sizeLimit (h .memory), le-leb (t .data) sizeLimit (h .data))
 
-types-keep : (k : ℕ) (ts : List TaskType) → ((i : ℕ) → k ≤ i → getD ts i noTask ≡ noTask) → ((i : ℕ) → Sized (getD ts i noTask)) → typesKeep k ts ≡ true
+types-keep : (k : ℕ) (ts : List TaskType) → ((i : ℕ) → k ≤ i → getD ts i noTask ≡ noTask) → ((i : ℕ) → Sized (getD ts i noTask)) → ((i : ℕ) → Limited (getD ts i noTask)) → typesKeep k ts ≡ true
 unfolding typesKeep
-types-keep k [] past sized = refl
-types-keep zero (t ∷ ts) past sized =
-    and-both (zeroTask t) (typesKeep zero ts) (ap zeroTask (past zero zero-le)) (types-keep zero ts (λ i h. past (suc i) zero-le) (λ i. sized (suc i)))
-types-keep (suc k) (t ∷ ts) past sized =
-    and-both (eqb (typeFault t) 0) (typesKeep k ts) (sized-test t (sized zero)) (types-keep k ts (λ i h. past (suc i) (omega arith)) (λ i. sized (suc i)))
+types-keep k [] past sized limited = refl
+types-keep zero (t ∷ ts) past sized limited =
+    and-both (zeroTask t) (typesKeep zero ts) (ap zeroTask (past zero zero-le))
+    (types-keep zero ts (λ i h. past (suc i) zero-le) (λ i. sized (suc i)) (λ i. limited (suc i)))
+types-keep (suc k) (t ∷ ts) past sized limited =
+    and-both (soundTask t) (typesKeep k ts)
+    (and-both (eqb (typeFault t) 0) (eqb (mostFault (t .most)) 0) (sized-test t (sized zero)) (eq-eqb (mostFault (t .most)) 0 (limited zero)))
+    (types-keep k ts (λ i h. past (suc i) (omega arith)) (λ i. sized (suc i)) (λ i. limited (suc i)))
 
 pub limits-keep : (y : System) → Limits y → keepsLimits y ≡ true
 unfolding keepsLimits
@@ -212,7 +250,7 @@ limits-keep y l =
       le-leb 1 (y .typecount) (l .some-type),
       le-leb (y .typecount) typeLimit (l .typecount),
       eq-eqb (length (y .types)) typeLimit (l .six),
-      types-keep (y .typecount) (y .types) (l .past) (l .sized),
+      types-keep (y .typecount) (y .types) (l .past) (l .sized) (l .replicas),
       le-leb (columns y) columnLimit (l .columns),
     )
 
@@ -238,6 +276,7 @@ pub record Sound (last : ℕ) (y : System) : Type 0 where
   pub six : length (y .types) ≡ typeLimit
   pub past : (i : ℕ) → y .typecount ≤ i → getD (y .types) i noTask ≡ noTask
   pub sized : (i : ℕ) → Sized (getD (y .types) i noTask)
+  pub replicas : (i : ℕ) → mostFault (getD (y .types) i noTask .most) ≡ 0
   platform : (last ≡ 0 → ⊥) → Platform (y .engines) (y .rule) (y .timecap) (y .memorycap)
 
 pub getD-blank : (n i : ℕ) → getD (replicate n noTask) i noTask ≡ noTask
@@ -252,7 +291,8 @@ sound-blank =
       some-type = λ h. absurd (omega arith);
       six = refl;
       past = λ i h. getD-blank typeLimit i;
-      sized = λ i. sized-zero (getD (blank .types) i noTask) (getD-blank typeLimit i);
+      sized = λ i. subst Sized (sym (getD-blank typeLimit i)) sized-none;
+      replicas = λ i. ap (λ (t : TaskType). mostFault (t .most)) (getD-blank typeLimit i);
       platform = λ n. absurd (n refl);
     }
 
@@ -281,6 +321,7 @@ sound-end last y z s e =
       columns = columns-kept y (c .0);
       past = s .past;
       sized = s .sized;
+      replicas = s .replicas;
     }))
 
 -- a platform's body
@@ -295,16 +336,17 @@ sound-platform b last y z s e =
       six = s .six;
       past = s .past;
       sized = s .sized;
+      replicas = s .replicas;
       platform = λ n. platform-kept (byteAt b 0) (byteAt b 1) (word4 b 2) (word4 b 6) (p .0);
     })
 
 -- one entry more
-sized-set : (t : TaskType) (ts : List TaskType) (k : ℕ) → Sized t → ((i : ℕ) → Sized (getD ts i noTask)) → (i : ℕ) → Sized (getD (set ts k t) i noTask)
-sized-set t [] k h all i = all i
-sized-set t (u ∷ ts) zero h all zero = h
-sized-set t (u ∷ ts) zero h all (suc i) = all (suc i)
-sized-set t (u ∷ ts) (suc k) h all zero = all zero
-sized-set t (u ∷ ts) (suc k) h all (suc i) = sized-set t ts k h (λ j. all (suc j)) i
+set-has : (P : TaskType → Type 0) (t : TaskType) (ts : List TaskType) (k : ℕ) → P t → ((i : ℕ) → P (getD ts i noTask)) → (i : ℕ) → P (getD (set ts k t) i noTask)
+set-has P t [] k h all i = all i
+set-has P t (u ∷ ts) zero h all zero = h
+set-has P t (u ∷ ts) zero h all (suc i) = all (suc i)
+set-has P t (u ∷ ts) (suc k) h all zero = all zero
+set-has P t (u ∷ ts) (suc k) h all (suc i) = set-has P t ts k h (λ j. all (suc j)) i
 
 -- a type's body, where there is a platform and room for one more type
 sound-type : (b : List ℕ) (last : ℕ) (y z : System) → Sound last y → (last ≡ 0 → ⊥) → y .typecount < typeLimit → typeOf b y ≡ opened z → Sound (typeRule .tag) z
@@ -318,32 +360,49 @@ sound-type b last y z s first room e =
       some-type = λ h. omega arith;
       six = length-set (y .types) (y .typecount) t ∙ s .six;
       past = λ i h. getD-set-other (y .types) (y .typecount) i t noTask (λ (p : i ≡ y .typecount). omega arith) ∙ s .past i (omega arith);
-      sized = λ i. sized-set t (y .types) (y .typecount) (sized-task t (q .0)) (s .sized) i;
+      sized = set-has Sized t (y .types) (y .typecount) (sized-task t (q .0)) (s .sized);
+      replicas = set-has Limited t (y .types) (y .typecount) refl (s .replicas);
       platform = λ n. s .platform first;
     })
 
--- d of the last type, after a type
-sound-data : (b : List ℕ) (last : ℕ) (y z : System) → Sound last y → last ≡ typeRule .tag → dataOf b y ≡ opened z → Sound (dataRule .tag) z
-unfolding dataFrom
-sound-data b last y z s after e =
-    let t = withData (word4 b 0) (lastType y) in
-    let q = no-fault (typeFault t) (withLast t y) z e in
-    let some = s .some-type (omega arith) in
-    subst (Sound (dataRule .tag)) (q .1)
-    (record {
+-- another type in the last one's place, after a field that is no platform
+sound-last : (t : TaskType) (tag last : ℕ) (y : System) → Sound last y → 1 < last → Sized t → Limited t → Sound tag (withLast t y)
+sound-last t tag last y s after sized limited =
+    let some = s .some-type after in
+    record {
       typecount = s .typecount;
       some-type = λ h. some;
       six = length-set (y .types) (y .typecount - 1) t ∙ s .six;
       past = λ i h. getD-set-other (y .types) (y .typecount - 1) i t noTask (λ (p : i ≡ y .typecount - 1). omega arith) ∙ s .past i h;
-      sized = λ i. sized-set t (y .types) (y .typecount - 1) (sized-task t (q .0)) (s .sized) i;
+      sized = set-has Sized t (y .types) (y .typecount - 1) sized (s .sized);
+      replicas = set-has Limited t (y .types) (y .typecount - 1) limited (s .replicas);
       platform = λ n. s .platform (λ none. omega arith);
-    })
+    }
 
--- the table has the rules of a platform, of a type and of d
+-- d of the last type
+sound-data : (b : List ℕ) (last : ℕ) (y z : System) → Sound last y → 1 < last → dataOf b y ≡ opened z → Sound (dataRule .tag) z
+unfolding dataFrom
+sound-data b last y z s after e =
+    let t = withData (word4 b 0) (lastType y) in
+    let q = no-fault (typeFault t) (withLast t y) z e in
+    subst (Sound (dataRule .tag)) (q .1) (sound-last t (dataRule .tag) last y s after (sized-task t (q .0)) (s .replicas (y .typecount - 1)))
+
+-- its q
+sound-most : (b : List ℕ) (last : ℕ) (y z : System) → Sound last y → 1 < last → mostOf b y ≡ opened z → Sound (mostRule .tag) z
+unfolding mostFrom
+sound-most b last y z s after e =
+    let t = withMost (word2 b 0) (lastType y) in
+    let q = no-fault (mostFault (t .most)) (withLast t y) z e in
+    let sized = s .sized (y .typecount - 1) in
+    subst (Sound (mostRule .tag)) (q .1)
+    (sound-last t (mostRule .tag) last y s after (record { time = sized .time; memory = sized .memory; «data» = sized .data }) (q .0))
+
+-- the table has the rules of a platform, of a type, of d and of q
 pub data OneOf (r : FieldRule) : Type 0 where
   a-platform : r ≡ platformRule → OneOf r
   a-type : r ≡ typeRule → OneOf r
   a-data : r ≡ dataRule → OneOf r
+  a-most : r ≡ mostRule → OneOf r
 
 pub record IsRule (r : FieldRule) (tag : ℕ) : Type 0 where
   pub same-tag : r .tag ≡ tag
@@ -365,7 +424,7 @@ rule-found P (t ∷ ts) tag r all e = go (eqb (t .tag) tag) refl (rule-found P t
 
 pub ruleOf-known : (tag : ℕ) (r : FieldRule) → ruleOf fieldRules tag ≡ Known r → IsRule r tag
 ruleOf-known tag r e =
-    let p = rule-found OneOf fieldRules tag r (a-platform refl, (a-type refl, (a-data refl, tt))) e in
+    let p = rule-found OneOf fieldRules tag r (a-platform refl, (a-type refl, (a-data refl, (a-most refl, tt)))) e in
     record { same-tag = p .0; which = p .1 }
 
 -- a platform is first, and a type is not
@@ -386,6 +445,22 @@ data-after-type last = (λ e. go (eqb 2 last) refl e, λ e. rw e)
     go : (b : Bool) → eqb 2 last ≡ b → cond b true false ≡ true → last ≡ typeRule .tag
     go true q e = sym (eqb-true 2 last q)
     go false q e = absurd (false≢true e)
+
+-- q comes directly after a type or after its d, and nowhere else: not after another q
+pub most-after-type : (last : ℕ) → (mayFollow follows last (mostRule .tag) ≡ true) ↔ ((last ≡ typeRule .tag) ⊎ (last ≡ dataRule .tag))
+most-after-type last = (λ e. go (eqb 2 last) (eqb 3 last) refl refl e, ⊎-elim (λ e. rw e) (λ e. rw e))
+  where
+    go : (b c : Bool) → eqb 2 last ≡ b → eqb 3 last ≡ c → cond b true (cond c true false) ≡ true → (last ≡ typeRule .tag) ⊎ (last ≡ dataRule .tag)
+    go true c p q e = inl (sym (eqb-true 2 last p))
+    go false true p q e = inr (sym (eqb-true 3 last q))
+    go false false p q e = absurd (false≢true e)
+
+-- so both come after a field that is no platform
+pub part-later : (r : FieldRule) (last : ℕ) → OneOf r → typeRule .tag < r .tag → mayFollow follows last (r .tag) ≡ true → 1 < last
+part-later r last (a-platform w) h p = absurd (omega (arith, ap (λ (x : FieldRule). x .tag) w))
+part-later r last (a-type w) h p = absurd (omega (arith, ap (λ (x : FieldRule). x .tag) w))
+part-later r last (a-data w) h p = omega (arith, data-after-type last .0 (rw w at p))
+part-later r last (a-most w) h p = ⊎-elim (λ e. omega arith) (λ e. omega arith) (most-after-type last .0 (rw w at p))
 
 -- a head that passes has a rule, stands in its place, gives the rule's length, and its body stands there
 pub record Passed (tag size : ℕ) (all : Bool) (last : ℕ) (r : FieldRule) : Type 0 where
@@ -429,7 +504,10 @@ sound-body r b last y z s (a-platform w) p e = rw w (sound-platform b last y z s
 sound-body r b last y z s (a-type w) p e =
     let q = passes (leb typeLimit (y .typecount)) 7 (typeOf b y) z (rw w at e) in
     rw w (sound-type b last y z s (type-later last (rw w at p)) (leb-false typeLimit (y .typecount) (q .0)) (q .1))
-sound-body r b last y z s (a-data w) p e = rw w (sound-data b last y z s (data-after-type last .0 (rw w at p)) (rw w at e))
+sound-body r b last y z s (a-data w) p e =
+    rw w (sound-data b last y z s (part-later r last (a-data w) (omega (arith, ap (λ (x : FieldRule). x .tag) w)) p) (rw w at e))
+sound-body r b last y z s (a-most w) p e =
+    rw w (sound-most b last y z s (part-later r last (a-most w) (omega (arith, ap (λ (x : FieldRule). x .tag) w)) p) (rw w at e))
 
 -- a field that is accepted has a head that passes, and its body is accepted
 pub record Accepts (s : List ℕ) (last : ℕ) (y z : System) : Type 0 where

@@ -1,4 +1,4 @@
--- The laws of crate `system`: the `pub` ones are for other crates too, the others for the functions' proofs. `Fields` has what request 2026-03 says of the reader.
+-- The laws of crate `system`: the `pub` ones are for other crates too, the others for the functions' proofs. `Fields` has what requests 2026-03 and 2026-04 say of the reader.
 pub mod Checks
 pub mod Laws
 pub mod Fields

@@ -4,7 +4,7 @@ use native.Mathlib.Omega.{arith}
 use native.Mathlib.Nat.{le-refl, zero-sub}
 use native.Mathlib.Numerals.{unary-clauses}
 use mathlib.Core.List.{List, [], _∷_}
-use mathlib.Core.Bool.{Bool, true, false, not, cond}
+use mathlib.Core.Bool.{Bool, true, false, not, cond, _||_}
 use mathlib.Core.Path.{_≡_, refl, sym, ap, _∙_}
 use borrow.Author.Tests.{leb-true, leb-false, eqb-true, le-leb, lt-leb}
 use lib.ListN.{length, take, drop, length-take, length-drop}
@@ -17,12 +17,13 @@ use Rattle.system.specs.declared.rules.RuleFound.the-variants.{Known, Un
 use Rattle.system.specs.declared.reader.Head.{Head}
 use Rattle.system.specs.declared.reader.Head.the-variants.{Ruled, Stops}
 use Rattle.system.specs.Numbers.{typeLimit, fileBytes}
-use Rattle.system.specs.Values.{taskOf, withData, blank, withPlatform, withType, lastType, withLast}
-use Rattle.system.specs.Limits.{platformFault, typeFault}
+use Rattle.system.specs.Values.{taskOf, withData, withMost, blank, withPlatform, withType, lastType, withLast}
+use Rattle.system.specs.Limits.{platformFault, typeFault, mostFault}
 use Rattle.system.specs.Rules.{fieldRules, ruleOf, follows, mayFollow, headSize, ruledSize, longestField, longestFile}
-use Rattle.system.specs.Layout.{Reading, opened, unread, byteAt, word2, word4, fieldSize, headedField, wholeField, bodyPart, isType, isData, platformFrom, platformOf, typeFrom, typeOf, dataFrom, dataOf}
+use Rattle.system.specs.Layout.{Reading, opened, unread, byteAt, word2, word4, fieldSize, headedField, wholeField, bodyPart, isType, isData, isMost}
+use Rattle.system.specs.Layout.{platformFrom, platformOf, typeFrom, typeOf, dataFrom, dataOf, mostFrom, mostOf}
 use Rattle.system.specs.Layout.{ruledHead, headOf, bodyOf, ruledField, fieldOf, afterField, fieldsFrom, readFile}
-use Rattle.system.proofs.Laws.{passes, no-fault, OneOf, a-platform, a-type, a-data, IsRule, ruleOf-known, headOf-ruled, fieldOf-opened, fieldsFrom-nil}
+use Rattle.system.proofs.Laws.{passes, no-fault, OneOf, a-platform, a-type, a-data, a-most, data-after-type, IsRule, ruleOf-known, headOf-ruled, fieldOf-opened, fieldsFrom-nil}
 
 -- The bytes that the fields still allowed can have, after a field of tag `last` and with the system y so far
 
@@ -30,9 +31,12 @@ use Rattle.system.proofs.Laws.{passes, no-fault, OneOf, a-platform, a-t
 abbrev next : ℕ → ℕ → ℕ
 next tag last = cond (mayFollow follows last tag) 1 0
 
--- how many fields of a rule may still come: the types up to the limit, d for each of them and for the last one where it may stand next, the platform where it may
+-- how many fields of a rule may still come: the types up to the limit, d and q for each of them and for the last one where it may stand next, the platform where it may
 abbrev still : FieldRule → ℕ → System → ℕ
-still r last y = cond (isType (r .tag)) (r .allowed - y .typecount) (cond (isData (r .tag)) (r .allowed - y .typecount + next (r .tag) last) (next (r .tag) last))
+still r last y =
+    cond (isType (r .tag)) (r .allowed - y .typecount)
+    (cond (isData (r .tag) || isMost (r .tag)) (r .allowed - y .typecount + next (r .tag) last)
+    (next (r .tag) last))
 
 abbrev roomFor : List FieldRule → ℕ → System → ℕ
 roomFor [] last y = 0
@@ -59,6 +63,12 @@ data-types b y z e =
     let t = withData (word4 b 0) (lastType y) in
     ap (λ (x : System). x .typecount) (sym (no-fault (typeFault t) (withLast t y) z e .1))
 
+most-types : (b : List ℕ) (y z : System) → mostOf b y ≡ opened z → z .typecount ≡ y .typecount
+unfolding mostFrom
+most-types b y z e =
+    let t = withMost (word2 b 0) (lastType y) in
+    ap (λ (x : System). x .typecount) (sym (no-fault (mostFault (t .most)) (withLast t y) z e .1))
+
 -- an accepted field takes its bytes from the room
 body-room : (r : FieldRule) (b : List ℕ) (last : ℕ) (y z : System) → OneOf r → mayFollow follows last (r .tag) ≡ true
     → bodyOf r b y ≡ opened z → ruledSize r + room (r .tag) z ≤ room last y
@@ -68,7 +78,8 @@ body-room r b last y z (a-type w) p e =
     let q = passes (leb typeLimit (y .typecount)) 7 (typeOf b y) z (rw w at e) in
     let few = leb-false typeLimit (y .typecount) (q .0) in
     rw (w, type-types b y z (q .1)) (omega arith)
-body-room r b last y z (a-data w) p e = rw (w, rw w at p, data-types b y z (rw w at e)) (omega arith)
+body-room r b last y z (a-data w) p e = rw (w, data-after-type last .0 (rw w at p), data-types b y z (rw w at e)) (omega arith)
+body-room r b last y z (a-most w) p e = rw (w, rw w at p, most-types b y z (rw w at e)) (omega arith)
 
 -- so the reading goes on with less room, by the field's size
 record Goes (s : List ℕ) (last : ℕ) (y z : System) : Type 0 where
@@ -105,8 +116,8 @@ fields-refused (suc f) (b ∷ s) last y enough long =
         let left = length-drop (fieldSize (b ∷ s)) (b ∷ s) in
         rest next (omega arith) (omega arith)
 
--- no file that opens is longer than all fields that the rules allow: a platform, six types and their d, 133 bytes
-pub longest-is : longestFile ≡ 133
+-- no file that opens is longer than all fields that the rules allow: a platform, six types, their d and their q, 163 bytes
+pub longest-is : longestFile ≡ 163
 longest-is = refl
 
 pub long-file-refused : (file : List ℕ) → longestFile < length file → (n : ℕ) × (readFile file ≡ unread n)
@@ -153,6 +164,7 @@ module _ (n : ℕ) (s : List ℕ) where
         longest (a-platform w) = rw w (lit≤ tt)
         longest (a-type w) = rw w (lit≤ tt)
         longest (a-data w) = rw w (lit≤ tt)
+        longest (a-most w) = rw w (lit≤ tt)
 
     head-take : (last : ℕ) → headOf (take n s) last ≡ headOf s last
     unfolding headOf ruledHead

@@ -9,10 +9,10 @@ use mathlib.Core.Path.{_≡_, refl, sym, ap, _∙_, subst}
 use borrow.Author.Tests.{lt-ltb, le-ltb}
 use lib.ListN.{length, getD, take, drop, set, replicate, length-append, length-replicate, take-append-drop, drop-of-length-le, replicate-append-replicate}
 use lib.Seq.{drop-cons, length-take-le, set-at}
-use lib.Dec.{ltb, eqb}
+use lib.Dec.{ltb}
 use Rattle.system.specs.declared.TaskType.{TaskType}
 use Rattle.system.specs.Values.{noTask, clearedTypes}
-use Rattle.system.specs.Limits.{typeLimit, columnLimit, columnsOf, typeFault, zeroTask, typesKeep}
+use Rattle.system.specs.Limits.{typeLimit, columnLimit, columnsOf, zeroTask, soundTask, typesKeep}
 use Rattle.system.specs.Rules.{firstOf}
 use Rattle.system.proofs.Laws.{columnsOf-pos}
 
@@ -41,25 +41,25 @@ columns-over ts p total over e =
 -- The types of a system: one entry, then the others
 
 types-step : (k i : ℕ) (ts : List TaskType) (d : TaskType) → i < length ts
-    → typesKeep (k - i) (drop i ts) ≡ cond (ltb i k) (eqb (typeFault (getD ts i d)) 0) (zeroTask (getD ts i d)) && typesKeep (k - (i + 1)) (drop (i + 1) ts)
+    → typesKeep (k - i) (drop i ts) ≡ cond (ltb i k) (soundTask (getD ts i d)) (zeroTask (getD ts i d)) && typesKeep (k - (i + 1)) (drop (i + 1) ts)
 unfolding typesKeep
 types-step k i ts d h = rw (add-one i, drop-cons ts i d h) (at (k - i) refl)
   where
-    at : (n : ℕ) → k - i ≡ n → typesKeep n (getD ts i d ∷ drop (suc i) ts) ≡ cond (ltb i k) (eqb (typeFault (getD ts i d)) 0) (zeroTask (getD ts i d)) && typesKeep (k - suc i) (drop (suc i) ts)
+    at : (n : ℕ) → k - i ≡ n → typesKeep n (getD ts i d ∷ drop (suc i) ts) ≡ cond (ltb i k) (soundTask (getD ts i d)) (zeroTask (getD ts i d)) && typesKeep (k - suc i) (drop (suc i) ts)
     at zero e = let p : k - suc i ≡ 0 = omega arith in rw (le-ltb i k (omega arith), p)
     at (suc n) e = let p : k - suc i ≡ n = omega arith in rw (lt-ltb i k (omega arith), p)
 
 -- the entry fails, so the test does; it holds, so the others decide; none is left
 module _ (k i : ℕ) (ts : List TaskType) where
-  types-turn : (d : TaskType) (b : Bool) → i < length ts → cond (ltb i k) (eqb (typeFault (getD ts i d)) 0) (zeroTask (getD ts i d)) ≡ b → typesKeep (k - i) (drop i ts) ≡ typesKeep k ts
+  types-turn : (d : TaskType) (b : Bool) → i < length ts → cond (ltb i k) (soundTask (getD ts i d)) (zeroTask (getD ts i d)) ≡ b → typesKeep (k - i) (drop i ts) ≡ typesKeep k ts
       → b && typesKeep (k - (i + 1)) (drop (i + 1) ts) ≡ typesKeep k ts
   types-turn d b h e inv = ap (λ (x : Bool). x && typesKeep (k - (i + 1)) (drop (i + 1) ts)) (sym e) ∙ sym (types-step k i ts d h) ∙ inv
 
-  pub types-fail : (d : TaskType) → i < length ts → cond (ltb i k) (eqb (typeFault (getD ts i d)) 0) (zeroTask (getD ts i d)) ≡ false
+  pub types-fail : (d : TaskType) → i < length ts → cond (ltb i k) (soundTask (getD ts i d)) (zeroTask (getD ts i d)) ≡ false
       → typesKeep (k - i) (drop i ts) ≡ typesKeep k ts → false ≡ typesKeep k ts
   types-fail d h e inv = types-turn d false h e inv
 
-  pub types-more : (d : TaskType) → i < length ts → cond (ltb i k) (eqb (typeFault (getD ts i d)) 0) (zeroTask (getD ts i d)) ≡ true
+  pub types-more : (d : TaskType) → i < length ts → cond (ltb i k) (soundTask (getD ts i d)) (zeroTask (getD ts i d)) ≡ true
       → typesKeep (k - i) (drop i ts) ≡ typesKeep k ts → typesKeep (k - (i + 1)) (drop (i + 1) ts) ≡ typesKeep k ts
   types-more d h e inv = types-turn d true h e inv
 

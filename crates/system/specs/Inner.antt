@@ -9,7 +9,7 @@ use Rattle.system.specs.declared.TaskType.{TaskType}
 use Rattle.system.specs.declared.System.{System}
 use Rattle.system.specs.declared.rules.FieldRule.{FieldRule}
 use Rattle.system.specs.Limits.{typeLimit, columnLimit, columnsOf}
-use Rattle.system.specs.Rules.{dataRule}
+use Rattle.system.specs.Rules.{typeRule}
 
 -- the columns of some types where they are within the limit, and one more than the limit where not: what the code holds of the product
 abbrev pub columnsWithin : List TaskType → ℕ
@@ -24,7 +24,7 @@ pub record Typed (y : System) : Type 0 where
   pub some : 0 < y .typecount
   pub most : y .typecount ≤ typeLimit
 
--- what is known of a field's rule where its body is read: it allows no more than six, and d comes where there is a type to have it
-pub record Placed (rule : FieldRule) (y : System) : Type 0 where
+-- what is known of a field's rule where its body is read: it allows no more than six, and d and q come where there is a type to have them
+pub record BodyReady (rule : FieldRule) (y : System) : Type 0 where
   pub allowed : rule .allowed ≤ typeLimit
-  pub typed : rule .tag ≡ dataRule .tag → Typed y
+  pub typed : typeRule .tag < rule .tag → Typed y

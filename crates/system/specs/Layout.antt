@@ -1,10 +1,11 @@
--- Document 01's "System file": what a list of bytes reads as, with refusals 1 to 10 in the order under "From the input".
+-- Document 01's "System file": what a list of bytes reads as, with refusals 1 to 10 and 31 in the order under "From the input".
 use Prim.Native.Nat.{ℕ, zero, suc, _+_, _*_}
 use mathlib.Core.List.{List, [], _∷_}
 use mathlib.Core.Bool.{Bool, not, cond, _||_}
 use mathlib.Core.Path.{_≡_}
 use lib.ListN.{length, getD, take, drop}
 use lib.Dec.{leb, eqb}
+use Rattle.system.specs.declared.Most.the-variants.{AtMost}
 use Rattle.system.specs.declared.TaskType.{TaskType}
 use Rattle.system.specs.declared.System.{System}
 use Rattle.system.specs.declared.rules.FieldRule.{FieldRule}
@@ -14,10 +15,10 @@ use Rattle.system.specs.declared.reader.Head.{Head}
 use Rattle.system.specs.declared.reader.Head.the-variants.{Ruled, Stops}
 use Rattle.system.specs.declared.reader.Field.{Field}
 use Rattle.system.specs.declared.Opened.{Opened}
-use Rattle.system.specs.Values.{taskOf, withData, blank, withPlatform, withType, lastType, withLast}
-use Rattle.system.specs.Limits.{platformFault, typeFault, columnsFault}
+use Rattle.system.specs.Values.{taskOf, withData, withMost, blank, withPlatform, withType, lastType, withLast}
+use Rattle.system.specs.Limits.{platformFault, typeFault, mostFault, columnsFault}
 use Rattle.system.specs.Outcome.{Outcome, accepted, refused, fromInput, outcomeOf}
-pub use Rattle.system.specs.Rules.{platformRule, typeRule, dataRule, fieldRules, follows, mayFollow, headSize, longestField, longestFile}
+pub use Rattle.system.specs.Rules.{platformRule, typeRule, dataRule, mostRule, fieldRules, follows, mayFollow, headSize, longestField, longestFile}
 unfoldable pub use Rattle.system.specs.Rules.{ruleOf}
 
 -- what a file, or a part of one, reads as: a system, or the number of a refusal from the input
@@ -65,14 +66,17 @@ fieldAt file at =
 unfoldable pub bodyAt : List ℕ → ℕ → List ℕ
 bodyAt file at = bodyPart (drop at file)
 
--- the tag of a type, and that of its d
+-- the tag of a type, that of its d, and that of its q
 abbrev pub isType : ℕ → Bool
 isType tag = eqb tag (typeRule .tag)
 
 abbrev pub isData : ℕ → Bool
 isData tag = eqb tag (dataRule .tag)
 
--- how many fields of this tag were read before, where their number decides: that of types. Any other field comes only where it may follow: a platform once, and d once for each type
+abbrev pub isMost : ℕ → Bool
+isMost tag = eqb tag (mostRule .tag)
+
+-- how many fields of this tag were read before, where their number decides: that of types. Any other field comes only where it may follow: a platform once, d and q once for each type
 abbrev pub seenOf : ℕ → System → ℕ
 seenOf tag y = cond (isType tag) (y .typecount) 0
 
@@ -104,7 +108,15 @@ dataFrom d y = unlessFault (typeFault (withData d (lastType y))) (withLast (with
 abbrev pub dataOf : List ℕ → System → Reading
 dataOf b y = dataFrom (word4 b 0) y
 
--- "in one field: start cut (1), 2, 3, 4, body cut (1), 7, then 5, 6, 8". First the head: its tag and length, whether they stand there, and whether the body does
+-- q of the last type: 31
+unfoldable pub mostFrom : ℕ → System → Reading
+mostFrom q y = unlessFault (mostFault (AtMost q)) (withLast (withMost q (lastType y)) y)
+
+-- its body: q (2)
+abbrev pub mostOf : List ℕ → System → Reading
+mostOf b y = mostFrom (word2 b 0) y
+
+-- "in one field: start cut (1), 2, 3, 4, body cut (1), 7, then 5, 6, 8", and 31 "after 8" (request 2026-04). First the head: its tag and length, whether they stand there, and whether the body does
 unfoldable pub ruledHead : RuleFound → ℕ → Bool → ℕ → Head
 ruledHead Unknown size whole last = Stops 2
 ruledHead (Known r) size whole last =
@@ -125,7 +137,8 @@ bodyOf r b y =
     cond (leb (r .allowed) (seenOf (r .tag) y)) (unread 7)
     (cond (isType (r .tag)) (typeOf b y)
     (cond (isData (r .tag)) (dataOf b y)
-    (platformOf b y)))
+    (cond (isMost (r .tag)) (mostOf b y)
+    (platformOf b y))))
 
 unfoldable pub ruledField : Head → List ℕ → System → Reading
 ruledField (Stops n) b y = unread n

@@ -20,11 +20,15 @@ typeRule = record { tag = 2; body = 10; allowed = typeLimit }
 abbrev pub dataRule : FieldRule
 dataRule = record { tag = 3; body = 4; allowed = typeLimit }
 
+-- q, the most instances of that type on one engine (request 2026-04)
+abbrev pub mostRule : FieldRule
+mostRule = record { tag = 4; body = 2; allowed = typeLimit }
+
 abbrev pub fieldRules : List FieldRule
-fieldRules = platformRule ∷ typeRule ∷ dataRule ∷ []
+fieldRules = platformRule ∷ typeRule ∷ dataRule ∷ mostRule ∷ []
 
 -- a tag, and that of the field before it, 0 at the file's start: refusal 3 is decided from it alone. A platform is first, types come after it,
--- and d "follows its type directly, at most once" (request 2026-03)
+-- d "follows its type directly, at most once" (request 2026-03), and q comes "after the type and any tag 3, at most one" (2026-04)
 abbrev pub follows : List Follow
 follows =
     record { tag = 1; last = 0 }
@@ -32,6 +36,9 @@ follows =
     ∷ record { tag = 2; last = 2 }
     ∷ record { tag = 3; last = 2 }
     ∷ record { tag = 2; last = 3 }
+    ∷ record { tag = 4; last = 2 }
+    ∷ record { tag = 4; last = 3 }
+    ∷ record { tag = 2; last = 4 }
     ∷ []
 
 -- what the first row that passes a test gives
@@ -54,7 +61,7 @@ headSize = 3
 abbrev pub ruledSize : FieldRule → ℕ
 ruledSize r = headSize + r .body
 
--- of the longest one, 13; and of all fields that the rules allow, 13 + 6 × 13 + 6 × 7 = 133: no longer file opens
+-- of the longest one, 13; and of all fields that the rules allow, 13 + 6 × 13 + 6 × 7 + 6 × 5 = 163: no longer file opens
 abbrev pub longestOf : List FieldRule → ℕ
 longestOf [] = 0
 longestOf (r ∷ rs) = max (ruledSize r) (longestOf rs)

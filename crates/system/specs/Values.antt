@@ -2,17 +2,22 @@
 use Prim.Native.Nat.{ℕ, suc, _-_}
 use mathlib.Core.List.{List, _++_, map}
 use lib.ListN.{replicate, getD, set, take}
+use Rattle.system.specs.declared.Most.{Most}
+use Rattle.system.specs.declared.Most.the-variants.{NotGiven, AtMost}
 use Rattle.system.specs.declared.TaskType.{TaskType}
 use Rattle.system.specs.declared.System.{System}
 use Rattle.system.specs.Numbers.{typeLimit}
 
--- a type of these u, s and n: "without it d is 0" (request 2026-03)
+-- a type of these u, s and n: "without it d is 0" (request 2026-03), and "Without it there is no limit" (2026-04)
 abbrev pub taskOf : ℕ → ℕ → ℕ → TaskType
-taskOf u s n = record { time = u; memory = s; ceiling = n; «data» = 0 }
+taskOf u s n = record { time = u; memory = s; ceiling = n; «data» = 0; most = NotGiven }
 
--- the type with its d
+-- the type with its d, and with its q
 abbrev pub withData : ℕ → TaskType → TaskType
-withData d t = record { time = t .time; memory = t .memory; ceiling = t .ceiling; «data» = d }
+withData d t = record { time = t .time; memory = t .memory; ceiling = t .ceiling; «data» = d; most = t .most }
+
+abbrev pub withMost : ℕ → TaskType → TaskType
+withMost q t = record { time = t .time; memory = t .memory; ceiling = t .ceiling; «data» = t .data; most = AtMost q }
 
 -- what stands for a type past k
 abbrev pub noTask : TaskType
@@ -40,7 +45,7 @@ abbrev pub withLast : TaskType → System → System
 withLast t y =
     record { engines = y .engines; rule = y .rule; timecap = y .timecap; memorycap = y .memorycap; typecount = y .typecount; types = set (y .types) (y .typecount - 1) t }
 
--- the system with 0 past k, whatever stood there: what its file reads as
+-- the system with 0 and no q past k, whatever stood there: what its file reads as
 abbrev pub clearedTypes : ℕ → List TaskType → List TaskType
 clearedTypes k ts = take k ts ++ replicate (typeLimit - k) noTask
 

@@ -15,6 +15,7 @@ pub use limits::TYPE_LIMIT;
 pub use limits::columns_fault;
 pub use limits::columns_within;
 pub use limits::keeps_limits;
+pub use limits::most_fault;
 pub use limits::platform_fault;
 pub use limits::type_fault;
 pub use reader::Cursor;
@@ -25,6 +26,7 @@ pub use reader::field_at;
 pub use reader::read_system;
 pub use rules::DATA;
 pub use rules::FieldRule;
+pub use rules::MOST;
 pub use rules::PLATFORM;
 pub use rules::RuleFound;
 pub use rules::TYPE;
@@ -33,15 +35,22 @@ pub use values::blank_system;
 pub use values::cleared;
 pub use values::no_task;
 
-// A type of packet function: document 01's u, s and n, and request 2026-03's d, the data memory of one instance.
+// How many instances of a type one engine may hold: request 2026-04's q, where it was given. Not given is no limit, and not a q of 0.
+pub enum Most {
+    NotGiven,
+    AtMost(u16),
+}
+
+// A type of packet function: document 01's u, s and n, request 2026-03's d, the data memory of one instance, and 2026-04's q.
 pub struct TaskType {
     pub time: u32,
     pub memory: u32,
     pub ceiling: u16,
     pub data: u32,
+    pub most: Most,
 }
 
-// Document 01's m, rule, U, S and k, with the types in order of their number, all 0 past k.
+// Document 01's m, rule, U, S and k, with the types in order of their number, all 0 and no q given past k.
 pub struct System {
     pub engines: usize,
     pub rule: u8,

@@ -4,7 +4,8 @@ ghost use mathlib.Core.Bool.{cond, _&&_};
 ghost use lib.ListN.{length};
 ghost use lib.Dec.{ltb, eqb};
 ghost use Rattle.system.specs.Inner.{columnsWithin};
-ghost use Rattle.system.specs.Limits.{typeLimit, sizeFault, platformFault, typeFault, columnsFault, zeroTask, typesKeep, keepsLimits};
+ghost use Rattle.system.specs.Limits.{typeLimit, sizeFault, platformFault, typeFault, mostFault, columnsFault, notGiven, zeroTask, soundTask, typesKeep, keepsLimits};
+use crate::Most;
 use crate::System;
 use crate::TaskType;
 
@@ -62,6 +63,19 @@ pub fn type_fault(t: TaskType) -> u8
     0
 }
 
+// A type's q, where it is given: 31.
+pub fn most_fault(most: Most) -> u8
+    ensures { λ r. ⌜ r ≡ mostFault most ⌝ }
+{
+    let Most::AtMost(q) = most else {
+        return 0;
+    };
+    if q == 0 {
+        return 31;
+    }
+    0
+}
+
 // The columns of six types, or one more than their limit where they pass it: the true product may pass 64 bits.
 pub fn columns_within(types: [TaskType; TYPE_LIMIT]) -> usize
     ensures { λ r. ⌜ r ≡ columnsWithin types ⌝ }
@@ -87,24 +101,43 @@ pub fn columns_fault(types: [TaskType; TYPE_LIMIT]) -> u8
     0
 }
 
+// No q is given.
+fn not_given(most: Most) -> bool
+    ensures { λ r. ⌜ r ≡ notGiven most ⌝ }
+{
+    match most {
+        Most::NotGiven => true,
+        Most::AtMost(q) => false,
+    }
+}
+
 // The entry is one past k.
 fn zero_task(t: TaskType) -> bool
     ensures { λ r. ⌜ r ≡ zeroTask t ⌝ }
 {
-    (t.time == 0) & (t.memory == 0) & (t.ceiling == 0) & (t.data == 0)
+    let most = t.most;
+    (t.time == 0) & (t.memory == 0) & (t.ceiling == 0) & (t.data == 0) & not_given(most)
+}
+
+// The entry is a type within the limits.
+fn sound_task(t: TaskType) -> bool
+    ensures { λ r. ⌜ r ≡ soundTask t ⌝ }
+{
+    let most = t.most;
+    (type_fault(t) == 0) & (most_fault(most) == 0)
 }
 
 // The entry at i, where the first k are types.
 fn task_keeps(i: usize, k: usize, t: TaskType) -> bool
-    ensures { λ r. ⌜ r ≡ cond (ltb i k) (eqb (typeFault t) 0) (zeroTask t) ⌝ }
+    ensures { λ r. ⌜ r ≡ cond (ltb i k) (soundTask t) (zeroTask t) ⌝ }
 {
     if i < k {
-        return type_fault(t) == 0;
+        return sound_task(t);
     }
     zero_task(t)
 }
 
-// Six entries, the first k within the limits and the others 0.
+// Six entries, the first k within the limits and the others 0 and without q.
 fn types_keep(k: usize, types: [TaskType; TYPE_LIMIT]) -> bool
     ensures { λ r. ⌜ r ≡ eqb (length types) typeLimit && typesKeep k types ⌝ }
 {

@@ -2,11 +2,12 @@
 ghost use mathlib.Core.Path.{_≡_};
 ghost use Prim.Native.Nat.{_<_};
 ghost use lib.ListN.{getD, drop};
-ghost use Rattle.system.specs.Inner.{partOf, Typed, Placed};
+ghost use Rattle.system.specs.Inner.{partOf, Typed, BodyReady};
 ghost use Rattle.system.specs.Limits.{typeLimit};
 ghost use Rattle.system.specs.Layout.{word2, word4, fieldAt, headFrom, seenOf, ruledField};
-ghost use Rattle.system.specs.Layout.{unlessFault, platformOf, typeOf, dataOf, bodyOf, endOf, readFile, unread, Reads};
+ghost use Rattle.system.specs.Layout.{unlessFault, platformOf, typeOf, dataOf, mostOf, bodyOf, endOf, readFile, unread, Reads};
 use crate::Answer;
+use crate::Most;
 use crate::Opened;
 use crate::Refusal;
 use crate::System;
@@ -14,6 +15,7 @@ use crate::limits;
 use crate::rules;
 use crate::rules::DATA;
 use crate::rules::FieldRule;
+use crate::rules::MOST;
 use crate::rules::RuleFound;
 use crate::rules::TYPE;
 use crate::values;
@@ -148,7 +150,7 @@ fn head_of(field: Field, last: u8) -> Head
 }
 
 // How many fields of this tag were read before, where their number decides: that of types. Any other field stands
-// only where `may_follow` lets it: a platform once, and d once for each type.
+// only where `may_follow` lets it: a platform once, d and q once for each type.
 fn seen_of(tag: u8, y: System) -> usize
     ensures { λ r. ⌜ r ≡ seenOf tag y ⌝ }
 {
@@ -211,9 +213,19 @@ fn data_of(b: &[u8], y: System) -> Opened
     unless_fault(limits::type_fault(t), values::with_last(t, y))
 }
 
+// The body of a type's q, for the last type.
+fn most_of(b: &[u8], y: System) -> Opened
+    requires { ⌜ Typed y ⌝ }
+    ensures { λ r. ⌜ Reads (mostOf (now (b .entry)) y) r ⌝ }
+{
+    let q = two_bytes(b, 0);
+    let t = values::with_most(q, values::last_type(y));
+    unless_fault(limits::most_fault(Most::AtMost(q)), values::with_last(t, y))
+}
+
 // A field's body, where its head has a rule: 7, then what its tag says of it.
 fn body_of(rule: FieldRule, b: &[u8], y: System) -> Opened
-    requires { ⌜ Placed rule y ⌝ }
+    requires { ⌜ BodyReady rule y ⌝ }
     ensures { λ r. ⌜ Reads (bodyOf rule (now (b .entry)) y) r ⌝ }
 {
     let tag = rule.tag;
@@ -225,6 +237,9 @@ fn body_of(rule: FieldRule, b: &[u8], y: System) -> Opened
     }
     if tag == DATA {
         return data_of(b, y);
+    }
+    if tag == MOST {
+        return most_of(b, y);
     }
     platform_of(b, y)
 }
@@ -252,7 +267,7 @@ fn end_of(last: u8, y: System) -> Opened
     unless_fault(limits::columns_fault(types), y)
 }
 
-// The system of a file, or refusals 1 to 10.
+// The system of a file, or refusals 1 to 10 and 31.
 pub fn read_system(file: &[u8]) -> Opened
     ensures { λ r. ⌜ Reads (readFile (now (file .entry))) r ⌝ }
 {

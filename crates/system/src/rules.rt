@@ -29,8 +29,10 @@ pub const TYPE: u8 = 2;
 
 pub const DATA: u8 = 3;
 
+pub const MOST: u8 = 4;
+
 // The table of fields: refusals 2, 4 and 7 are decided from it.
-const RULES: [FieldRule; 3] = [
+const RULES: [FieldRule; 4] = [
     FieldRule {
         tag: PLATFORM,
         body: 10, // m, rule, U, S
@@ -46,10 +48,15 @@ const RULES: [FieldRule; 3] = [
         body: 4, // d (request 2026-03)
         allowed: TYPE_LIMIT, // one for each type
     },
+    FieldRule {
+        tag: MOST,
+        body: 2, // q (request 2026-04)
+        allowed: TYPE_LIMIT, // one for each type
+    },
 ];
 
 // Which field may follow which: refusal 3 is decided from it alone.
-const FOLLOWS: [Follow; 5] = [
+const FOLLOWS: [Follow; 8] = [
     Follow {
         tag: PLATFORM,
         last: 0,
@@ -69,6 +76,18 @@ const FOLLOWS: [Follow; 5] = [
     Follow {
         tag: TYPE,
         last: DATA,
+    },
+    Follow {
+        tag: MOST, // after its type and any d, and once
+        last: TYPE,
+    },
+    Follow {
+        tag: MOST,
+        last: DATA,
+    },
+    Follow {
+        tag: TYPE,
+        last: MOST,
     },
 ];
 

@@ -2,13 +2,14 @@
 ghost use mathlib.Core.Path.{_≡_};
 ghost use Prim.Native.Nat.{_<_};
 ghost use Rattle.system.specs.Limits.{typeLimit};
-ghost use Rattle.system.specs.Values.{taskOf, withData, noTask, blank, withPlatform, withType, lastType, withLast, clearedTypes, cleared};
+ghost use Rattle.system.specs.Values.{taskOf, withData, withMost, noTask, blank, withPlatform, withType, lastType, withLast, clearedTypes, cleared};
 ghost use Rattle.system.specs.Inner.{Typed};
+use crate::Most;
 use crate::System;
 use crate::TYPE_LIMIT;
 use crate::TaskType;
 
-// A type of these u, s and n: without its field, d is 0.
+// A type of these u, s and n: without its field, d is 0, and no q is given.
 pub(crate) fn task_of(time: u32, memory: u32, ceiling: u16) -> TaskType
     ensures { λ r. ⌜ r ≡ taskOf time memory ceiling ⌝ }
 {
@@ -17,6 +18,7 @@ pub(crate) fn task_of(time: u32, memory: u32, ceiling: u16) -> TaskType
         memory,
         ceiling,
         data: 0,
+        most: Most::NotGiven,
     }
 }
 
@@ -27,6 +29,19 @@ pub(crate) fn with_data(d: u32, t: TaskType) -> TaskType
     let mut z = t;
     z.data = d;
     z
+}
+
+// The type with its q.
+pub(crate) fn with_most(q: u16, t: TaskType) -> TaskType
+    ensures { λ r. ⌜ r ≡ withMost q t ⌝ }
+{
+    TaskType {
+        time: t.time,
+        memory: t.memory,
+        ceiling: t.ceiling,
+        data: t.data,
+        most: Most::AtMost(q),
+    }
 }
 
 // What stands for a type past k.
@@ -95,7 +110,7 @@ pub(crate) fn with_last(t: TaskType, y: System) -> System
     z
 }
 
-// Six entries with 0 from k on, whatever stood there.
+// Six entries with 0 and no q from k on, whatever stood there.
 fn cleared_types(k: usize, types: [TaskType; TYPE_LIMIT]) -> [TaskType; TYPE_LIMIT]
     ensures { λ r. ⌜ r ≡ clearedTypes k types ⌝ }
 {
@@ -106,7 +121,7 @@ fn cleared_types(k: usize, types: [TaskType; TYPE_LIMIT]) -> [TaskType; TYPE_LIM
     left
 }
 
-// The system with 0 past k, whatever stood there.
+// The system with 0 and no q past k, whatever stood there.
 pub fn cleared(y: System) -> System
     ensures { λ r. ⌜ r ≡ cleared y ⌝ }
 {

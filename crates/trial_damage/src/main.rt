@@ -1,4 +1,4 @@
-// Files of 39, 53 and 133 bytes, cut at every place, and with every value at every byte: the reader against the one of crate `brute`. A
+// Files of 39, 49, 53, 63 and 163 bytes, cut at every place, and with every value at every byte: the reader against the one of crate `brute`. A
 // file that is read must give its system, and be the file of it where no tag 3 gives a d of 0; a refused one hands out the blank system.
 ghost use Prim.Native.Nat.{_<_};
 use brute::files;
@@ -10,7 +10,7 @@ use std::num::wrapping_add_usize;
 use system::Answer;
 use system::System;
 
-// How many files were read, at 0, and refused with each number; and how many answers were wrong.
+// How many files were read, at 0, and refused with each number, 31 at 11; and how many answers were wrong.
 struct Tally {
     answers: [usize; 12],
     wrong: usize,
@@ -25,7 +25,8 @@ fn no_tally() -> Tally {
 
 // A type with every number but n at its limit.
 fn with_limits(y: System, ceiling: u16) -> System {
-    systems::with_data(systems::with_type(y, 1000000, 1000000, ceiling), 1000000)
+    let z = systems::with_data(systems::with_type(y, 1000000, 1000000, ceiling), 1000000);
+    systems::with_most(z, 65535)
 }
 
 // Every number at its limit, so that most damage passes one.
@@ -45,17 +46,23 @@ fn a_with_data() -> System {
     )
 }
 
-// 0 where the file is read, else the number of its refusal; 11 for an answer that the reader never gives.
+// System A with small numbers for q, which one byte makes 0.
+fn a_with_most() -> System {
+    let one = systems::with_type(systems::platform_of(3, 0, 10, 8), 4, 3, 3);
+    systems::with_most(systems::with_type(systems::with_most(one, 1), 3, 2, 2), 256)
+}
+
+// 0 where the file is read, else the number of its refusal; 255 for an answer that is not one from the input.
 fn number_of(a: Answer) -> usize {
     let code = say::code_of(a);
     if code == 0 {
         return 0;
     }
     if code < 101 {
-        return 11;
+        return 255;
     }
-    if 110 < code {
-        return 11;
+    if 200 < code {
+        return 255;
     }
     code - 100
 }
@@ -71,8 +78,9 @@ fn right_system(number: usize, y: System, file: &[u8], wanted: Reading) -> bool 
 
 fn counted(t: Tally, number: usize) -> Tally {
     let mut next = t;
-    if number < 12 {
-        next.answers[number] = wrapping_add_usize(t.answers[number], 1);
+    let place = if number == 31 { 11 } else { number };
+    if place < 12 {
+        next.answers[place] = wrapping_add_usize(t.answers[place], 1);
     }
     next
 }
@@ -144,7 +152,7 @@ fn changes(f: File) -> Tally {
 
 fn say_tally(name: &[u8], t: Tally) {
     let row = t.answers;
-    say::say_row(name, row, 11);
+    say::say_row(name, row, 12);
 }
 
 // The lines of a file, with how many answers were wrong.
@@ -158,18 +166,17 @@ fn say_damage(cut: &[u8], changed: &[u8], y: System) -> usize {
 }
 
 fn main() {
-    say::say(b"files: read, refused 1 to 10\n");
+    say::say(b"files: read, refused 1 to 10, 31\n");
     let a = say_damage(b"A cut:", b"A changed:", systems::system_a(3));
     let data = say_damage(b"A with d cut:", b"A with d changed:", a_with_data());
+    let most = say_damage(b"A with q cut:", b"A with q changed:", a_with_most());
     let limits = say_damage(b"limits cut:", b"limits changed:", at_limits());
     let longest = say_damage(
         b"longest cut:",
         b"longest changed:",
         systems::system_longest(1),
     );
-    let wrong = wrapping_add_usize(
-        wrapping_add_usize(a, data),
-        wrapping_add_usize(limits, longest),
-    );
+    let small = wrapping_add_usize(wrapping_add_usize(a, data), most);
+    let wrong = wrapping_add_usize(small, wrapping_add_usize(limits, longest));
     say::say_count(b"mismatches", wrong);
 }

@@ -75,9 +75,9 @@ fn say_refused(why: Refusal) {
     say::say(&out[..written]);
 }
 
-// Every number that document 01 has or could have, from either list.
+// Every number up to the greatest that a file can come to, from either list.
 fn say_numbers() {
-    for n in 0..24u8 {
+    for n in 0..31u8 {
         say_refused(Refusal::Input(n + 1));
         say_refused(Refusal::State(n + 1));
     }
@@ -88,7 +88,8 @@ fn say_refusals() {
     let a = files::file_of(systems::system_a(3));
     say_file(b"one byte", a, 1);
     say_file(b"a body cut", a, 38);
-    say_changed(b"tag 4", 13, 4);
+    say_changed(b"tag 5", 13, 5);
+    say_changed(b"a q after the platform", 13, 4);
     say_changed(b"a d after the platform", 13, 3);
     say_changed(b"a type first", 0, 2);
     say_changed(b"a second platform", 13, 1);
@@ -101,10 +102,15 @@ fn say_refusals() {
         b"d 1000001",
         systems::with_data(systems::system_a(3), 1000001),
     );
+    say_system(b"q 0", systems::with_most(systems::system_a(3), 0));
     say_file(b"empty", a, 0);
     say_file(b"no type", a, 13);
     say_system(b"n 1024", systems::single(1, 0, 0, 0, 1024));
     say_system(b"no good assignment", systems::system_b(3, 0));
+    say_system(
+        b"no good assignment that keeps q",
+        systems::with_most(systems::system_b(3, 1), 1),
+    );
     say_short(b"a short table", systems::system_a(2));
 }
 
@@ -112,7 +118,7 @@ fn say_refusals() {
 fn longer(f: File, byte: u8) -> [u8; 512] {
     let old = f.bytes;
     let mut bytes: [u8; 512] = [byte; 512];
-    for i in 0..133 {
+    for i in 0..163 {
         bytes[i] = old[i];
     }
     bytes
@@ -127,28 +133,45 @@ fn say_longer(name: &[u8], byte: u8, size: usize) {
 // The longest file with a seventh type.
 fn say_seventh(size: usize) {
     let mut bytes = longer(files::file_of(systems::system_longest(0)), 0);
-    bytes[133] = 2;
-    bytes[135] = 10;
+    bytes[163] = 2;
+    bytes[165] = 10;
     say_listing(b"seven types", files::first_of(&bytes, size));
 }
 
 // The longest file, with bytes past it.
 fn say_lengths() {
-    say_longer(b"132 bytes", 0, 132);
-    say_longer(b"133 bytes", 0, 133);
-    say_longer(b"134 bytes", 2, 134);
-    say_longer(b"135 bytes", 2, 135);
-    say_longer(b"136 bytes, no tag", 0, 136);
-    say_longer(b"136 bytes, no length", 2, 136);
-    say_longer(b"136 bytes, a second d", 3, 136);
+    say_longer(b"162 bytes", 0, 162);
+    say_longer(b"163 bytes", 0, 163);
+    say_longer(b"164 bytes", 2, 164);
+    say_longer(b"165 bytes", 2, 165);
+    say_longer(b"166 bytes, no tag", 0, 166);
+    say_longer(b"166 bytes, no length", 2, 166);
+    say_longer(b"166 bytes, a d after q", 3, 166);
+    say_longer(b"166 bytes, a second q", 4, 166);
     say_longer(b"255 bytes", 0, 255);
     say_longer(b"256 bytes", 1, 256);
     say_longer(b"257 bytes", 2, 257);
     say_longer(b"512 bytes", 3, 512);
-    say_seventh(145);
-    say_seventh(146);
+    say_seventh(175);
+    say_seventh(176);
     say_seventh(256);
     say_seventh(257);
+}
+
+// Plans that a q parts.
+fn say_mosts() {
+    say_system(
+        b"system A with q 1",
+        systems::with_most(systems::system_a(3), 1),
+    );
+    say_system(
+        b"system B, shared, q 1",
+        systems::with_most(systems::system_b(4, 1), 1),
+    );
+    say_system(
+        b"system B, shared, q 3",
+        systems::with_most(systems::system_b(4, 1), 3),
+    );
 }
 
 fn main() {
@@ -165,6 +188,7 @@ fn main() {
         b"system B, shared, d 2",
         systems::with_data(systems::system_b(4, 1), 2),
     );
+    say_mosts();
     say_system(b"1024 columns, rule 0", systems::system_full(0));
     say_system(b"1024 columns, rule 1", systems::system_full(1));
     say_system(b"longest, rule 0", systems::system_longest(0));

@@ -1,5 +1,5 @@
-// Plans into lists of 0 to 17 records, for 1, 15 and 16 engines: 15 is said exactly where the list is shorter than m, after 11 and before
-// 12, and the records past the last used engine are as they were lent. What is expected was computed apart from the code.
+// Plans into lists of 0 to 17 records, for 1, 15 and 16 engines: 15 is said exactly where the list is shorter than m, after 31 and 11 and
+// before 12, and the records past the last used engine are as they were lent. What is expected was computed apart from the code.
 ghost use mathlib.Core.Path.{_≡_};
 ghost use Prim.Native.Nat.{_≤_};
 ghost use lib.ListN.{length};
@@ -97,12 +97,29 @@ fn one_each(engines: usize, n: u16) -> System {
     systems::single(engines, 0, 10, 10, n)
 }
 
+// One type that costs nothing, of which an engine holds at most q.
+fn apart(engines: usize, n: u16, q: u16) -> System {
+    systems::with_most(systems::single(engines, 0, 0, 0, n), q)
+}
+
+// What the file is refused with comes before 11, 15 and 12, and what q leaves no room for is 12.
+fn say_apart() {
+    say_list(apart(16, 17, 0), 0, 0);
+    say_list(apart(16, 17, 1), 305, 15);
+    say_list(apart(16, 17, 1), 306, 15);
+    say_list(apart(16, 17, 1), 306, 16);
+    say_list(apart(16, 16, 1), 289, 15);
+    say_list(apart(16, 16, 1), 289, 16);
+    say_list(apart(16, 17, 2), 306, 16);
+    say_list(apart(16, 17, 65535), 306, 16);
+}
+
 fn main() {
     say_lengths(one_each(1, 1));
     say_lengths(one_each(15, 15));
     say_lengths(systems::system_a(16));
     say_lengths(systems::system_longest(1));
-    say::say(b"the order of 5, 11, 15 and 12\n");
+    say::say(b"the order of 5, 31, 11, 15 and 12\n");
     say_list(one_each(17, 17), 0, 0);
     say_list(one_each(16, 17), 305, 15);
     say_list(one_each(16, 17), 306, 15);
@@ -110,4 +127,5 @@ fn main() {
     say_list(one_each(16, 16), 288, 15);
     say_list(one_each(16, 16), 289, 15);
     say_list(one_each(16, 16), 289, 16);
+    say_apart();
 }

@@ -1,66 +1,13 @@
-// Named systems: at each limit and past it, with two faults each, with a d and junk past the last type; and files with a d of 0.
-use crate::lent;
+// Named systems: at each limit and past it, and with two faults each, with junk past the last type; and whole files.
+use crate::lines::room_for;
+use crate::lines::say_call;
+use crate::lines::say_case;
+use crate::lines::say_file;
 use crate::made;
-use crate::rounds;
-use crate::zeros;
-use brute::files;
-use brute::files::File;
 use brute::say;
 use brute::systems;
-use std::num::wrapping_add_usize;
-use system::Answer;
-use system::Refusal;
 use system::System;
 use system::TYPE_LIMIT;
-use system::read_system;
-
-fn say_refusal(r: Refusal) {
-    match r {
-        Refusal::Input(n) => say::say_also(n as usize),
-        Refusal::State(n) => {
-            say::say_also(n as usize);
-            say::say(b" from the state");
-        }
-    }
-}
-
-fn say_answer(a: Answer) {
-    match a {
-        Answer::Accepted => say::say(b" accepted"),
-        Answer::Number(n) => {
-            say::say(b" written");
-            say::say_also(n);
-        }
-        Answer::Refused(r) => {
-            say::say(b" refused");
-            say_refusal(r);
-        }
-    }
-}
-
-// What was answered, and that the buffer or a round trip is wrong where it is.
-fn say_judged(y: System, room: usize) {
-    let c = lent::called(y, room, 33);
-    let answer = c.answer;
-    say_answer(answer);
-    if !rounds::right(y, room) {
-        say::say(b" wrong");
-    }
-}
-
-// The end of a line.
-fn say_call(y: System, room: usize) {
-    say_judged(y, room);
-    say::say(b"\n");
-}
-
-// A line for a system: a name and a number, then what was answered.
-fn say_case(name: &[u8], n: usize, y: System) {
-    say::say(name);
-    say::say_also(n);
-    say::say(b":");
-    say_call(y, 256);
-}
 
 // The sound system of six types with another number in one place, for eight of them.
 fn say_numbers(name: &[u8], what: u8, t: usize, numbers: [usize; 8]) {
@@ -155,11 +102,6 @@ fn say_columns() {
     );
 }
 
-// The buffer that a refusal asks for: one that is too short for any file for 30, else one that is long enough for all.
-fn room_for(number: usize) -> usize {
-    if number == 30 { 12 } else { 256 }
-}
-
 // A system with what calls for both refusals.
 fn say_pair(first: usize, second: usize) {
     let y = made::with_fault(made::with_fault(made::sound(2), second), first);
@@ -170,33 +112,13 @@ fn say_pair(first: usize, second: usize) {
     say_call(y, room_for(second));
 }
 
-// A d that is over the limit, with what calls for a refusal.
-fn say_data_pair(second: usize) {
-    let y = made::with_data_fault(made::with_fault(made::sound(2), second));
-    say::say(b"8 for d and");
-    say::say_also(second);
-    say::say(b":");
-    say_call(y, room_for(second));
-}
-
-// Where a d is over its limit, the refusals that are asked before 8 come first, and no other does.
-fn say_data_pairs() {
-    say_data_pair(7);
-    say_data_pair(9);
-    say_data_pair(5);
-    say_data_pair(6);
-    say_data_pair(8);
-    say_data_pair(10);
-    say_data_pair(30);
-}
-
 // The order of the refusals.
-const ORDER: [usize; 7] = [7, 9, 5, 6, 8, 10, 30];
+const ORDER: [usize; 8] = [7, 9, 5, 6, 8, 31, 10, 30];
 
 // The refusal at a place in the order with each one after it.
 fn say_before(place: usize) {
     let order = ORDER;
-    for i in 0..7 {
+    for i in 0..8 {
         if place < i {
             say_pair(order[place], order[i]);
         }
@@ -211,52 +133,7 @@ fn say_pairs() {
     say_before(3);
     say_before(4);
     say_before(5);
-}
-
-// The type at index t with another d.
-fn say_data_at(y: System, t: usize, n: usize) {
-    say_judged(made::with_number(y, b'd', t, n), 256);
-}
-
-// A line for the d of one type at both ends of its limit.
-fn say_type_data(name: &[u8], y: System, t: usize) {
-    say::say(name);
-    say::say(b" type");
-    say::say_also(wrapping_add_usize(t, 1));
-    say::say(b" of");
-    say::say_also(y.typecount);
-    say::say(b":");
-    say_data_at(y, t, 0);
-    say_data_at(y, t, 1);
-    say_data_at(y, t, 1000000);
-    say_data_at(y, t, 1000001);
-    say_data_at(y, t, 4294967295);
-    say::say(b"\n");
-}
-
-// Each type of a system in turn.
-fn say_data(name: &[u8], y: System) {
-    for t in 0..TYPE_LIMIT {
-        if t < y.typecount {
-            say_type_data(name, y, t);
-        }
-    }
-}
-
-// The systems of k types, with junk past the last one: no other type has a d, or each one has.
-fn say_data_of(k: usize) {
-    say_data(b"one d,", made::junk_past(made::sound(k)));
-    say_data(b"each d,", made::junk_past(made::each_data(k)));
-}
-
-fn say_all_data() {
-    say::say(b"d at 0, 1, 1000000, 1000001, 4294967295\n");
-    say_data_of(1);
-    say_data_of(2);
-    say_data_of(3);
-    say_data_of(4);
-    say_data_of(5);
-    say_data_of(6);
+    say_before(6);
 }
 
 fn say_junk(k: usize) {
@@ -278,31 +155,6 @@ fn say_all_junk() {
     say_junk(6);
 }
 
-// The bytes of a file as they stand in the buffer, up to the answer's number.
-fn say_bytes(bytes: [u8; 256], n: usize) {
-    for i in 0..256 {
-        if i < n {
-            say_byte(bytes[i]);
-        }
-    }
-    say::say(b"\n");
-}
-
-fn say_byte(b: u8) {
-    say::say_also(b as usize);
-}
-
-fn say_file(name: &[u8], y: System) {
-    let c = lent::called(y, 256, 33);
-    let answer = c.answer;
-    let bytes = c.bytes;
-    say::say(name);
-    say_answer(answer);
-    if let Answer::Number(n) = answer {
-        say_bytes(bytes, n);
-    }
-}
-
 // Whole files: document 01's system A, the least system, and the sound one, whose numbers have different bytes, with d for no, some and all types.
 fn say_files() {
     say_file(b"A:", systems::system_a(3));
@@ -312,56 +164,15 @@ fn say_files() {
     say_file(b"each d:", made::each_data(6));
 }
 
-// A file with a tag 3 of d 0: how long it is, and how long the one is that is written for what was read.
-fn say_zero(f: File) {
-    let bytes = f.bytes;
-    let o = read_system(files::first_of(&bytes, f.size));
-    let z = o.system;
-    say::say_also(f.size);
-    say::say(b" bytes,");
-    say_call(z, 256);
-}
-
-fn say_zero_after(y: System, t: usize) {
-    say::say(b"zero d after type");
-    say::say_also(wrapping_add_usize(t, 1));
-    say::say(b":");
-    say_zero(zeros::with_zero(files::file_of(y), y, t));
-}
-
-// Such a field after one type, and after each type that has no d; then the bytes of such a file, and those that are written for it.
-fn say_zeros() {
-    let y = made::sound(6);
-    say_zero_after(y, 0);
-    say_zero_after(y, 1);
-    say_zero_after(y, 2);
-    say_zero_after(y, 3);
-    say_zero_after(y, 4);
-    say_zero_after(y, 5);
-    say::say(b"zero d after each:");
-    say_zero(zeros::with_zeros(y));
-    say::say(b"some d, zero d after the others:");
-    say_zero(zeros::with_zeros(made::some_data(6)));
-    say_zero_bytes(zeros::with_zeros(systems::system_a(3)));
-}
-
-fn say_zero_bytes(f: File) {
-    let bytes = f.bytes;
-    let o = read_system(files::first_of(&bytes, f.size));
-    let z = o.system;
-    say::say(b"A with zero d:");
-    say_bytes(bytes, f.size);
-    say_file(b"A again:", z);
-}
-
-pub fn say_cases() {
+// Each number at its limit and past it, and each two refusals.
+pub fn say_limits() {
     say_counts();
     say_all_sizes();
     say_columns();
     say_pairs();
-    say_data_pairs();
-    say_all_data();
+}
+
+pub fn say_wholes() {
     say_all_junk();
     say_files();
-    say_zeros();
 }

@@ -27,6 +27,10 @@ const NO_SIZES: [usize; 4] = [1000001, 1000256, 16777216, 4294967295];
 
 const DATA: [usize; 8] = [0, 0, 0, 0, 1, 256, 65536, 1000000];
 
+const MOSTS: [usize; 8] = [65536, 65536, 65536, 1, 2, 256, 65534, 65535];
+
+const NO_MOSTS: [usize; 4] = [0, 0, 0, 0];
+
 const CEILINGS: [usize; 8] = [0, 0, 0, 1, 1, 3, 31, 1023];
 
 const NO_CEILINGS: [usize; 4] = [1024, 1279, 65534, 65535];
@@ -59,7 +63,8 @@ fn with_drawn_type(d: Drawn, t: usize) -> Drawn {
     let timed = with_drawn(d, b'u', t, SIZES, NO_SIZES);
     let stored = with_drawn(timed, b's', t, SIZES, NO_SIZES);
     let limited = with_drawn(stored, b'n', t, CEILINGS, NO_CEILINGS);
-    with_drawn(limited, b'd', t, DATA, NO_SIZES)
+    let stacked = with_drawn(limited, b'd', t, DATA, NO_SIZES);
+    with_drawn(stacked, b'q', t, MOSTS, NO_MOSTS)
 }
 
 fn drawn_platform(seed: u64) -> Drawn {

@@ -1,5 +1,6 @@
 // Which systems documents 01 and 02 let the writer write, decided apart from it.
 ghost use Prim.Native.Nat.{_≤_};
+use brute::systems;
 use system::System;
 
 // u, s or d of the type at index t is over the limit, where the system has that type.
@@ -26,6 +27,29 @@ fn oversized(y: System) -> bool {
         | oversized_type(y, 5)
 }
 
+// q of the type at index t is 0, where the system has that type.
+fn without_place(y: System, t: usize) -> bool {
+    if 6 <= t {
+        return false;
+    }
+    if y.typecount <= t {
+        return false;
+    }
+    let task = y.types[t];
+    let most = task.most;
+    systems::most_number(most) == 0
+}
+
+// q of one of the types.
+fn without_places(y: System) -> bool {
+    without_place(y, 0)
+        | without_place(y, 1)
+        | without_place(y, 2)
+        | without_place(y, 3)
+        | without_place(y, 4)
+        | without_place(y, 5)
+}
+
 // How often the columns of the types up to index t go into what `left` the types before have, 0 where they pass it.
 fn left_after(left: usize, y: System, t: usize) -> usize {
     if 6 <= t {
@@ -48,9 +72,22 @@ fn passes_columns(y: System) -> bool {
     left_after(five, y, 5) == 0
 }
 
-// The bytes that the type at index t has in the file, where the system has that type: 13, and 7 for a d.
+// The bytes of a d, and of a q.
+fn data_bytes(d: u32) -> usize
+    ensures { λ r. ⌜ r ≤ 7 ⌝ }
+{
+    if d == 0 { 0 } else { 7 }
+}
+
+fn most_bytes(q: usize) -> usize
+    ensures { λ r. ⌜ r ≤ 5 ⌝ }
+{
+    if q < 65536 { 5 } else { 0 }
+}
+
+// The bytes that the type at index t has in the file, where the system has that type: 13, and those of its d and its q.
 fn bytes_of(y: System, t: usize) -> usize
-    ensures { λ r. ⌜ r ≤ 20 ⌝ }
+    ensures { λ r. ⌜ r ≤ 25 ⌝ }
 {
     if 6 <= t {
         return 0;
@@ -59,7 +96,8 @@ fn bytes_of(y: System, t: usize) -> usize
         return 0;
     }
     let task = y.types[t];
-    if task.data == 0 { 13 } else { 20 }
+    let most = task.most;
+    13 + data_bytes(task.data) + most_bytes(systems::most_number(most))
 }
 
 // The buffer has fewer bytes than the file.
@@ -88,6 +126,9 @@ pub fn refusal_of(y: System, room: usize) -> usize {
     }
     if oversized(y) {
         return 8;
+    }
+    if without_places(y) {
+        return 31;
     }
     if passes_columns(y) {
         return 10;

@@ -19,10 +19,11 @@ fn with_known(z: System, y: System, t: usize) -> System {
     }
     let task = y.types[t];
     let more = systems::with_type(z, task.time, task.memory, task.ceiling);
-    systems::with_data(more, task.data)
+    let most = task.most;
+    systems::with_most_at(systems::with_data(more, task.data), t, most)
 }
 
-// The platform and the first k types alone, made anew: 0 past them.
+// The platform and the first k types alone, made anew: 0 and no q past them.
 fn known_part(y: System) -> System {
     let none = systems::platform_of(y.engines, y.rule, y.timecap, y.memorycap);
     let one = with_known(none, y, 0);

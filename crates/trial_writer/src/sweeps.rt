@@ -22,7 +22,7 @@ fn no_tally() -> Tally {
     }
 }
 
-// Where an answer is counted; 8 for one that the writer never gives.
+// Where an answer is counted; 9 for one that the writer never gives.
 fn place_of(a: Answer) -> usize {
     let code = say::code_of(a);
     if 1000 < code {
@@ -34,9 +34,10 @@ fn place_of(a: Answer) -> usize {
         105 => 3,
         106 => 4,
         108 => 5,
-        110 => 6,
-        130 => 7,
-        _ => 8,
+        131 => 6,
+        110 => 7,
+        130 => 8,
+        _ => 9,
     }
 }
 
@@ -71,7 +72,7 @@ fn judged(t: Tally, y: System, room: usize) -> Tally {
 // Buffers of every length from 0 to one more than the longest file.
 fn lengths(y: System) -> Tally {
     let mut all = no_tally();
-    for room in 0..135usize {
+    for room in 0..165usize {
         let next = judged(all, y, room);
         all = next;
     }
@@ -146,7 +147,7 @@ fn drawn() -> Tally {
 // A line for some calls; answers how many were wrong, among them and before them.
 fn say_tally(wrong: usize, name: &[u8], t: Tally) -> usize {
     let row = t.answers;
-    say::say_row(name, row, 9);
+    say::say_row(name, row, 10);
     wrapping_add_usize(wrong, t.wrong)
 }
 
@@ -167,6 +168,23 @@ fn say_written_lengths(wrong: usize, k: usize) -> usize {
     say_lengths(some, b", each d:", made::junk_past(made::each_data(k)))
 }
 
+// The same with a q.
+fn say_most_lengths(wrong: usize, k: usize) -> usize {
+    say::say(b"k");
+    say::say_also(k);
+    let one = say_lengths(wrong, b", each q:", made::junk_past(made::each_most(k)));
+    say::say(b"k");
+    say::say_also(k);
+    let some = say_lengths(one, b", some d and q:", made::junk_past(made::some_both(k)));
+    say::say(b"k");
+    say::say_also(k);
+    say_lengths(
+        some,
+        b", each d and q:",
+        made::junk_past(made::each_both(k)),
+    )
+}
+
 // Systems that are written where the buffer is long enough.
 fn say_all_written_lengths(wrong: usize) -> usize {
     let one = say_written_lengths(wrong, 1);
@@ -175,6 +193,15 @@ fn say_all_written_lengths(wrong: usize) -> usize {
     let four = say_written_lengths(three, 4);
     let five = say_written_lengths(four, 5);
     say_written_lengths(five, 6)
+}
+
+fn say_all_most_lengths(wrong: usize) -> usize {
+    let one = say_most_lengths(wrong, 1);
+    let two = say_most_lengths(one, 2);
+    let three = say_most_lengths(two, 3);
+    let four = say_most_lengths(three, 4);
+    let five = say_most_lengths(four, 5);
+    say_most_lengths(five, 6)
 }
 
 // Systems that are refused, whatever the buffer is.
@@ -186,13 +213,15 @@ fn say_refused_lengths(wrong: usize) -> usize {
     let six = say_lengths(five, b"refused 6:", made::with_fault(y, 6));
     let eight = say_lengths(six, b"refused 8:", made::with_fault(y, 8));
     let data = say_lengths(eight, b"refused 8 for d:", made::with_data_fault(y));
-    say_lengths(data, b"refused 10:", made::with_fault(y, 10))
+    let most = say_lengths(data, b"refused 31:", made::with_fault(y, 31));
+    say_lengths(most, b"refused 10:", made::with_fault(y, 10))
 }
 
 pub fn say_sweeps() {
-    say::say(b"calls: written, refused 7, 9, 5, 6, 8, 10, 30, anything else\n");
+    say::say(b"calls: written, refused 7, 9, 5, 6, 8, 31, 10, 30, anything else\n");
     let written = say_all_written_lengths(0);
-    let refused = say_refused_lengths(written);
+    let limited = say_all_most_lengths(written);
+    let refused = say_refused_lengths(limited);
     let ends = say_tally(refused, b"ends of the limits:", edges());
     let all = say_tally(ends, b"drawn:", drawn());
     say::say_count(b"mismatches", all);

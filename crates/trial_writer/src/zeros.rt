@@ -46,9 +46,11 @@ fn with_field(f: File, at: usize) -> File {
     }
 }
 
-// The place in the file of a system where its type at index t ends: how long the file of the types up to that one is.
+// The place in the file of a system where the field of its type at index t ends, before that of its q: how long the file of the types up to
+// that one is without it.
 fn end_of(y: System, t: usize) -> usize {
-    let f = files::file_of(made::with_number(y, b'k', 0, wrapping_add_usize(t, 1)));
+    let first = made::with_number(y, b'k', 0, wrapping_add_usize(t, 1));
+    let f = files::file_of(made::with_number(first, b'q', t, made::NOT_GIVEN));
     f.size
 }
 

@@ -1,4 +1,4 @@
--- The bytes of a file, as the writer's code is described, are document 01's layout byte by byte, without a zero tag 3; a platform has 13 of them, a type 13, and 20 with its d.
+-- The bytes of a file, as the writer's code is described, are document 01's layout byte by byte, without a zero tag 3; a platform has 13 of them, a type 13, its d 7 and its q 5.
 -- A number's four bytes agree as quotients and remainders; the fields of types agree by one type more at the end.
 use Prim.Native.Nat.{ℕ, zero, suc, _+_, _-_, _*_, _/_, _%_, _≤_}
 use mathlib.Core.Path.{_≡_, refl, sym, ap, ap₂, _∙_}
@@ -10,14 +10,16 @@ use lib.ListN.{length, getD, take, length-append, length-take}
 use lib.Seq.{take-suc}
 use lib.Dec.{eqb}
 use Rattle.buffer.specs.Bytes.{bytes4}
+use Rattle.system.specs.declared.Most.{Most}
+use Rattle.system.specs.declared.Most.the-variants.{NotGiven, AtMost}
 use Rattle.system.specs.declared.TaskType.{TaskType}
 use Rattle.system.specs.declared.System.{System}
 use Rattle.system.specs.Limits.{typeLimit}
 use Rattle.system.specs.Values.{noTask}
 use Rattle.system.specs.Rules.{ruleOf, longestFile}
 use Rattle.partition.specs.Plain.{typeNo}
-use Rattle.writer.specs.File.{fieldBytes, platformBytes, dataBytes, typeBytes, typesBytes, fileOf}
-use Rattle.writer.specs.Meaning.{twoOut, fourOut, platformOut, dataOut, typeOut, typesOut, fileOut}
+use Rattle.writer.specs.File.{fieldBytes, platformBytes, dataBytes, mostBytes, typeBytes, typesBytes, fileOf}
+use Rattle.writer.specs.Meaning.{twoOut, fourOut, platformOut, dataOut, mostOut, typeOut, typesOut, fileOut}
 
 -- intermediate: one field
 
@@ -36,9 +38,15 @@ data-out : (d : ℕ) → dataBytes d ≡ dataOut false d
 unfolding fieldBytes ruleOf
 data-out d = λ i. cond (sym (and-true (eqb d 0)) i) [] (3 ∷ 0 ∷ 4 ∷ four-out d i)
 
+most-out : (m : Most) → mostBytes m ≡ mostOut m
+unfolding fieldBytes ruleOf
+most-out NotGiven = refl
+most-out (AtMost q) = refl
+
 type-out : (t : TaskType) → typeBytes t ≡ typeOut false t
 unfolding fieldBytes ruleOf
-type-out t = λ i. 2 ∷ 0 ∷ 10 ∷ (four-out (t .time) i ++ (four-out (t .memory) i ++ (twoOut (t .ceiling) ++ data-out (t .data) i)))
+type-out t =
+    λ i. 2 ∷ 0 ∷ 10 ∷ (four-out (t .time) i ++ (four-out (t .memory) i ++ (twoOut (t .ceiling) ++ (data-out (t .data) i ++ most-out (t .most) i))))
 
 -- intermediate: one type more
 
@@ -81,32 +89,44 @@ pub data-some : (d : ℕ) → (d ≡ 0 → ⊥) → length (dataBytes d) ≡ 7
 unfolding fieldBytes ruleOf
 data-some d some = rw (ne-eqb d 0 some)
 
-pub type-size : (t : TaskType) → length (typeBytes t) ≡ 13 + length (dataBytes (t .data))
+-- a q that is not given has none, and any other one 5
+pub most-some : (q : ℕ) → length (mostBytes (AtMost q)) ≡ 5
 unfolding fieldBytes ruleOf
-type-size t = omega arith
+most-some q = refl
+
+pub type-size : (t : TaskType) → length (typeBytes t) ≡ 13 + length (dataBytes (t .data)) + length (mostBytes (t .most))
+unfolding fieldBytes ruleOf
+type-size t = omega (arith, length-append (dataBytes (t .data)) (mostBytes (t .most)))
 
 pub types-size : (ts : List TaskType) (t : TaskType) → length (typesBytes (ts ++ (t ∷ []))) ≡ length (typesBytes ts) + length (typeBytes t)
 types-size ts t = ap length (types-more ts t) ∙ length-append (typesBytes ts) (typeBytes t)
 
--- the longest: 13 + 6 × 20 = 133
+-- the longest: 13 + 6 × 25 = 163
 
-type-most : (t : TaskType) → length (typeBytes t) ≤ 20
-type-most t = at (eqb (t .data) 0) refl
+pub data-longest : (d : ℕ) → length (dataBytes d) ≤ 7
+data-longest d = at (eqb d 0) refl
   where
-    at : (b : Bool) → eqb (t .data) 0 ≡ b → length (typeBytes t) ≤ 20
-    at true q = omega (arith, type-size t, data-none (t .data) (eqb-true (t .data) 0 q))
-    at false q = omega (arith, type-size t, data-some (t .data) (eqb-false (t .data) 0 q))
+    at : (b : Bool) → eqb d 0 ≡ b → length (dataBytes d) ≤ 7
+    at true q = omega (arith, data-none d (eqb-true d 0 q))
+    at false q = omega (arith, data-some d (eqb-false d 0 q))
 
-types-most : (ts : List TaskType) → length (typesBytes ts) ≤ 20 * length ts
+pub most-longest : (m : Most) → length (mostBytes m) ≤ 5
+most-longest NotGiven = omega arith
+most-longest (AtMost q) = omega (arith, most-some q)
+
+type-longest : (t : TaskType) → length (typeBytes t) ≤ 25
+type-longest t = omega (arith, type-size t, data-longest (t .data), most-longest (t .most))
+
+types-longest : (ts : List TaskType) → length (typesBytes ts) ≤ 25 * length ts
 unfolding typesBytes
-types-most [] = omega arith
-types-most (t ∷ ts) = omega (arith, length-append (typeBytes t) (typesBytes ts), type-most t, types-most ts)
+types-longest [] = omega arith
+types-longest (t ∷ ts) = omega (arith, length-append (typeBytes t) (typesBytes ts), type-longest t, types-longest ts)
 
-pub first-most : (ts : List TaskType) (k : ℕ) → length (typesBytes (take k ts)) ≤ 20 * k
-first-most ts k = omega (arith, types-most (take k ts), length-take k ts)
+pub first-longest : (ts : List TaskType) (k : ℕ) → length (typesBytes (take k ts)) ≤ 25 * k
+first-longest ts k = omega (arith, types-longest (take k ts), length-take k ts)
 
-pub file-most : (y : System) → y .typecount ≤ typeLimit → length (fileOf y) ≤ longestFile
+pub file-longest : (y : System) → y .typecount ≤ typeLimit → length (fileOf y) ≤ longestFile
 unfolding fileOf
-file-most y h =
+file-longest y h =
     let types = take (y .typecount) (y .types) in
-    omega (arith, length-append (platformBytes y) (typesBytes types), platform-size y, first-most (y .types) (y .typecount))
+    omega (arith, length-append (platformBytes y) (typesBytes types), platform-size y, first-longest (y .types) (y .typecount))

@@ -1,22 +1,26 @@
--- Both round trips in plain words: a file is read as y exactly where it is a file of y byte by byte and y keeps the limits; so a file gives y exactly where y keeps them, its own file being one.
-use Prim.Native.Nat.{ℕ, zero, suc, _-_, _<_}
-use mathlib.Core.Path.{_≡_, ap, _∙_, subst}
+-- Both round trips in plain words: a file is read as y exactly where it is a file of y byte by byte and y keeps the limits; so a file gives y exactly where y keeps them and each q fits its two bytes,
+-- its own file being one.
+use Prim.Native.Nat.{ℕ, zero, suc, _-_, _/_, _≤_, _<_}
+use mathlib.Core.Path.{_≡_, refl, ap, _∙_, subst}
 use mathlib.Core.List.{List, [], _∷_, _++_}
-use mathlib.Core.Bool.{Bool, false}
+use mathlib.Core.Bool.{Bool, true, false}
 use mathlib.Core.Logic.{_↔_}
 use native.Mathlib.Omega.{arith}
+use borrow.Author.Tests.{leb-true, leb-false}
 use lib.ListN.{List·getD-map}
-use lib.Dec.{lit<}
+use lib.Dec.{leb, lit<}
 use Rattle.buffer.specs.Bytes.{bytes2}
 use Rattle.buffer.proofs.Laws.{bytes2-small, bytes4-small}
+use Rattle.system.specs.declared.Most.{Most}
+use Rattle.system.specs.declared.Most.the-variants.{NotGiven, AtMost}
 use Rattle.system.specs.declared.TaskType.{TaskType}
 use Rattle.system.specs.declared.System.{System}
-use Rattle.system.specs.Values.{noTask, ceilingsOf}
+use Rattle.system.specs.Values.{taskOf, noTask, ceilingsOf}
 use Rattle.system.specs.Layout.{readFile, opened}
 use Rattle.system.proofs.Laws.{Limits, limits-of, read-keeps-limits, ceiling-lt}
 use Rattle.partition.specs.Plain.{typeNo, LimitsOut}
 use Rattle.partition.proofs.Plain.{limits-out}
-use Rattle.writer.specs.Meaning.{fourOut, platformOut, dataOut, typeOut, typesOut, fileWith, fileOut, IsBytes, ReadsExactly, Given}
+use Rattle.writer.specs.Meaning.{twoOut, fourOut, platformOut, dataOut, mostOut, typeOut, typesOut, fileWith, fileOut, IsBytes, ReadsExactly, Given, ReplicasFit}
 use Rattle.writer.proofs.Bytes.{four-out}
 use Rattle.writer.proofs.Told.{HasData, left-out, given, has-data}
 use Rattle.writer.proofs.Writable.{kept-writable}
@@ -52,12 +56,16 @@ platform-bytes y l = bytes-head 1 10 (y .engines ∷ y .rule ∷ sizes) (lit< tt
     body (suc (suc i)) =
         bytes-append (fourOut (y .timecap)) (fourOut (y .memorycap)) (four-bytes (y .timecap) (omega (arith, l .time))) (four-bytes (y .memorycap) (omega (arith, l .memory))) i
 
--- u, s and d fit four bytes, n two
+-- u, s and d fit four bytes, n and q two
+abbrev MostFits : Most → Type 0
+MostFits m = (q : ℕ) → m ≡ AtMost q → q < 65536
+
 record Small (t : TaskType) : Type 0 where
   time : t .time < 4294967296
   memory : t .memory < 4294967296
   ceiling : t .ceiling < 65536
   «data» : t .data < 4294967296
+  most : MostFits (t .most)
 
 data-bytes : (told : Bool) (d : ℕ) → d < 4294967296 → IsBytes (dataOut told d)
 data-bytes told d h = at (has-data told d)
@@ -66,25 +74,34 @@ data-bytes told d h = at (has-data told d)
     at (left-out quiet none) i = rw (quiet, none) (lit< tt)
     at (given e) i = rw e (bytes-head 3 4 (fourOut d) (lit< tt) (lit< tt) (four-bytes d h) i)
 
+most-bytes : (m : Most) → MostFits m → IsBytes (mostOut m)
+most-bytes NotGiven h i = lit< tt
+most-bytes (AtMost q) h i = bytes-head 4 2 (twoOut q) (lit< tt) (lit< tt) (λ j. bytes2-small q j (h q refl)) i
+
+-- the bytes of u, s and n, those of d, and those of q
+abbrev front : TaskType → List ℕ
+front t = typeOut false (taskOf (t .time) (t .memory) (t .ceiling))
+
 type-bytes : (told : Bool) (t : TaskType) → Small t → IsBytes (typeOut told t)
 type-bytes told t h =
-    let tail = dataOut told (t .data) in
-    let last = bytes-append (bytes2 (t .ceiling)) tail (λ i. bytes2-small (t .ceiling) i (h .ceiling)) (data-bytes told (t .data) (h .data)) in
-    let most = bytes-append (fourOut (t .memory)) (bytes2 (t .ceiling) ++ tail) (four-bytes (t .memory) (h .memory)) last in
-    bytes-head 2 10 (fourOut (t .time) ++ (fourOut (t .memory) ++ (bytes2 (t .ceiling) ++ tail))) (lit< tt) (lit< tt)
-    (bytes-append (fourOut (t .time)) (fourOut (t .memory) ++ (bytes2 (t .ceiling) ++ tail)) (four-bytes (t .time) (h .time)) most)
+    let costs = bytes-append (fourOut (t .memory)) (bytes2 (t .ceiling)) (four-bytes (t .memory) (h .memory)) (λ i. bytes2-small (t .ceiling) i (h .ceiling)) in
+    let body = bytes-append (fourOut (t .time)) (fourOut (t .memory) ++ bytes2 (t .ceiling)) (four-bytes (t .time) (h .time)) costs in
+    let first = bytes-head 2 10 (fourOut (t .time) ++ (fourOut (t .memory) ++ bytes2 (t .ceiling))) (lit< tt) (lit< tt) body in
+    bytes-append (front t) (dataOut told (t .data) ++ mostOut (t .most)) first
+    (bytes-append (dataOut told (t .data)) (mostOut (t .most)) (data-bytes told (t .data) (h .data)) (most-bytes (t .most) (h .most)))
 
-types-bytes : (told : ℕ → Bool) (y : System) (n : ℕ) → ((t : ℕ) → Small (typeNo y t)) → IsBytes (typesOut told y n)
+types-bytes : (told : ℕ → Bool) (y : System) (n : ℕ) → ((t : ℕ) → 1 ≤ t → t ≤ n → Small (typeNo y t)) → IsBytes (typesOut told y n)
 unfolding typesOut
 types-bytes told y zero h = λ i. lit< tt
 types-bytes told y (suc n) h =
-    bytes-append (typesOut told y n) (typeOut (told (suc n)) (typeNo y (suc n))) (types-bytes told y n h) (type-bytes (told (suc n)) (typeNo y (suc n)) (h (suc n)))
+    bytes-append (typesOut told y n) (typeOut (told (suc n)) (typeNo y (suc n))) (types-bytes told y n (λ t low high. h t low (omega arith)))
+    (type-bytes (told (suc n)) (typeNo y (suc n)) (h (suc n) (omega arith) (omega arith)))
 
-file-bytes : (told : ℕ → Bool) (y : System) → Limits y → IsBytes (fileWith told y)
-file-bytes told y l = bytes-append (platformOut y) (typesOut told y (y .typecount)) (platform-bytes y l) (types-bytes told y (y .typecount) small)
+file-bytes : (told : ℕ → Bool) (y : System) → Limits y → ReplicasFit y → IsBytes (fileWith told y)
+file-bytes told y l fit = bytes-append (platformOut y) (typesOut told y (y .typecount)) (platform-bytes y l) (types-bytes told y (y .typecount) small)
   where
-    small : (t : ℕ) → Small (typeNo y t)
-    small t =
+    small : (t : ℕ) → 1 ≤ t → t ≤ y .typecount → Small (typeNo y t)
+    small t low high =
         let few = List·getD-map (λ (x : TaskType). x .ceiling) (y .types) (t - 1) noTask in
         let sized = l .sized (t - 1) in
         record {
@@ -92,7 +109,46 @@ file-bytes told y l = bytes-append (platformOut y) (typesOut told y (y .typecoun
           memory = omega (arith, sized .memory);
           ceiling = omega (arith, few, ceiling-lt (ceilingsOf y) (t - 1), l .columns);
           «data» = omega (arith, sized .data);
+          most = λ q is. fit t q low high is;
         }
+
+-- intermediate: and where a file of a system is a list of bytes, each q fits its two
+
+bytes-parts : (a b : List ℕ) → IsBytes (a ++ b) → IsBytes a × IsBytes b
+bytes-parts [] b p = ((λ i. lit< tt), p)
+bytes-parts (x ∷ a) b p = let rest = bytes-parts a b (λ i. p (suc i)) in (at (rest .0), rest .1)
+  where
+    at : IsBytes a → IsBytes (x ∷ a)
+    at more zero = p zero
+    at more (suc i) = more i
+
+most-fits : (m : Most) → IsBytes (mostOut m) → MostFits m
+most-fits m bytes q is = let high : q / 256 < 256 = rw is at (bytes 3) in omega arith
+
+types-fit : (told : ℕ → Bool) (y : System) (n : ℕ) → IsBytes (typesOut told y n) → (t : ℕ) → 1 ≤ t → t ≤ n → MostFits (typeNo y t .most)
+unfolding typesOut
+types-fit told y zero bytes t low high = absurd (omega arith)
+types-fit told y (suc n) bytes t low high = at (leb t n) refl (types-fit told y n (parts .0) t low)
+  where
+    last : TaskType
+    last = typeNo y (suc n)
+
+    tail : List ℕ
+    tail = dataOut (told (suc n)) (last .data) ++ mostOut (last .most)
+
+    parts : IsBytes (typesOut told y n) × IsBytes (front last ++ tail)
+    parts = bytes-parts (typesOut told y n) (front last ++ tail) bytes
+
+    at : (b : Bool) → leb t n ≡ b → (t ≤ n → MostFits (typeNo y t .most)) → MostFits (typeNo y t .most)
+    at true e before = before (leb-true t n e)
+    at false e before =
+        let same : suc n ≡ t = omega (arith, leb-false t n e) in
+        let own = bytes-parts (front last) tail (parts .1) .1 in
+        subst (λ (j : ℕ). MostFits (typeNo y j .most)) same (most-fits (last .most) (bytes-parts (dataOut (told (suc n)) (last .data)) (mostOut (last .most)) own .1))
+
+file-fits : (told : ℕ → Bool) (y : System) → IsBytes (fileWith told y) → ReplicasFit y
+file-fits told y bytes t q low high is =
+    types-fit told y (y .typecount) (bytes-parts (platformOut y) (typesOut told y (y .typecount)) bytes .1) t low high q is
 
 -- main: the round trips
 
@@ -107,8 +163,17 @@ reads-exactly file y bytes = (
 
 -- main: the systems that a file gives
 
-pub given-iff : (y : System) → Given y ↔ LimitsOut y
-given-iff y = (
-  λ g. limits-out y .0 (read-keeps-limits (g .file) y (g .reads)),
-  λ l. record { file = fileOut y; bytes = file-bytes (λ (t : ℕ). false) y (limits-of y (limits-out y .1 l)); reads = limits-reads (λ (t : ℕ). false) y l },
-)
+pub given-iff : (y : System) → Given y ↔ (LimitsOut y × ReplicasFit y)
+given-iff y = (given-keeps, limits-give)
+  where
+    given-keeps : Given y → LimitsOut y × ReplicasFit y
+    given-keeps g =
+        let is = read-comes-back (g .file) y (g .bytes) (g .reads) in
+        (limits-out y .0 (read-keeps-limits (g .file) y (g .reads)), file-fits (is .0) y (subst IsBytes (is .1) (g .bytes)))
+
+    limits-give : LimitsOut y × ReplicasFit y → Given y
+    limits-give p = record {
+      file = fileOut y;
+      bytes = file-bytes (λ (t : ℕ). false) y (limits-of y (limits-out y .1 (p .0))) (p .1);
+      reads = limits-reads (λ (t : ℕ). false) y (p .0);
+    }

@@ -1,7 +1,8 @@
--- The laws of crate `writer`, in the order of their proofs: the bytes of a file; what is written reads back and what was read comes back; the order of the refusals; what the call promises.
+-- The laws of crate `writer`, in the order of their proofs: the bytes of a file; what is written reads back and what was read comes back; the order of the refusals; what the call promises, and a worked example.
 pub mod Bytes
 pub mod Told
 pub mod Cleared
+pub mod Faults
 pub mod Writable
 pub mod Written
 pub mod Read
@@ -9,4 +10,5 @@ pub mod Exactly
 pub mod Tests
 pub mod Order
 pub mod Promises
+pub mod Examples
 pub mod Steps

@@ -15,12 +15,12 @@ use Rattle.system.specs.Outcome.{accepted, refused, fromInput}
 use Rattle.partition.specs.Assignment.{among}
 use Rattle.writer.specs.File.{fileOf}
 use Rattle.writer.specs.Writing.{orElse, typesFault, systemFault, writeFault, writeOutcome}
-use Rattle.writer.specs.Meaning.{fileOut, CountWithin, EnginesWithin, SizesWithin, columnsTo, MayBeWritten, WritesInOrder}
+use Rattle.writer.specs.Meaning.{fileOut, CountWithin, EnginesWithin, SizesWithin, ReplicasWithin, columnsTo, MayBeWritten, WritesInOrder}
 use Rattle.writer.proofs.Bytes.{file-out}
-use Rattle.writer.proofs.Writable.{or-none}
+use Rattle.writer.proofs.Faults.{or-none}
 use Rattle.writer.proofs.Tests.{Test, finds-nothing, holds, fails, says, says-alone, row, skips}
-use Rattle.writer.proofs.Tests.{manyFault, noneFault, enginesFault, ruleFault, sizesFault, productFault, shortFault}
-use Rattle.writer.proofs.Tests.{many-test, none-test, engines-test, rule-test, sizes-test, columns-test, room-test}
+use Rattle.writer.proofs.Tests.{manyFault, noneFault, enginesFault, ruleFault, sizesFault, replicasFault, productFault, shortFault}
+use Rattle.writer.proofs.Tests.{many-test, none-test, engines-test, rule-test, sizes-test, replicas-test, columns-test, room-test}
 
 -- intermediate: no fault, so none in the system, and the file fits
 
@@ -40,8 +40,11 @@ or-assoc a b c = at (eqb a 0) refl
 abbrev fromTen : System → ℕ → ℕ
 fromTen y room = orElse (productFault y) (shortFault y room)
 
+abbrev fromThirtyOne : System → ℕ → ℕ
+fromThirtyOne y room = orElse (replicasFault y) (fromTen y room)
+
 abbrev fromEight : System → ℕ → ℕ
-fromEight y room = orElse (sizesFault y) (fromTen y room)
+fromEight y room = orElse (sizesFault y) (fromThirtyOne y room)
 
 abbrev fromSix : System → ℕ → ℕ
 fromSix y room = orElse (ruleFault y) (fromEight y room)
@@ -52,21 +55,23 @@ fromFive y room = orElse (enginesFault y) (fromSix y room)
 abbrev fromNine : System → ℕ → ℕ
 fromNine y room = orElse (noneFault y) (fromFive y room)
 
-regroup : (a b c d : Bool) (s t q r : ℕ)
-    → orElse (orElse (cond a 7 (cond b 9 0)) (orElse (cond c 5 (cond d 6 s)) (orElse t q))) r
-    ≡ orElse (cond a 7 0) (orElse (cond b 9 0) (orElse (cond c 5 0) (orElse (cond d 6 0) (orElse (orElse s t) (orElse q r)))))
-regroup true b c d s t q r = refl
-regroup false true c d s t q r = refl
-regroup false false true d s t q r = refl
-regroup false false false true s t q r = refl
-regroup false false false false s t q r =
-    or-assoc s (orElse t q) r ∙ ap (orElse s) (or-assoc t q r) ∙ sym (or-assoc s t (orElse q r))
+regroup : (a b c d : Bool) (s t p q r : ℕ)
+    → orElse (orElse (cond a 7 (cond b 9 0)) (orElse (cond c 5 (cond d 6 s)) (orElse t (orElse p q)))) r
+    ≡ orElse (cond a 7 0) (orElse (cond b 9 0) (orElse (cond c 5 0) (orElse (cond d 6 0) (orElse (orElse s t) (orElse p (orElse q r))))))
+regroup true b c d s t p q r = refl
+regroup false true c d s t p q r = refl
+regroup false false true d s t p q r = refl
+regroup false false false true s t p q r = refl
+regroup false false false false s t p q r =
+    or-assoc s (orElse t (orElse p q)) r
+    ∙ ap (orElse s) (or-assoc t (orElse p q) r ∙ ap (orElse t) (or-assoc p q r))
+    ∙ sym (or-assoc s t (orElse p (orElse q r)))
 
 from-seven : (y : System) (room : ℕ) → writeFault y room ≡ orElse (manyFault y) (fromNine y room)
 unfolding writeFault systemFault
 from-seven y room =
     regroup (ltb typeLimit (y .typecount)) (eqb (y .typecount) 0) (not (leb 1 (y .engines) && leb (y .engines) engineLimit)) (not (leb (y .rule) 1))
-    (sizeFault (y .timecap) (y .memorycap)) (typesFault (cleared y .types)) (productFault y) (shortFault y room)
+    (sizeFault (y .timecap) (y .memorycap)) (typesFault (cleared y .types)) (replicasFault y) (productFault y) (shortFault y room)
 
 module _ (y : System) (room : ℕ) (six : length (y .types) ≡ 6) where
   -- what is left after the tests that pass
@@ -82,12 +87,15 @@ module _ (y : System) (room : ℕ) (six : length (y .types) ≡ 6) where
   left-eight : CountWithin y → EnginesWithin y → y .rule ≤ 1 → writeFault y room ≡ fromEight y room
   left-eight k m r = left-six k m ∙ skips (fromEight y room) (rule-test y) r
 
-  left-ten : CountWithin y → EnginesWithin y → y .rule ≤ 1 → SizesWithin y → writeFault y room ≡ fromTen y room
-  left-ten k m r s = left-eight k m r ∙ skips (fromTen y room) (sizes-test y) s
+  left-thirty-one : CountWithin y → EnginesWithin y → y .rule ≤ 1 → SizesWithin y → writeFault y room ≡ fromThirtyOne y room
+  left-thirty-one k m r s = left-eight k m r ∙ skips (fromThirtyOne y room) (sizes-test y) s
+
+  left-ten : CountWithin y → EnginesWithin y → y .rule ≤ 1 → SizesWithin y → ReplicasWithin y → writeFault y room ≡ fromTen y room
+  left-ten k m r s q = left-thirty-one k m r s ∙ skips (fromTen y room) (replicas-test y) q
 
   left-thirty : MayBeWritten y → writeFault y room ≡ shortFault y room
   left-thirty w =
-      left-ten (w .count) (w .engines) (w .rule) (w .sizes)
+      left-ten (w .count) (w .engines) (w .rule) (w .sizes) (w .replicas)
       ∙ skips (shortFault y room) (columns-test y (omega (arith, w .count .1))) (w .columns)
 
   -- what the tests from each number on say
@@ -101,17 +109,20 @@ module _ (y : System) (room : ℕ) (six : length (y .types) ≡ 6) where
     says-ten : among (10 ∷ 30 ∷ 0 ∷ []) (fromTen y room) ≡ true
     says-ten = says (30 ∷ 0 ∷ []) (shortFault y room) (omega arith) columns-asked (says-alone room-asked)
 
-    says-eight : among (8 ∷ 10 ∷ 30 ∷ 0 ∷ []) (fromEight y room) ≡ true
-    says-eight = says (10 ∷ 30 ∷ 0 ∷ []) (fromTen y room) (omega arith) (sizes-test y) says-ten
+    says-thirty-one : among (31 ∷ 10 ∷ 30 ∷ 0 ∷ []) (fromThirtyOne y room) ≡ true
+    says-thirty-one = says (10 ∷ 30 ∷ 0 ∷ []) (fromTen y room) (omega arith) (replicas-test y) says-ten
 
-    says-six : among (6 ∷ 8 ∷ 10 ∷ 30 ∷ 0 ∷ []) (fromSix y room) ≡ true
-    says-six = says (8 ∷ 10 ∷ 30 ∷ 0 ∷ []) (fromEight y room) (omega arith) (rule-test y) says-eight
+    says-eight : among (8 ∷ 31 ∷ 10 ∷ 30 ∷ 0 ∷ []) (fromEight y room) ≡ true
+    says-eight = says (31 ∷ 10 ∷ 30 ∷ 0 ∷ []) (fromThirtyOne y room) (omega arith) (sizes-test y) says-thirty-one
 
-    says-five : among (5 ∷ 6 ∷ 8 ∷ 10 ∷ 30 ∷ 0 ∷ []) (fromFive y room) ≡ true
-    says-five = says (6 ∷ 8 ∷ 10 ∷ 30 ∷ 0 ∷ []) (fromSix y room) (omega arith) (engines-test y) says-six
+    says-six : among (6 ∷ 8 ∷ 31 ∷ 10 ∷ 30 ∷ 0 ∷ []) (fromSix y room) ≡ true
+    says-six = says (8 ∷ 31 ∷ 10 ∷ 30 ∷ 0 ∷ []) (fromEight y room) (omega arith) (rule-test y) says-eight
 
-    says-nine : among (9 ∷ 5 ∷ 6 ∷ 8 ∷ 10 ∷ 30 ∷ 0 ∷ []) (fromNine y room) ≡ true
-    says-nine = says (5 ∷ 6 ∷ 8 ∷ 10 ∷ 30 ∷ 0 ∷ []) (fromFive y room) (omega arith) (none-test y) says-five
+    says-five : among (5 ∷ 6 ∷ 8 ∷ 31 ∷ 10 ∷ 30 ∷ 0 ∷ []) (fromFive y room) ≡ true
+    says-five = says (6 ∷ 8 ∷ 31 ∷ 10 ∷ 30 ∷ 0 ∷ []) (fromSix y room) (omega arith) (engines-test y) says-six
+
+    says-nine : among (9 ∷ 5 ∷ 6 ∷ 8 ∷ 31 ∷ 10 ∷ 30 ∷ 0 ∷ []) (fromNine y room) ≡ true
+    says-nine = says (5 ∷ 6 ∷ 8 ∷ 31 ∷ 10 ∷ 30 ∷ 0 ∷ []) (fromFive y room) (omega arith) (none-test y) says-five
 
 -- main
 
@@ -142,7 +153,7 @@ module _ (y : System) (room : ℕ) (six : length (y .types) ≡ 6) where
       at : (b : Bool) → ltb typeLimit (y .typecount) ≡ b → (writeOutcome y room ≡ refused fromInput 7) ↔ (6 < y .typecount)
       at true q = ((λ o. ltb-true typeLimit (y .typecount) q), (λ h. refuses y room 7 (omega arith) .1 (from-seven y room ∙ rw q)))
       at false q =
-          in-row y room (fromNine y room) (9 ∷ 5 ∷ 6 ∷ 8 ∷ 10 ∷ 30 ∷ 0 ∷ []) (omega arith) (many-test y) (from-seven y room)
+          in-row y room (fromNine y room) (9 ∷ 5 ∷ 6 ∷ 8 ∷ 31 ∷ 10 ∷ 30 ∷ 0 ∷ []) (omega arith) (many-test y) (from-seven y room)
           (says-nine y room six (ltb-false typeLimit (y .typecount) q)) refl (over (y .typecount) 6)
 
   then-thirty : MayBeWritten y → (writeOutcome y room ≡ refused fromInput 30) ↔ (room < length (fileOut y))
@@ -161,14 +172,16 @@ module _ (y : System) (room : ℕ) (six : length (y .types) ≡ 6) where
       let b = or-none (noneFault y) (fromFive y room) (a .1) in
       let c = or-none (enginesFault y) (fromSix y room) (b .1) in
       let d = or-none (ruleFault y) (fromEight y room) (c .1) in
-      let s = or-none (sizesFault y) (fromTen y room) (d .1) in
-      let q = or-none (productFault y) (shortFault y room) (s .1) in
+      let s = or-none (sizesFault y) (fromThirtyOne y room) (d .1) in
+      let p = or-none (replicasFault y) (fromTen y room) (s .1) in
+      let q = or-none (productFault y) (shortFault y room) (p .1) in
       let few = holds (omega arith) (many-test y) (a .0) in
       record {
         count = (holds (omega arith) (none-test y) (b .0), few);
         engines = holds (omega arith) (engines-test y) (c .0);
         rule = holds (omega arith) (rule-test y) (d .0);
         sizes = holds (omega arith) (sizes-test y) (s .0);
+        replicas = holds (omega arith) (replicas-test y) (p .0);
         columns = holds (omega arith) (columns-asked y room six few) (q .0);
       }
 
@@ -181,19 +194,22 @@ module _ (y : System) (room : ℕ) (six : length (y .types) ≡ 6) where
   writes-in-order = record {
     sevenFirst = seven-first;
     thenNine = λ few.
-        in-row y room (fromFive y room) (5 ∷ 6 ∷ 8 ∷ 10 ∷ 30 ∷ 0 ∷ []) (omega arith) (none-test y) (left-nine y room six few)
+        in-row y room (fromFive y room) (5 ∷ 6 ∷ 8 ∷ 31 ∷ 10 ∷ 30 ∷ 0 ∷ []) (omega arith) (none-test y) (left-nine y room six few)
         (says-five y room six few) refl ((λ none. omega arith), (λ e some. omega arith));
     thenFive = λ k.
-        in-row y room (fromSix y room) (6 ∷ 8 ∷ 10 ∷ 30 ∷ 0 ∷ []) (omega arith) (engines-test y) (left-five y room six k)
+        in-row y room (fromSix y room) (6 ∷ 8 ∷ 31 ∷ 10 ∷ 30 ∷ 0 ∷ []) (omega arith) (engines-test y) (left-five y room six k)
         (says-six y room six (k .1)) refl Iff·rfl;
     thenSix = λ k m.
-        in-row y room (fromEight y room) (8 ∷ 10 ∷ 30 ∷ 0 ∷ []) (omega arith) (rule-test y) (left-six y room six k m)
+        in-row y room (fromEight y room) (8 ∷ 31 ∷ 10 ∷ 30 ∷ 0 ∷ []) (omega arith) (rule-test y) (left-six y room six k m)
         (says-eight y room six (k .1)) refl (over (y .rule) 1);
     thenEight = λ k m r.
-        in-row y room (fromTen y room) (10 ∷ 30 ∷ 0 ∷ []) (omega arith) (sizes-test y) (left-eight y room six k m r)
+        in-row y room (fromThirtyOne y room) (31 ∷ 10 ∷ 30 ∷ 0 ∷ []) (omega arith) (sizes-test y) (left-eight y room six k m r)
+        (says-thirty-one y room six (k .1)) refl Iff·rfl;
+    thenThirtyOne = λ k m r s.
+        in-row y room (fromTen y room) (10 ∷ 30 ∷ 0 ∷ []) (omega arith) (replicas-test y) (left-thirty-one y room six k m r s)
         (says-ten y room six (k .1)) refl Iff·rfl;
-    thenTen = λ k m r s.
-        in-row y room (shortFault y room) (30 ∷ 0 ∷ []) (omega arith) (columns-asked y room six (k .1)) (left-ten y room six k m r s)
+    thenTen = λ k m r s q.
+        in-row y room (shortFault y room) (30 ∷ 0 ∷ []) (omega arith) (columns-asked y room six (k .1)) (left-ten y room six k m r s q)
         (says-alone (room-asked y room six (k .1))) refl (over (columnsTo y (y .typecount)) 1024);
     thenThirty = then-thirty;
     orWritten = or-written;

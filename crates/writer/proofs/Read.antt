@@ -1,9 +1,11 @@
 -- What is read comes back: along a reading, some file of the system so far and the bytes that are left are the whole file.
--- A field that was accepted has the bytes that its platform, its type or its d is written with, since bytes that were read as a number are that number's bytes. A type comes without a tag 3; where one follows, it is told.
+-- A field that was accepted has the bytes that its platform, its type, its d or its q is written with, since bytes that were read as a number are that number's bytes.
+-- A type comes without d and q. Where a tag 3 follows, it is told; a tag 4 gives q.
 use Prim.Native.Nat.{ℕ, zero, suc, _+_, _-_, _≤_, _<_}
 use mathlib.Core.Path.{_≡_, refl, sym, ap, ap₂, _∙_, subst}
 use mathlib.Core.List.{List, [], _∷_, _++_, append-nil, append-assoc}
 use mathlib.Core.Bool.{Bool, true, false, cond, _||_}
+use mathlib.Core.Logic.{⊎-elim}
 use native.Mathlib.Omega.{arith}
 use native.Mathlib.Nat.{le-refl}
 use borrow.Author.Tests.{leb-true, leb-false, eqb-false, eq-eqb, ne-eqb}
@@ -11,20 +13,21 @@ use lib.ListN.{length, getD, take, drop, length-drop, take-append-drop}
 use lib.Seq.{drop-cons, getD-drop, getD-set-same, getD-set-other}
 use lib.Dec.{leb, eqb, lit<}
 use Rattle.buffer.proofs.Laws.{bytes2-back, bytes4-back}
+use Rattle.system.specs.declared.Most.the-variants.{NotGiven, AtMost}
 use Rattle.system.specs.declared.TaskType.{TaskType}
 use Rattle.system.specs.declared.System.{System}
 use Rattle.system.specs.declared.rules.FieldRule.{FieldRule}
-use Rattle.system.specs.Values.{taskOf, withData, noTask, blank, withPlatform, withType, lastType, withLast}
-use Rattle.system.specs.Limits.{typeLimit, platformFault, typeFault, columnsFault}
-use Rattle.system.specs.Rules.{platformRule, typeRule, dataRule, headSize, ruledSize}
+use Rattle.system.specs.Values.{taskOf, withData, withMost, noTask, blank, withPlatform, withType, lastType, withLast}
+use Rattle.system.specs.Limits.{typeLimit, platformFault, typeFault, mostFault, columnsFault}
+use Rattle.system.specs.Rules.{platformRule, typeRule, dataRule, mostRule, headSize, ruledSize}
 use Rattle.system.specs.Layout.{Reading, opened, unread, byteAt, word2, word4, fieldSize, wholeField, bodyPart}
-use Rattle.system.specs.Layout.{platformFrom, platformOf, typeFrom, typeOf, dataFrom, dataOf, bodyOf, fieldOf, endOf, afterField, fieldsFrom, readFile}
-use Rattle.system.proofs.Laws.{passes, no-fault, either-false, platform-first, type-later, data-after-type, OneOf, a-platform, a-type, a-data, Passed, fieldOf-opened}
-use Rattle.system.proofs.Laws.{Sound, sound-blank, sound-field}
+use Rattle.system.specs.Layout.{platformFrom, platformOf, typeFrom, typeOf, dataFrom, dataOf, mostFrom, mostOf, bodyOf, fieldOf, endOf, afterField, fieldsFrom, readFile}
+use Rattle.system.proofs.Laws.{passes, no-fault, either-false, platform-first, type-later, data-after-type, most-after-type}
+use Rattle.system.proofs.Laws.{OneOf, a-platform, a-type, a-data, a-most, Passed, fieldOf-opened, Sound, sound-blank, sound-field}
 use Rattle.partition.specs.Plain.{typeNo}
-use Rattle.writer.specs.Meaning.{fourOut, platformOut, typeOut, typesOut, fileWith, IsBytes}
+use Rattle.writer.specs.Meaning.{twoOut, fourOut, platformOut, typeOut, typesOut, fileWith, IsBytes}
 use Rattle.writer.proofs.Bytes.{four-out}
-use Rattle.writer.proofs.Told.{type-given, types-same}
+use Rattle.writer.proofs.Told.{type-given, type-limited, types-same}
 
 -- intermediate: the bytes of a field, one by one
 
@@ -86,6 +89,11 @@ module _ (s : List ℕ) (bytes : IsBytes s) where
   data-back : Whole s dataRule → 3 ∷ 0 ∷ 4 ∷ fourOut (word4 s 3) ≡ take (fieldSize s) s
   data-back f = (λ i. sym (f .first) i ∷ high dataRule (lit< tt) f i ∷ low dataRule (lit< tt) f i ∷ four-back 3 i) ∙ sym (whole-bytes dataRule (lit< tt) f)
 
+  most-back : Whole s mostRule → 4 ∷ 0 ∷ 2 ∷ twoOut (word2 s 3) ≡ take (fieldSize s) s
+  most-back f =
+      (λ i. sym (f .first) i ∷ high mostRule (lit< tt) f i ∷ low mostRule (lit< tt) f i ∷ bytes2-back (byteAt s 3) (byteAt s 4) (bytes 4) i)
+      ∙ sym (whole-bytes mostRule (lit< tt) f)
+
 -- intermediate: a file with one field more
 
 -- what is told of type k, and of all others what was told before
@@ -127,19 +135,18 @@ file-type told z t h =
     ∙ ap (λ (j : ℕ). platformOut z ++ (typesOut told z j ++ typeOut false t)) back
     ∙ sym (append-assoc (platformOut z) (typesOut told z k) (typeOut false t))
 
-file-data : (told : ℕ → Bool) (z : System) (d : ℕ) → 1 ≤ z .typecount → z .typecount ≤ length (z .types) → told (z .typecount) ≡ false → lastType z .data ≡ 0
-    → fileWith (tells (z .typecount) true told) (withLast (withData d (lastType z)) z) ≡ fileWith told z ++ (3 ∷ 0 ∷ 4 ∷ fourOut d)
-file-data told z d some most quiet none =
+-- the last type in another form, its bytes those that it had and then a field
+file-last : (told : ℕ → Bool) (z : System) (b : Bool) (t : TaskType) (field : List ℕ) → 1 ≤ z .typecount → z .typecount ≤ length (z .types)
+    → typeOut b t ≡ typeOut (told (z .typecount)) (lastType z) ++ field → fileWith (tells (z .typecount) b told) (withLast t z) ≡ fileWith told z ++ field
+file-last told z b t field some most more =
     let k = z .typecount in
     let before = typesOut told z (k - 1) in
-    let field : List ℕ = 3 ∷ 0 ∷ 4 ∷ fourOut d in
-    let old : typesOut told z k ≡ before ++ typeOut false (lastType z) = types-last told z k some ∙ ap (λ (b : Bool). before ++ typeOut b (lastType z)) quiet in
-    let t = withData d (lastType z) in
+    let old = typeOut (told k) (lastType z) in
     ap (λ (l : List ℕ). platformOut z ++ l)
-    (types-set told z (withLast t z) k true t some (getD-set-same (z .types) (k - 1) t noTask (omega arith)) (λ i n. getD-set-other (z .types) (k - 1) i t noTask n)
-    ∙ ap (λ (l : List ℕ). before ++ l) (type-given (lastType z) d none)
-    ∙ sym (append-assoc before (typeOut false (lastType z)) field)
-    ∙ ap (λ (l : List ℕ). l ++ field) (sym old))
+    (types-set told z (withLast t z) k b t some (getD-set-same (z .types) (k - 1) t noTask (omega arith)) (λ i n. getD-set-other (z .types) (k - 1) i t noTask n)
+    ∙ ap (λ (l : List ℕ). before ++ l) more
+    ∙ sym (append-assoc before old field)
+    ∙ ap (λ (l : List ℕ). l ++ field) (sym (types-last told z k some)))
     ∙ sym (append-assoc (platformOut z) (typesOut told z k) field)
 
 -- intermediate: what was read so far, as it is written
@@ -151,17 +158,19 @@ written told last z = cond (eqb last 0) [] (fileWith told z)
 written-some : (told : ℕ → Bool) (last : ℕ) (z : System) → (last ≡ 0 → ⊥) → written told last z ≡ fileWith told z
 written-some told last z n = rw (ne-eqb last 0 n)
 
--- a system so far: no type before the platform, and no d directly after a type
+-- a system so far: no type before the platform, no d directly after a type, and no q before the tag 4
 record SoFar (told : ℕ → Bool) (last : ℕ) (z : System) : Type 0 where
   sound : Sound last z
   start : last ≡ 0 → z .typecount ≡ 0
   quiet : last ≡ 2 → (told (z .typecount) ≡ false) × (lastType z .data ≡ 0)
+  free : 1 < last → last < 4 → lastType z .most ≡ NotGiven
 
 -- an accepted field adds its bytes to what is written
 record Adds (told : ℕ → Bool) (s : List ℕ) (last : ℕ) (z next : System) : Type 0 where
   tells-now : ℕ → Bool
   start : byteAt s 0 ≡ 0 → next .typecount ≡ 0
   quiet : byteAt s 0 ≡ 2 → (tells-now (next .typecount) ≡ false) × (lastType next .data ≡ 0)
+  free : 1 < byteAt s 0 → byteAt s 0 < 4 → lastType next .most ≡ NotGiven
   bytes : written tells-now (byteAt s 0) next ≡ written told last z ++ take (fieldSize s) s
 
 module _ (told : ℕ → Bool) (s : List ℕ) (bytes : IsBytes s) (last : ℕ) (z next : System) (soFar : SoFar told last z) where
@@ -177,6 +186,7 @@ module _ (told : ℕ → Bool) (s : List ℕ) (bytes : IsBytes s) (last : ℕ) (
         tells-now = told;
         start = λ w. absurd (some w);
         quiet = λ w. absurd (omega (arith, f .first));
+        free = λ low high. absurd (omega (arith, f .first));
         bytes =
             written-some told (byteAt s 0) new some
             ∙ file-platform told new (soFar .start first)
@@ -200,34 +210,59 @@ module _ (told : ℕ → Bool) (s : List ℕ) (bytes : IsBytes s) (last : ℕ) (
         tells-now = now;
         start = λ w. absurd (some w);
         quiet = λ w. (tells-it (suc (z .typecount)) false told, ap (λ (x : TaskType). x .data) here);
+        free = λ low high. ap (λ (x : TaskType). x .most) here;
         bytes =
             written-some now (byteAt s 0) (withType t z) some
             ∙ file-type told z t room
             ∙ ap₂ (λ (a b : List ℕ). a ++ b) (sym (written-some told last z later)) (type-back s bytes f);
       })
 
+  -- a field of the last type: the type's bytes, and then those of the field
+  adds-last : (b : Bool) (t : TaskType) (field : List ℕ) → 1 < last → 2 < byteAt s 0 → (byteAt s 0 < 4 → t .most ≡ NotGiven)
+      → typeOut b t ≡ typeOut (told (z .typecount)) (lastType z) ++ field → field ≡ take (fieldSize s) s → Adds told s last z (withLast t z)
+  adds-last b t field after later free more is =
+      let sound = soFar .sound in
+      let some = sound .some-type after in
+      let most : z .typecount ≤ length (z .types) = omega (arith, sound .six, sound .typecount) in
+      let here : lastType (withLast t z) ≡ t = getD-set-same (z .types) (z .typecount - 1) t noTask (omega arith) in
+      let now = tells (z .typecount) b told in
+      record {
+        tells-now = now;
+        start = λ w. absurd (omega arith);
+        quiet = λ w. absurd (omega arith);
+        free = λ low high. ap (λ (x : TaskType). x .most) here ∙ free high;
+        bytes =
+            written-some now (byteAt s 0) (withLast t z) (λ w. omega arith)
+            ∙ file-last told z b t field some most more
+            ∙ ap₂ (λ (a c : List ℕ). a ++ c) (sym (written-some told last z (λ w. omega arith))) is;
+      }
+
   adds-data : Whole s dataRule → last ≡ 2 → dataOf (bodyPart s) z ≡ opened next → Adds told s last z next
   unfolding dataFrom
   adds-data f after e =
-      let some : byteAt s 0 ≡ 0 → ⊥ = λ w. omega (arith, f .first) in
       let d = word4 s 3 in
       let t = withData d (lastType z) in
-      let now = tells (z .typecount) true told in
       let old = soFar .quiet after in
-      let sound = soFar .sound in
-      let one : 1 ≤ z .typecount = sound .some-type (omega arith) in
+      let free = soFar .free (omega arith) (omega arith) in
+      let field : List ℕ = 3 ∷ 0 ∷ 4 ∷ fourOut d in
       let read : dataOf (bytesFrom 4 3 s) z ≡ opened next = ap (λ (b : List ℕ). dataOf b z) (sym (f .body)) ∙ e in
       let q = no-fault (typeFault t) (withLast t z) next read in
       subst (Adds told s last z) (q .1)
-      (record {
-        tells-now = now;
-        start = λ w. absurd (some w);
-        quiet = λ w. absurd (omega (arith, f .first));
-        bytes =
-            written-some now (byteAt s 0) (withLast t z) some
-            ∙ file-data told z d one (omega (arith, sound .six, sound .typecount)) (old .0) (old .1)
-            ∙ ap₂ (λ (a b : List ℕ). a ++ b) (sym (written-some told last z (λ n. omega arith))) (data-back s bytes f);
-      })
+      (adds-last true t field (omega arith) (omega (arith, f .first)) (λ low. free)
+      (type-given (lastType z) d (old .1) free ∙ ap (λ (b : Bool). typeOut b (lastType z) ++ field) (sym (old .0)))
+      (data-back s bytes f))
+
+  adds-most : Whole s mostRule → 1 < last → last < 4 → mostOf (bodyPart s) z ≡ opened next → Adds told s last z next
+  unfolding mostFrom
+  adds-most f low high e =
+      let n = word2 s 3 in
+      let t = withMost n (lastType z) in
+      let read : mostOf (bytesFrom 2 3 s) z ≡ opened next = ap (λ (b : List ℕ). mostOf b z) (sym (f .body)) ∙ e in
+      let q = no-fault (mostFault (AtMost n)) (withLast t z) next read in
+      subst (Adds told s last z) (q .1)
+      (adds-last (told (z .typecount)) t (4 ∷ 0 ∷ 2 ∷ twoOut n) low (omega (arith, f .first)) (λ less. absurd (omega (arith, f .first)))
+      (type-limited (told (z .typecount)) (lastType z) n (soFar .free low high))
+      (most-back s bytes f))
 
   adds-field : fieldOf s last z ≡ opened next → Adds told s last z next
   unfolding bodyOf
@@ -244,6 +279,11 @@ module _ (told : ℕ → Bool) (s : List ℕ) (bytes : IsBytes s) (last : ℕ) (
           let q = passes (leb typeLimit (z .typecount)) 7 (typeOf (bodyPart s) z) next (rw w at b) in
           adds-type (of-rule r typeRule w p) (type-later last (rw w at (p .place))) (leb-false typeLimit (z .typecount) (q .0)) (q .1)
       at r p b (a-data w) = adds-data (of-rule r dataRule w p) (data-after-type last .0 (rw w at (p .place))) (rw w at b)
+      at r p b (a-most w) =
+          let after = most-after-type last .0 (rw w at (p .place)) in
+          let low : 1 < last = ⊎-elim (λ e. omega arith) (λ e. omega arith) after in
+          let high : last < 4 = ⊎-elim (λ e. omega arith) (λ e. omega arith) after in
+          adds-most (of-rule r mostRule w p) low high (rw w at b)
 
 -- intermediate: along a reading
 
@@ -285,7 +325,7 @@ fields-back (suc f) told (b ∷ s) last z y enough bytes soFar e =
         ap (λ (l : List ℕ). l ++ left) (a .bytes)
         ∙ append-assoc (written told last z) (take (fieldSize (b ∷ s)) (b ∷ s)) left
         ∙ ap (λ (l : List ℕ). written told last z ++ l) (take-append-drop (fieldSize (b ∷ s)) (b ∷ s)) in
-        let now : SoFar (a .tells-now) b next = record { sound = sound-field (b ∷ s) last z next (soFar .sound) q; start = a .start; quiet = a .quiet } in
+        let now : SoFar (a .tells-now) b next = record { sound = sound-field (b ∷ s) last z next (soFar .sound) q; start = a .start; quiet = a .quiet; free = a .free } in
         subst (λ (l : List ℕ). IsFile l y) joined
         (rest (a .tells-now) next (omega (arith, length-drop (fieldSize (b ∷ s)) (b ∷ s))) left-bytes now e)
 
@@ -295,4 +335,4 @@ pub read-comes-back : (file : List ℕ) (y : System) → IsBytes file → readFi
 unfolding readFile
 read-comes-back file y bytes e =
     fields-back (length file) (λ (t : ℕ). false) file 0 blank y (le-refl (length file)) bytes
-    (record { sound = sound-blank; start = λ n. refl; quiet = λ n. absurd (omega arith) }) e
+    (record { sound = sound-blank; start = λ n. refl; quiet = λ n. absurd (omega arith); free = λ low high. absurd (omega arith) }) e

@@ -14,12 +14,13 @@ use Rattle.system.specs.declared.rules.FieldRule.{FieldRule}
 use Rattle.system.specs.declared.rules.RuleFound.{RuleFound}
 use Rattle.system.specs.declared.rules.RuleFound.the-variants.{Known}
 use Rattle.system.specs.Rules.{fieldRules, ruleOf}
-use Rattle.system.proofs.Laws.{OneOf, a-platform, a-type, a-data, ruleOf-known}
+use Rattle.system.proofs.Laws.{OneOf, a-platform, a-type, a-data, a-most, ruleOf-known}
 use Rattle.system.specs.Values.{cleared}
-use Rattle.system.specs.Limits.{platformFault, typeFault, columnsFault}
+use Rattle.system.specs.Limits.{platformFault, columnsFault}
 use Rattle.writer.specs.File.{typeBytes, typesBytes}
-use Rattle.writer.specs.Writing.{orElse, countFault, typesFault, systemFault}
+use Rattle.writer.specs.Writing.{orElse, countFault, typesFault, mostsFault, systemFault}
 use Rattle.writer.proofs.Bytes.{types-more, types-size}
+use Rattle.writer.proofs.Faults.{firstOf}
 
 -- A rule's body is short
 
@@ -30,6 +31,7 @@ body-short tag {r = r} look known = at (ruleOf-known tag r (sym look ∙ known) 
     at (a-platform w) = rw w (lit< tt)
     at (a-type w) = rw w (lit< tt)
     at (a-data w) = rw w (lit< tt)
+    at (a-most w) = rw w (lit< tt)
 
 -- One test after another: this one finds a fault, or what comes after it decides
 
@@ -57,27 +59,32 @@ module _ (y : System) {counted : ℕ} (a : counted ≡ countFault (y .typecount)
       unfolding systemFault
       fault-of-types some = or-on _ _ _ a few (or-on _ _ _ b keeps (or-first _ _ _ c some))
 
-      pub fault-of-columns : sized ≡ 0 → {columns : ℕ} → columns ≡ columnsFault (cleared y .types) → columns ≡ systemFault y
-      unfolding systemFault
-      fault-of-columns small d = or-on _ _ _ a few (or-on _ _ _ b keeps (or-on _ _ _ c small d))
+      module _ (small : sized ≡ 0) {limited : ℕ} (d : limited ≡ mostsFault (cleared y .types)) where
+        pub fault-of-mosts : (limited ≡ 0 → ⊥) → limited ≡ systemFault y
+        unfolding systemFault
+        fault-of-mosts some = or-on _ _ _ a few (or-on _ _ _ b keeps (or-on _ _ _ c small (or-first _ _ _ d some)))
 
--- The types that are judged: this one is at fault, or the others decide, or none is left
+        pub fault-of-columns : limited ≡ 0 → {columns : ℕ} → columns ≡ columnsFault (cleared y .types) → columns ≡ systemFault y
+        unfolding systemFault
+        fault-of-columns apart e = or-on _ _ _ a few (or-on _ _ _ b keeps (or-on _ _ _ c small (or-on _ _ _ d apart e)))
 
-module _ (ts : List TaskType) (i : ℕ) where
-  types-step : (d : TaskType) → i < length ts → typesFault (drop i ts) ≡ orElse (typeFault (getD ts i d)) (typesFault (drop (i + 1) ts))
-  unfolding typesFault
-  types-step d h = rw (add-one i, drop-cons ts i d h)
+-- The types that are judged by a test: this one is at fault, or the others decide, or none is left
 
-  pub types-faulty : (d : TaskType) (fault : ℕ) → i < length ts → fault ≡ typeFault (getD ts i d) → (fault ≡ 0 → ⊥) → typesFault (drop i ts) ≡ typesFault ts → fault ≡ typesFault ts
-  types-faulty d fault h e some inv =
-      or-first fault (typeFault (getD ts i d)) (typesFault (drop (i + 1) ts)) e some ∙ sym (types-step d h) ∙ inv
+module _ (test : TaskType → ℕ) (ts : List TaskType) (i : ℕ) where
+  first-step : (d : TaskType) → i < length ts → firstOf test (drop i ts) ≡ orElse (test (getD ts i d)) (firstOf test (drop (i + 1) ts))
+  unfolding firstOf
+  first-step d h = rw (add-one i, drop-cons ts i d h)
 
-  pub types-on : (d : TaskType) (fault : ℕ) → i < length ts → fault ≡ typeFault (getD ts i d) → fault ≡ 0 → typesFault (drop i ts) ≡ typesFault ts → typesFault (drop (i + 1) ts) ≡ typesFault ts
-  types-on d fault h e none inv = or-on fault (typeFault (getD ts i d)) (typesFault (drop (i + 1) ts)) e none refl ∙ sym (types-step d h) ∙ inv
+  pub first-faulty : (d : TaskType) (fault all : ℕ) → i < length ts → fault ≡ test (getD ts i d) → (fault ≡ 0 → ⊥) → firstOf test (drop i ts) ≡ all → fault ≡ all
+  first-faulty d fault all h e some inv =
+      or-first fault (test (getD ts i d)) (firstOf test (drop (i + 1) ts)) e some ∙ sym (first-step d h) ∙ inv
 
-  pub types-end : length ts ≤ i → typesFault (drop i ts) ≡ typesFault ts → 0 ≡ typesFault ts
-  unfolding typesFault
-  types-end h inv = rw (drop-of-length-le ts h) at inv
+  pub first-on : (d : TaskType) (fault all : ℕ) → i < length ts → fault ≡ test (getD ts i d) → fault ≡ 0 → firstOf test (drop i ts) ≡ all → firstOf test (drop (i + 1) ts) ≡ all
+  first-on d fault all h e none inv = or-on fault (test (getD ts i d)) (firstOf test (drop (i + 1) ts)) e none refl ∙ sym (first-step d h) ∙ inv
+
+  pub first-end : (all : ℕ) → length ts ≤ i → firstOf test (drop i ts) ≡ all → 0 ≡ all
+  unfolding firstOf
+  first-end all h inv = rw (drop-of-length-le ts h) at inv
 
 -- The types that are written: one more, which is among the first k
 

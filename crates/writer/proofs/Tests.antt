@@ -10,15 +10,18 @@ use borrow.Author.Tests.{ltb-true, ltb-false, leb-true, eqb-true, eqb-false, le-
 use lib.ListN.{length, getD, take, replicate}
 use lib.Seq.{take-suc}
 use lib.Dec.{leb, ltb, eqb}
+use Rattle.system.specs.declared.Most.{Most}
+use Rattle.system.specs.declared.Most.the-variants.{NotGiven, AtMost}
 use Rattle.system.specs.declared.TaskType.{TaskType}
 use Rattle.system.specs.declared.System.{System}
 use Rattle.system.specs.Values.{noTask, cleared}
-use Rattle.system.specs.Limits.{engineLimit, typeLimit, sizeLimit, columnLimit, sizeFault, typeFault, columnsOf, columnsFault}
+use Rattle.system.specs.Limits.{engineLimit, typeLimit, sizeLimit, columnLimit, sizeFault, typeFault, mostFault, columnsOf, columnsFault}
 use Rattle.system.proofs.Laws.{and-parts, and-both, sized-task}
 use Rattle.partition.specs.Assignment.{among}
 use Rattle.writer.specs.File.{fileOf}
-use Rattle.writer.specs.Writing.{orElse, typesFault, roomFault}
-use Rattle.writer.specs.Meaning.{EnginesWithin, SizesWithin, columnsTo}
+use Rattle.writer.specs.Writing.{orElse, typesFault, mostsFault, roomFault}
+use Rattle.writer.specs.Meaning.{EnginesWithin, SizesWithin, ReplicasWithin, columnsTo}
+use Rattle.writer.proofs.Faults.{none-or, firstOf, types-first, replicaFault, mosts-first}
 
 -- one test: what it asks holds and it finds nothing, or it does not hold and the test says its number
 pub data Test (P : Type 0) (n : ℕ) : ℕ → Type 0 where
@@ -92,6 +95,9 @@ ruleFault y = cond (not (leb (y .rule) 1)) 6 0
 abbrev pub sizesFault : System → ℕ
 sizesFault y = orElse (sizeFault (y .timecap) (y .memorycap)) (typesFault (cleared y .types))
 
+abbrev pub replicasFault : System → ℕ
+replicasFault y = mostsFault (cleared y .types)
+
 abbrev pub productFault : System → ℕ
 productFault y = columnsFault (cleared y .types)
 
@@ -121,7 +127,25 @@ engines-test y = both-test 1 (y .engines) (y .engines) engineLimit
 pub rule-test : (y : System) → Test (y .rule ≤ 1) 6 (ruleFault y)
 rule-test y = one-test (y .rule) 1
 
--- 8: u, s and d of types 1 to k, where those past k are cleared
+-- a test of types 1 to k, where those past k are cleared and pass
+
+module _ (test : TaskType → ℕ) (Asks : TaskType → Type 0) {n : ℕ} (some : 0 < n) (one : (t : TaskType) → Test (Asks t) n (test t)) (free : test noTask ≡ 0) where
+  none-faulty : (m : ℕ) → firstOf test (replicate m noTask) ≡ 0
+  unfolding firstOf
+  none-faulty zero = refl
+  none-faulty (suc m) = none-or (test noTask) (firstOf test (replicate m noTask)) free (none-faulty m)
+
+  first-test : (k m : ℕ) (ts : List TaskType) → Test ((i : ℕ) → i < k → Asks (getD ts i noTask)) n (firstOf test (take k ts ++ replicate m noTask))
+  unfolding firstOf
+  first-test zero m ts = rw (none-faulty m) (passed (λ i h. absurd (omega arith)))
+  first-test (suc k) m [] = rw (none-faulty m) (passed (λ i h. holds some (one noTask) free))
+  first-test (suc k) m (t ∷ ts) = asked (each, λ all. (all zero (omega arith), λ i h. all (suc i) (omega arith))) (both some (one t) (first-test k m ts))
+    where
+      each : (Asks t × ((i : ℕ) → i < k → Asks (getD ts i noTask))) → (i : ℕ) → i < suc k → Asks (getD (t ∷ ts) i noTask)
+      each h zero less = h .0
+      each h (suc i) less = h .1 i (omega arith)
+
+-- 8: u, s and d of types 1 to k
 
 abbrev Within : TaskType → Type 0
 Within t = (t .time ≤ 1000000) × (t .memory ≤ 1000000) × (t .data ≤ 1000000)
@@ -138,20 +162,8 @@ type-test t =
     (λ q h. let two = and-both u s (le-leb (t .time) sizeLimit (h .0)) (le-leb (t .memory) sizeLimit (h .1)) in false≢true (sym (not-true _ q) ∙ and-both (u && s) d two (le-leb (t .data) sizeLimit (h .2))))
     (λ q. let h = sized-task t (rw q) in (h .time, h .memory, h .data))
 
-none-faulty : (n : ℕ) → typesFault (replicate n noTask) ≡ 0
-unfolding typesFault
-none-faulty zero = refl
-none-faulty (suc n) = none-faulty n
-
-types-test : (k n : ℕ) (ts : List TaskType) → Test ((i : ℕ) → i < k → Within (getD ts i noTask)) 8 (typesFault (take k ts ++ replicate n noTask))
-unfolding typesFault
-types-test zero n ts = rw (none-faulty n) (passed (λ i h. absurd (omega arith)))
-types-test (suc k) n [] = rw (none-faulty n) (passed (λ i h. (omega arith, omega arith, omega arith)))
-types-test (suc k) n (t ∷ ts) = asked (each, λ all. (all zero (omega arith), λ i h. all (suc i) (omega arith))) (both (omega arith) (type-test t) (types-test k n ts))
-  where
-    each : (Within t × ((i : ℕ) → i < k → Within (getD ts i noTask))) → (i : ℕ) → i < suc k → Within (getD (t ∷ ts) i noTask)
-    each h zero less = h .0
-    each h (suc i) less = h .1 i (omega arith)
+types-test : (k m : ℕ) (ts : List TaskType) → Test ((i : ℕ) → i < k → Within (getD ts i noTask)) 8 (typesFault (take k ts ++ replicate m noTask))
+types-test k m ts = rw (types-first (take k ts ++ replicate m noTask)) (first-test typeFault Within (omega arith) type-test refl k m ts)
 
 abbrev AllWithin : System → Type 0
 AllWithin y = ((y .timecap ≤ 1000000) × (y .memorycap ≤ 1000000)) × ((i : ℕ) → i < y .typecount → Within (getD (y .types) i noTask))
@@ -164,6 +176,31 @@ sizes-test y = asked (told, back) (both (omega arith) (size-test (y .timecap) (y
 
     back : SizesWithin y → AllWithin y
     back w = (w .capacities, λ i less. let same : suc i - 1 ≡ i = omega arith in subst (λ (j : ℕ). Within (getD (y .types) j noTask)) same (w .costs (suc i) (omega arith) (omega arith)))
+
+-- 31: q of types 1 to k
+
+abbrev Apart : Most → Type 0
+Apart m = (q : ℕ) → m ≡ AtMost q → 1 ≤ q
+
+most-test : (m : Most) → Test (Apart m) 31 (mostFault m)
+most-test NotGiven = passed (λ q e. let z : _≡_ {A = ℕ} 0 1 = cc in absurd (omega arith))
+most-test (AtMost p) =
+    test-of (eqb p 0) (λ e all. omega (arith, eqb-true p 0 e, all p refl)) (λ e q is. let same : p ≡ q = cc in omega (arith, eqb-false p 0 e))
+
+mosts-test : (k m : ℕ) (ts : List TaskType) → Test ((i : ℕ) → i < k → Apart (getD ts i noTask .most)) 31 (mostsFault (take k ts ++ replicate m noTask))
+mosts-test k m ts =
+    rw (mosts-first (take k ts ++ replicate m noTask)) (first-test replicaFault (λ (t : TaskType). Apart (t .most)) (omega arith) (λ t. most-test (t .most)) refl k m ts)
+
+pub replicas-test : (y : System) → Test (ReplicasWithin y) 31 (replicasFault y)
+replicas-test y = asked (told, back) (mosts-test (y .typecount) (typeLimit - y .typecount) (y .types))
+  where
+    told : ((i : ℕ) → i < y .typecount → Apart (getD (y .types) i noTask .most)) → ReplicasWithin y
+    told h t q low high is = h (t - 1) (omega arith) q is
+
+    back : ReplicasWithin y → (i : ℕ) → i < y .typecount → Apart (getD (y .types) i noTask .most)
+    back w i less =
+        let same : suc i - 1 ≡ i = omega arith in
+        subst (λ (j : ℕ). Apart (getD (y .types) j noTask .most)) same (λ q is. w (suc i) q (omega arith) (omega arith) is)
 
 -- 10: the columns of types 1 to k, where those past k are cleared
 

@@ -2,18 +2,19 @@
 -- A file with a zero tag 3 is longer.
 use Prim.Native.Nat.{ℕ, zero, suc, _+_, _≤_, _<_}
 use mathlib.Core.Path.{_≡_, refl, sym, ap, ap₂}
-use mathlib.Core.List.{List, [], _∷_, _++_}
+use mathlib.Core.List.{List, [], _∷_, _++_, append-nil}
 use mathlib.Core.Bool.{Bool, true, false, not, cond, _&&_, and-false}
 use native.Mathlib.Omega.{arith}
 use native.Mathlib.Nat.{le-refl}
 use borrow.Author.Tests.{eqb-true, leb-true, leb-false}
 use lib.ListN.{length, length-append}
 use lib.Dec.{eqb, leb}
+use Rattle.system.specs.declared.Most.the-variants.{NotGiven}
 use Rattle.system.specs.declared.TaskType.{TaskType}
 use Rattle.system.specs.declared.System.{System}
-use Rattle.system.specs.Values.{withData}
+use Rattle.system.specs.Values.{taskOf, withData, withMost}
 use Rattle.partition.specs.Plain.{typeNo}
-use Rattle.writer.specs.Meaning.{fourOut, platformOut, dataOut, typeOut, typesOut, fileWith, fileOut, NoZero, ComesBackExactly}
+use Rattle.writer.specs.Meaning.{twoOut, fourOut, platformOut, dataOut, mostOut, typeOut, typesOut, fileWith, fileOut, NoZero, ComesBackExactly}
 
 -- intermediate: one type
 
@@ -33,13 +34,17 @@ has-data false d = at (eqb d 0) refl
     at true q = left-out refl (eqb-true d 0 q)
     at false q = given (rw q)
 
--- its bytes with a tag 3: those without, and then the field of d
-pub type-given : (t : TaskType) (d : ℕ) → t .data ≡ 0 → typeOut true (withData d t) ≡ typeOut false t ++ (3 ∷ 0 ∷ 4 ∷ fourOut d)
-type-given t d none = rw (none, data-given d)
+-- its bytes with a tag 3: those without, and then the field of d; and so with a tag 4
+pub type-given : (t : TaskType) (d : ℕ) → t .data ≡ 0 → t .most ≡ NotGiven → typeOut true (withData d t) ≡ typeOut false t ++ (3 ∷ 0 ∷ 4 ∷ fourOut d)
+type-given t d none free = rw (none, free, data-given d)
+
+pub type-limited : (told : Bool) (t : TaskType) (q : ℕ) → t .most ≡ NotGiven → typeOut told (withMost q t) ≡ typeOut told t ++ (4 ∷ 0 ∷ 2 ∷ twoOut q)
+type-limited told t q free = rw (free, append-nil (dataOut told (t .data)))
 
 -- where a d of 0 is not told, nothing is
 same-type : (told : Bool) (t : TaskType) → (t .data ≡ 0 → told ≡ false) → typeOut false t ≡ typeOut told t
-same-type told t quiet = ap (λ (tail : List ℕ). typeOut false (withData 0 t) ++ tail) (at (eqb (t .data) 0) refl)
+same-type told t quiet =
+    ap (λ (l : List ℕ). typeOut false (taskOf (t .time) (t .memory) (t .ceiling)) ++ (l ++ mostOut (t .most))) (at (eqb (t .data) 0) refl)
   where
     field : List ℕ
     field = 3 ∷ 0 ∷ 4 ∷ fourOut (t .data)
@@ -49,16 +54,25 @@ same-type told t quiet = ap (λ (tail : List ℕ). typeOut false (withData 0 t) 
     at false q = refl
 
 -- a zero tag 3 takes room, and no choice takes less than none
-longer-type : (told : Bool) (t : TaskType) → length (typeOut false t) ≤ length (typeOut told t)
-longer-type false t = le-refl (length (typeOut false t))
-longer-type true t = rw (data-given (t .data)) (at (eqb (t .data) 0))
+type-length : (told : Bool) (t : TaskType) → length (typeOut told t) ≡ 13 + length (dataOut told (t .data)) + length (mostOut (t .most))
+type-length told t = omega (arith, length-append (dataOut told (t .data)) (mostOut (t .most)))
+
+longer-data : (told : Bool) (d : ℕ) → length (dataOut false d) ≤ length (dataOut told d)
+longer-data false d = le-refl (length (dataOut false d))
+longer-data true d = rw (data-given d) (at (eqb d 0))
   where
-    at : (b : Bool) → length (typeOut false (withData 0 t) ++ cond (b && true) [] (3 ∷ 0 ∷ 4 ∷ fourOut (t .data))) ≤ 20
+    at : (b : Bool) → length (cond (b && true) [] (3 ∷ 0 ∷ 4 ∷ fourOut d)) ≤ 7
     at true = omega arith
     at false = omega arith
 
+longer-type : (told : Bool) (t : TaskType) → length (typeOut false t) ≤ length (typeOut told t)
+longer-type told t = omega (arith, type-length false t, type-length told t, longer-data told (t .data))
+
 zero-longer : (t : TaskType) → t .data ≡ 0 → length (typeOut false t) < length (typeOut true t)
-zero-longer t none = rw none (omega arith)
+zero-longer t none =
+    let given : length (dataOut true (t .data)) ≡ 7 = ap length (data-given (t .data)) in
+    let left : length (dataOut false (t .data)) ≡ 0 = rw none in
+    omega (arith, type-length false t, type-length true t)
 
 -- intermediate: the types 1 to n
 

@@ -1,33 +1,24 @@
 -- When the writer finds no fault in a system: its tests one by one, and that a system within the limits, so every one that was read, passes them all and is its own cleared one.
--- Tests are joined by `orElse`, which is 0 exactly where both are; with 0 past k the writer judges what `keepsLimits` judges.
-use Prim.Native.Nat.{ℕ, zero, suc, _≤_}
+-- With 0 and no q past k the writer judges what `keepsLimits` judges.
+use Prim.Native.Nat.{ℕ, _≤_}
 use mathlib.Core.Path.{_≡_, refl, ap, _∙_}
-use mathlib.Core.List.{List, [], _∷_}
+use mathlib.Core.List.{List}
 use mathlib.Core.Bool.{Bool, true, false, cond}
 use native.Mathlib.Omega.{arith}
-use borrow.Author.Tests.{ltb-false, le-ltb, le-leb, eqb-true, eqb-false, eq-eqb, ne-eqb}
+use borrow.Author.Tests.{ltb-false, le-ltb, le-leb, eqb-true, eqb-false, ne-eqb}
 use lib.ListN.{getD}
 use lib.Dec.{ltb, eqb}
 use Rattle.system.specs.declared.TaskType.{TaskType}
 use Rattle.system.specs.declared.System.{System}
 use Rattle.system.specs.Values.{noTask, cleared}
-use Rattle.system.specs.Limits.{engineLimit, typeLimit, columnLimit, platformFault, typeFault, columnsFault, columns, keepsLimits}
+use Rattle.system.specs.Limits.{engineLimit, typeLimit, columnLimit, platformFault, typeFault, mostFault, columnsFault, columns, keepsLimits}
 use Rattle.system.specs.Layout.{readFile, opened}
 use Rattle.system.proofs.Laws.{Limits, Sized, limits-of, read-keeps-limits, sizes-keep, sized-test}
-use Rattle.writer.specs.Writing.{orElse, countFault, typesFault, systemFault}
+use Rattle.writer.specs.Writing.{countFault, typesFault, mostsFault, systemFault}
 use Rattle.writer.proofs.Cleared.{cleared-same}
+use Rattle.writer.proofs.Faults.{or-none, none-or, types-first, replicaFault, mosts-first, first-each, first-none}
 
--- intermediate: one test after another
-
-pub or-none : (fault later : ℕ) → orElse fault later ≡ 0 → (fault ≡ 0) × (later ≡ 0)
-or-none fault later e = at (eqb fault 0) refl e
-  where
-    at : (b : Bool) → eqb fault 0 ≡ b → cond b later fault ≡ 0 → (fault ≡ 0) × (later ≡ 0)
-    at true q e = (eqb-true fault 0 q, e)
-    at false q e = absurd (eqb-false fault 0 q e)
-
-none-or : (fault later : ℕ) → fault ≡ 0 → later ≡ 0 → orElse fault later ≡ 0
-none-or fault later p q = rw (eq-eqb fault 0 p) q
+-- intermediate: the tests one by one
 
 -- k
 
@@ -45,18 +36,20 @@ count-kept k e = most (ltb typeLimit k) refl e
 count-keeps : (k : ℕ) → 1 ≤ k → k ≤ typeLimit → countFault k ≡ 0
 count-keeps k low high = rw (le-ltb typeLimit k high, ne-eqb k 0 (λ e. omega arith))
 
--- u, s and d of some types
+-- u, s and d of some types, and their q
 
 pub types-each : (ts : List TaskType) → typesFault ts ≡ 0 → (i : ℕ) → typeFault (getD ts i noTask) ≡ 0
-unfolding typesFault
-types-each [] e i = refl
-types-each (t ∷ ts) e zero = or-none (typeFault t) (typesFault ts) e .0
-types-each (t ∷ ts) e (suc i) = types-each ts (or-none (typeFault t) (typesFault ts) e .1) i
+types-each ts e = first-each typeFault refl ts (rw (types-first ts) at e)
+
+pub mosts-each : (ts : List TaskType) → mostsFault ts ≡ 0 → (i : ℕ) → mostFault (getD ts i noTask .most) ≡ 0
+mosts-each ts e = first-each replicaFault refl ts (rw (mosts-first ts) at e)
 
 types-sized : (ts : List TaskType) → ((i : ℕ) → Sized (getD ts i noTask)) → typesFault ts ≡ 0
-unfolding typesFault
-types-sized [] h = refl
-types-sized (t ∷ ts) h = none-or (typeFault t) (typesFault ts) (eqb-true (typeFault t) 0 (sized-test t (h zero))) (types-sized ts (λ i. h (suc i)))
+types-sized ts h =
+    types-first ts ∙ first-none typeFault ts (λ i. eqb-true (typeFault (getD ts i noTask)) 0 (sized-test (getD ts i noTask) (h i)))
+
+mosts-sound : (ts : List TaskType) → ((i : ℕ) → mostFault (getD ts i noTask .most) ≡ 0) → mostsFault ts ≡ 0
+mosts-sound ts h = mosts-first ts ∙ first-none replicaFault ts h
 
 -- main: no fault is found where every test passes
 
@@ -64,6 +57,7 @@ pub record Faultless (y : System) : Type 0 where
   pub count : (1 ≤ y .typecount) × (y .typecount ≤ typeLimit)
   pub platform : platformFault (y .engines) (y .rule) (y .timecap) (y .memorycap) ≡ 0
   pub types : typesFault (cleared y .types) ≡ 0
+  pub replicas : mostsFault (cleared y .types) ≡ 0
   pub columns : columnsFault (cleared y .types) ≡ 0
 
 pub faultless-of : (y : System) → systemFault y ≡ 0 → Faultless y
@@ -71,15 +65,17 @@ unfolding systemFault
 faultless-of y e =
     let a = or-none (countFault (y .typecount)) _ e in
     let b = or-none (platformFault (y .engines) (y .rule) (y .timecap) (y .memorycap)) _ (a .1) in
-    let c = or-none (typesFault (cleared y .types)) (columnsFault (cleared y .types)) (b .1) in
-    record { count = count-kept (y .typecount) (a .0); platform = b .0; types = c .0; columns = c .1 }
+    let c = or-none (typesFault (cleared y .types)) _ (b .1) in
+    let d = or-none (mostsFault (cleared y .types)) (columnsFault (cleared y .types)) (c .1) in
+    record { count = count-kept (y .typecount) (a .0); platform = b .0; types = c .0; replicas = d .0; columns = d .1 }
 
 pub faultless-none : (y : System) → Faultless y → systemFault y ≡ 0
 unfolding systemFault
 faultless-none y f =
     none-or (countFault (y .typecount)) _ (count-keeps (y .typecount) (f .count .0) (f .count .1))
     (none-or (platformFault (y .engines) (y .rule) (y .timecap) (y .memorycap)) _ (f .platform)
-    (none-or (typesFault (cleared y .types)) (columnsFault (cleared y .types)) (f .types) (f .columns)))
+    (none-or (typesFault (cleared y .types)) _ (f .types)
+    (none-or (mostsFault (cleared y .types)) (columnsFault (cleared y .types)) (f .replicas) (f .columns))))
 
 -- main: a system within the limits
 
@@ -87,6 +83,7 @@ limits-writable : (y : System) → Limits y → (systemFault y ≡ 0) × (cleare
 limits-writable y l =
     let same : cleared y ≡ y = cleared-same y (l .six) (l .typecount) (l .past) in
     let all : typesFault (cleared y .types) ≡ 0 = ap (λ (z : System). typesFault (z .types)) same ∙ types-sized (y .types) (l .sized) in
+    let apart : mostsFault (cleared y .types) ≡ 0 = ap (λ (z : System). mostsFault (z .types)) same ∙ mosts-sound (y .types) (l .replicas) in
     let few : columnsFault (y .types) ≡ 0 = rw (le-leb (columns y) columnLimit (l .columns)) in
     let platform : platformFault (y .engines) (y .rule) (y .timecap) (y .memorycap) ≡ 0 =
     rw (
@@ -100,6 +97,7 @@ limits-writable y l =
             count = (l .some-type, l .typecount);
             platform = platform;
             types = all;
+            replicas = apart;
             columns = ap (λ (z : System). columnsFault (z .types)) same ∙ few;
           }),
       same,

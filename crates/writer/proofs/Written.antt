@@ -1,5 +1,5 @@
 -- What is written reads, and so does every file of the system: the reader goes over its fields one by one. After the platform and some types it holds them, with 0 past them;
--- a type's d is set by the tag 3 after it, and is 0 where there is none. At the end 9 and 10 pass, since the writer asked them.
+-- a type's d is set by the tag 3 after it, and is 0 where there is none; its q is set by the tag 4 after both, and is not given where there is none. At the end 9 and 10 pass, since the writer asked them.
 use Prim.Native.Nat.{ℕ, zero, suc, _+_, _-_, _≤_, _<_}
 use mathlib.Core.Path.{_≡_, refl, sym, ap, _∙_, subst}
 use mathlib.Core.List.{List, [], _∷_, _++_, append-nil, append-assoc}
@@ -10,24 +10,27 @@ use borrow.Author.Tests.{le-leb, lt-leb, eqb-true, eq-eqb, ne-eqb}
 use lib.ListN.{length, getD, take, replicate, set, length-append, length-replicate}
 use lib.Seq.{append-snoc, set-append-seam, set-set, getD-set-same, take-suc, length-take-le}
 use Rattle.buffer.proofs.Laws.{bytes2-read, bytes4-read}
+use Rattle.system.specs.declared.Most.{Most}
+use Rattle.system.specs.declared.Most.the-variants.{NotGiven, AtMost}
 use Rattle.system.specs.declared.TaskType.{TaskType}
 use Rattle.system.specs.declared.System.{System}
 use Rattle.system.specs.declared.rules.FieldRule.{FieldRule}
 use Rattle.system.specs.declared.reader.Head.{Head}
 use Rattle.system.specs.declared.reader.Head.the-variants.{Ruled}
-use Rattle.system.specs.Values.{taskOf, withData, noTask, blank, withPlatform, withType, lastType, withLast, cleared}
-use Rattle.system.specs.Limits.{typeLimit, platformFault, typeFault, columnsFault}
-use Rattle.system.specs.Rules.{platformRule, typeRule, dataRule, ruleOf, follows, mayFollow, headSize}
-use Rattle.system.specs.Layout.{Reading, opened, word4, headOf, ruledHead, bodyPart, bodyOf, platformFrom, typeFrom, dataFrom, unlessFault, ruledField, fieldOf, endOf, afterField, fieldsFrom, readFile}
+use Rattle.system.specs.Values.{taskOf, withData, withMost, noTask, blank, withPlatform, withType, lastType, withLast, cleared}
+use Rattle.system.specs.Limits.{typeLimit, platformFault, typeFault, mostFault, columnsFault}
+use Rattle.system.specs.Rules.{platformRule, typeRule, dataRule, mostRule, ruleOf, follows, mayFollow, headSize}
+use Rattle.system.specs.Layout.{Reading, opened, word4, headOf, ruledHead, bodyPart, bodyOf, platformFrom, typeFrom, dataFrom, mostFrom}
+use Rattle.system.specs.Layout.{unlessFault, ruledField, fieldOf, endOf, afterField, fieldsFrom, readFile}
 use Rattle.system.proofs.Laws.{sized-task, sized-test, type-later, fieldsFrom-nil}
 use Rattle.partition.specs.Plain.{typeNo}
 use Rattle.writer.specs.File.{fileOf}
 use Rattle.writer.specs.Writing.{systemFault}
-use Rattle.writer.specs.Meaning.{fourOut, platformOut, dataOut, typeOut, typesOut, fileWith}
+use Rattle.writer.specs.Meaning.{twoOut, fourOut, platformOut, dataOut, mostOut, typeOut, typesOut, fileWith}
 use Rattle.writer.proofs.Bytes.{four-out, file-out}
 use Rattle.writer.proofs.Told.{HasData, left-out, given, has-data}
 use Rattle.writer.proofs.Cleared.{same-to-k}
-use Rattle.writer.proofs.Writable.{types-each, faultless-of}
+use Rattle.writer.proofs.Writable.{types-each, mosts-each, faultless-of}
 
 -- intermediate: one field
 
@@ -62,7 +65,7 @@ module _ (y : System) (rest : List ℕ) (z : System) (sound : platformFault (y .
       ap (λ (x : Reading). afterField x (λ (next : System). fieldsFrom f rest 1 next))
       (field-ruled (platformOut y ++ rest) 0 z platformRule platform-head ∙ platform-body)
 
--- u, s and n of a type, after a platform, a type or a d
+-- u, s and n of a type, after a platform, a type, a d or a q
 module _ (u s n : ℕ) (rest : List ℕ) (last : ℕ) (z : System) (place : mayFollow follows last (typeRule .tag) ≡ true) (few : z .typecount < typeLimit) (sound : typeFault (taskOf u s n) ≡ 0) where
   abbrev type-field : List ℕ
   type-field = typeOut false (taskOf u s n) ++ rest
@@ -104,86 +107,151 @@ module _ (d : ℕ) (rest : List ℕ) (z : System) (sound : typeFault (withData d
       ap (λ (x : Reading). afterField x (λ (next : System). fieldsFrom f rest 3 next))
       (field-ruled data-field 2 z dataRule data-head ∙ data-body)
 
--- intermediate: a type with its d, where it has a tag 3 and where not
+-- q of the last type, after it or its d
+module _ (q : ℕ) (rest : List ℕ) (last : ℕ) (z : System) (place : mayFollow follows last (mostRule .tag) ≡ true) (sound : mostFault (AtMost q) ≡ 0) where
+  abbrev most-field : List ℕ
+  most-field = 4 ∷ 0 ∷ 2 ∷ (twoOut q ++ rest)
 
--- the reader has come to `rest`, where a type may stand, with steps enough for it, and holds `next`
-record Comes (f : ℕ) (s : List ℕ) (last : ℕ) (z : System) (rest : List ℕ) (next : System) : Type 0 where
+  most-head : headOf most-field last ≡ Ruled mostRule
+  unfolding ruleOf headOf ruledHead
+  most-head = rw (le-leb headSize (length most-field) (omega arith), place, le-leb 5 (length most-field) (omega arith))
+
+  most-body : bodyOf mostRule (bodyPart most-field) z ≡ opened (withLast (withMost q (lastType z)) z)
+  unfolding bodyOf mostFrom
+  most-body =
+      rw (le-leb 5 (length most-field) (omega arith), bytes2-read q)
+      (unless-none (mostFault (AtMost q)) (withLast (withMost q (lastType z)) z) sound)
+
+  most-step : (f : ℕ) → fieldsFrom (suc f) most-field last z ≡ fieldsFrom f rest 4 (withLast (withMost q (lastType z)) z)
+  unfolding fieldsFrom
+  most-step f =
+      ap (λ (x : Reading). afterField x (λ (next : System). fieldsFrom f rest 4 next))
+      (field-ruled most-field last z mostRule most-head ∙ most-body)
+
+-- intermediate: a type with its d and its q, where it has a tag 3 or 4 and where not
+
+-- what may follow a tag: a type, and before that a q
+abbrev TypeMay : ℕ → Type 0
+TypeMay tag = mayFollow follows tag (typeRule .tag) ≡ true
+
+abbrev MostMay : ℕ → Type 0
+MostMay tag = TypeMay tag × (mayFollow follows tag (mostRule .tag) ≡ true)
+
+-- the reader has come to `rest`, where P tells what may stand there, with steps enough for it, and holds `next`
+record Comes (P : ℕ → Type 0) (f : ℕ) (s : List ℕ) (last : ℕ) (z : System) (rest : List ℕ) (next : System) : Type 0 where
   steps : ℕ
   enough : length rest ≤ steps
   tag : ℕ
-  place : mayFollow follows tag (typeRule .tag) ≡ true
+  place : P tag
   goes : fieldsFrom f s last z ≡ fieldsFrom steps rest tag next
 
-comes-then : {f : ℕ} {s : List ℕ} {last : ℕ} {z : System} {mid rest : List ℕ} {a b : System} → Comes f s last z mid a
-    → ((steps tag : ℕ) → length mid ≤ steps → mayFollow follows tag (typeRule .tag) ≡ true → Comes steps mid tag a rest b)
-    → Comes f s last z rest b
+comes-then : {P Q : ℕ → Type 0} {f : ℕ} {s : List ℕ} {last : ℕ} {z : System} {mid rest : List ℕ} {a b : System} → Comes P f s last z mid a
+    → ((steps tag : ℕ) → length mid ≤ steps → P tag → Comes Q steps mid tag a rest b)
+    → Comes Q f s last z rest b
 comes-then p on =
     let q = on (p .steps) (p .tag) (p .enough) (p .place) in
     record { steps = q .steps; enough = q .enough; tag = q .tag; place = q .place; goes = p .goes ∙ q .goes }
 
-module _ (told : Bool) (t : TaskType) (rest : List ℕ) (last : ℕ) (z : System) (place : mayFollow follows last (typeRule .tag) ≡ true) where
-  module _ (six : length (z .types) ≡ typeLimit) (few : z .typecount < typeLimit) (sound : typeFault t ≡ 0) where
-    -- the type as it stands before its d is read
+-- the type that was read last, as it stands so far: another one in its place
+module _ (z : System) (six : length (z .types) ≡ typeLimit) (few : z .typecount < typeLimit) (t : TaskType) where
+  last-of : lastType (withType t z) ≡ t
+  last-of =
+      let back : suc (z .typecount) - 1 ≡ z .typecount = omega arith in
+      ap (λ (k : ℕ). getD (withType t z .types) k noTask) back ∙ getD-set-same (z .types) (z .typecount) t noTask (omega arith)
+
+  last-set : (change : TaskType → TaskType) → withLast (change (lastType (withType t z))) (withType t z) ≡ withType (change t) z
+  last-set change =
+      let back : suc (z .typecount) - 1 ≡ z .typecount = omega arith in
+      let types : set (withType t z .types) (suc (z .typecount) - 1) (change (lastType (withType t z))) ≡ set (z .types) (z .typecount) (change t) =
+      (λ i. set (withType t z .types) (back i) (change (last-of i))) ∙ set-set (z .types) (z .typecount) t (change t) in
+      λ i. record { engines = z .engines; rule = z .rule; timecap = z .timecap; memorycap = z .memorycap; typecount = suc (z .typecount); types = types i }
+
+  -- its d
+  data-comes : (told : Bool) (d : ℕ) → t .data ≡ 0 → typeFault (withData d t) ≡ 0 → (rest : List ℕ) (f : ℕ) → length (dataOut told d ++ rest) ≤ f
+      → Comes MostMay f (dataOut told d ++ rest) 2 (withType t z) rest (withType (withData d t) z)
+  data-comes told d bare sound rest f enough = at (has-data told d) f enough
+    where
+      long : length (dataOut told d ++ rest) ≡ length (dataOut told d) + length rest
+      long = length-append (dataOut told d) rest
+
+      at : HasData told d → (f : ℕ) → length (dataOut told d ++ rest) ≤ f → Comes MostMay f (dataOut told d ++ rest) 2 (withType t z) rest (withType (withData d t) z)
+      at (left-out quiet none) f enough =
+          let nothing : dataOut told d ≡ [] = λ i. dataOut (quiet i) (none i) in
+          let same : t ≡ withData d t = λ i. withData ((bare ∙ sym none) i) t in
+          record {
+            steps = f;
+            enough = omega (arith, long);
+            tag = 2;
+            place = (refl, refl);
+            goes = ap (λ (l : List ℕ). fieldsFrom f (l ++ rest) 2 (withType t z)) nothing ∙ ap (λ (x : TaskType). fieldsFrom f rest 2 (withType x z)) same;
+          }
+      at (given e) zero enough = absurd (omega (arith, long, ap length e))
+      at (given e) (suc f) enough = record {
+        steps = f;
+        enough = omega (arith, long, ap length e);
+        tag = 3;
+        place = (refl, refl);
+        goes =
+            ap (λ (l : List ℕ). fieldsFrom (suc f) (l ++ rest) 2 (withType t z)) e
+            ∙ data-step d rest (withType t z) (ap (λ (x : TaskType). typeFault (withData d x)) last-of ∙ sound) f
+            ∙ ap (fieldsFrom f rest 3) (last-set (withData d));
+      }
+
+  -- its q
+  abbrev limited : Most → TaskType
+  limited m = record { time = t .time; memory = t .memory; ceiling = t .ceiling; «data» = t .data; most = m }
+
+  most-comes : (m : Most) → t .most ≡ NotGiven → mostFault m ≡ 0 → (rest : List ℕ) (f tag : ℕ) → length (mostOut m ++ rest) ≤ f → MostMay tag
+      → Comes TypeMay f (mostOut m ++ rest) tag (withType t z) rest (withType (limited m) z)
+  most-comes NotGiven free sound rest f tag enough place = record {
+    steps = f;
+    enough = enough;
+    tag = tag;
+    place = place .0;
+    goes = let same : t ≡ limited NotGiven = λ i. limited (free i) in ap (λ (x : TaskType). fieldsFrom f rest tag (withType x z)) same;
+  }
+  most-comes (AtMost q) free sound rest zero tag enough place = absurd (omega arith)
+  most-comes (AtMost q) free sound rest (suc f) tag enough place = record {
+    steps = f;
+    enough = omega arith;
+    tag = 4;
+    place = refl;
+    goes = most-step q rest tag (withType t z) (place .1) sound f ∙ ap (fieldsFrom f rest 4) (last-set (withMost q));
+  }
+
+module _ (told : Bool) (t : TaskType) (rest : List ℕ) (last : ℕ) (z : System) (place : TypeMay last) where
+  module _ (six : length (z .types) ≡ typeLimit) (few : z .typecount < typeLimit) (sound : typeFault t ≡ 0) (apart : mostFault (t .most) ≡ 0) where
+    -- the type as it stands before its d and its q are read
     abbrev bare : TaskType
     bare = taskOf (t .time) (t .memory) (t .ceiling)
-
-    abbrev first : System
-    first = withType bare z
 
     bare-sound : typeFault bare ≡ 0
     bare-sound = let s = sized-task t sound in eqb-true (typeFault bare) 0 (sized-test bare (record { time = s .time; memory = s .memory; «data» = omega arith }))
 
-    last-bare : lastType first ≡ bare
-    last-bare =
-        let back : suc (z .typecount) - 1 ≡ z .typecount = omega arith in
-        ap (λ (k : ℕ). getD (first .types) k noTask) back ∙ getD-set-same (z .types) (z .typecount) bare noTask (omega arith)
+    abbrev tail : List ℕ
+    tail = dataOut told (t .data) ++ (mostOut (t .most) ++ rest)
 
-    whole : withData (t .data) (lastType first) ≡ t
-    whole = ap (withData (t .data)) last-bare
+    bare-comes : (f : ℕ) → length (typeOut false bare ++ tail) ≤ f → Comes (λ (tag : ℕ). tag ≡ 2) f (typeOut false bare ++ tail) last z tail (withType bare z)
+    bare-comes zero enough = absurd (omega arith)
+    bare-comes (suc f) enough = record {
+      steps = f;
+      enough = omega arith;
+      tag = 2;
+      place = refl;
+      goes = type-step (t .time) (t .memory) (t .ceiling) tail last z place few bare-sound f;
+    }
 
-    data-set : withLast (withData (t .data) (lastType first)) first ≡ withType t z
-    data-set =
-        let back : suc (z .typecount) - 1 ≡ z .typecount = omega arith in
-        let types : set (first .types) (suc (z .typecount) - 1) (withData (t .data) (lastType first)) ≡ set (z .types) (z .typecount) t =
-        (λ i. set (first .types) (back i) (whole i)) ∙ set-set (z .types) (z .typecount) bare t in
-        λ i. record { engines = z .engines; rule = z .rule; timecap = z .timecap; memorycap = z .memorycap; typecount = suc (z .typecount); types = types i }
-
-    abbrev reads : ℕ → List ℕ → Reading
-    reads f tail = fieldsFrom f (typeOut false bare ++ (tail ++ rest)) last z
-
-    one-type : (f : ℕ) → length (typeOut told t ++ rest) ≤ f → Comes f (typeOut told t ++ rest) last z rest (withType t z)
-    one-type f enough = at (has-data told (t .data)) f enough
-      where
-        long : length (dataOut told (t .data) ++ rest) ≡ length (dataOut told (t .data)) + length rest
-        long = length-append (dataOut told (t .data)) rest
-
-        at : HasData told (t .data) → (f : ℕ) → length (typeOut told t ++ rest) ≤ f → Comes f (typeOut told t ++ rest) last z rest (withType t z)
-        at h zero enough = absurd (omega arith)
-        at (left-out quiet none) (suc f) enough =
-            let nothing : dataOut told (t .data) ≡ [] = λ i. dataOut (quiet i) (none i) in
-            let same : bare ≡ t = λ i. record { time = t .time; memory = t .memory; ceiling = t .ceiling; «data» = sym none i } in
-            record {
-              steps = f;
-              enough = omega (arith, long);
-              tag = 2;
-              place = refl;
-              goes =
-                  ap (reads (suc f)) nothing
-                  ∙ type-step (t .time) (t .memory) (t .ceiling) rest last z place few bare-sound f
-                  ∙ ap (λ (x : TaskType). fieldsFrom f rest 2 (withType x z)) same;
-            }
-        at (given e) (suc zero) enough = absurd (omega arith)
-        at (given e) (suc (suc f)) enough = record {
-          steps = f;
-          enough = omega (arith, long);
-          tag = 3;
-          place = refl;
-          goes =
-              ap (reads (suc (suc f))) e
-              ∙ type-step (t .time) (t .memory) (t .ceiling) (3 ∷ 0 ∷ 4 ∷ (fourOut (t .data) ++ rest)) last z place few bare-sound (suc f)
-              ∙ data-step (t .data) rest first (ap typeFault whole ∙ sound) f
-              ∙ ap (fieldsFrom f rest 3) data-set;
-        }
+    one-type : (f : ℕ) → length (typeOut told t ++ rest) ≤ f → Comes TypeMay f (typeOut told t ++ rest) last z rest (withType t z)
+    one-type f enough =
+        let joined : typeOut false bare ++ tail ≡ typeOut told t ++ rest =
+        ap (λ (l : List ℕ). typeOut false bare ++ l) (sym (append-assoc (dataOut told (t .data)) (mostOut (t .most)) rest)) in
+        subst (λ (s : List ℕ). Comes TypeMay f s last z rest (withType t z)) joined
+        (comes-then (bare-comes f (omega (arith, ap length joined)))
+        (λ steps tag more is.
+        comes-then
+        (subst (λ (n : ℕ). Comes MostMay steps tail n (withType bare z) (mostOut (t .most) ++ rest) (withType (withData (t .data) bare) z)) (sym is)
+        (data-comes z six few bare told (t .data) refl sound (mostOut (t .most) ++ rest) steps more))
+        (λ steps tag more place. most-comes z six few (withData (t .data) bare) (t .most) refl apart rest steps tag more place)))
 
 -- intermediate: the system that the reader holds after the platform of y and some types
 
@@ -229,6 +297,10 @@ module _ (told : ℕ → Bool) (y : System) (six : length (y .types) ≡ 6) (non
   each-sound : (t : ℕ) → 1 ≤ t → t ≤ y .typecount → typeFault (typeNo y t) ≡ 0
   each-sound t low high = ap typeFault (sym (same-to-k y six few-types .types t low high)) ∙ types-each (cleared y .types) (faultless-of y none .types) (t - 1)
 
+  each-apart : (t : ℕ) → 1 ≤ t → t ≤ y .typecount → mostFault (typeNo y t .most) ≡ 0
+  each-apart t low high =
+      ap (λ (x : TaskType). mostFault (x .most)) (sym (same-to-k y six few-types .types t low high)) ∙ mosts-each (cleared y .types) (faultless-of y none .replicas) (t - 1)
+
   next-type : (n : ℕ) → n < y .typecount → withType (typeNo y (suc n)) (holding y (take n (y .types))) ≡ holding y (take (suc n) (y .types))
   next-type n h =
       let back : suc n - 1 ≡ n = omega arith in
@@ -237,7 +309,7 @@ module _ (told : ℕ → Bool) (y : System) (six : length (y .types) ≡ 6) (non
       ∙ ap (holding y) (sym (take-suc (y .types) n noTask (omega (arith, few-types))))
 
   types-read : (n : ℕ) → n ≤ y .typecount → (f : ℕ) (rest : List ℕ) → length (typesOut told y n ++ rest) ≤ f
-      → Comes f (typesOut told y n ++ rest) 1 (holding y []) rest (holding y (take n (y .types)))
+      → Comes TypeMay f (typesOut told y n ++ rest) 1 (holding y []) rest (holding y (take n (y .types)))
   unfolding typesOut
   types-read zero h f rest enough = record { steps = f; enough = enough; tag = 1; place = refl; goes = refl }
   types-read (suc n) h f rest enough =
@@ -246,10 +318,10 @@ module _ (told : ℕ → Bool) (y : System) (six : length (y .types) ≡ 6) (non
       let joined : typesOut told y n ++ (typeOut (told (suc n)) t ++ rest) ≡ (typesOut told y n ++ typeOut (told (suc n)) t) ++ rest =
       sym (append-assoc (typesOut told y n) (typeOut (told (suc n)) t) rest) in
       let few : length done < typeLimit = omega (arith, few-types, first-types n (omega arith)) in
-      subst (λ (s : List ℕ). Comes f s 1 (holding y []) rest (holding y (take (suc n) (y .types)))) joined
-      (subst (Comes f (typesOut told y n ++ (typeOut (told (suc n)) t ++ rest)) 1 (holding y []) rest) (next-type n h)
+      subst (λ (s : List ℕ). Comes TypeMay f s 1 (holding y []) rest (holding y (take (suc n) (y .types)))) joined
+      (subst (Comes TypeMay f (typesOut told y n ++ (typeOut (told (suc n)) t ++ rest)) 1 (holding y []) rest) (next-type n h)
       (comes-then (types-read n (omega arith) f (typeOut (told (suc n)) t ++ rest) (omega (arith, ap length joined)))
-      (λ steps tag more place. one-type (told (suc n)) t rest tag (holding y done) place (holding-six y done (omega arith)) few (each-sound (suc n) (omega arith) h) steps more)))
+      (λ steps tag more place. one-type (told (suc n)) t rest tag (holding y done) place (holding-six y done (omega arith)) few (each-sound (suc n) (omega arith) h) (each-apart (suc n) (omega arith) h) steps more)))
 
   reads-cleared : holding y (take (y .typecount) (y .types)) ≡ cleared y
   reads-cleared =

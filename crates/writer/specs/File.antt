@@ -5,11 +5,13 @@ use mathlib.Core.Bool.{cond}
 use lib.ListN.{take}
 use lib.Dec.{eqb}
 use Rattle.buffer.specs.Bytes.{bytes2, bytes4}
+use Rattle.system.specs.declared.Most.{Most}
+use Rattle.system.specs.declared.Most.the-variants.{NotGiven, AtMost}
 use Rattle.system.specs.declared.TaskType.{TaskType}
 use Rattle.system.specs.declared.System.{System}
 use Rattle.system.specs.declared.rules.RuleFound.{RuleFound}
 use Rattle.system.specs.declared.rules.RuleFound.the-variants.{Known, Unknown}
-use Rattle.system.specs.Rules.{platformRule, typeRule, dataRule, fieldRules, ruledSize}
+use Rattle.system.specs.Rules.{platformRule, typeRule, dataRule, mostRule, fieldRules, ruledSize}
 unfoldable use Rattle.system.specs.Rules.{ruleOf}
 
 -- "tag (1 byte), body length (2 bytes)", as the table's rule has them; nothing for a tag that it does not have
@@ -34,9 +36,15 @@ platformBytes y = fieldBytes (platformRule .tag) (y .engines ∷ y .rule ∷ (by
 abbrev pub dataBytes : ℕ → List ℕ
 dataBytes d = cond (eqb d 0) [] (fieldBytes (dataRule .tag) (bytes4 d))
 
--- a type: u (4), s (4), n (2); then its d
+-- q (2): "The writer emits q only where it was given" (request 2026-04)
+abbrev pub mostBytes : Most → List ℕ
+mostBytes NotGiven = []
+mostBytes (AtMost q) = fieldBytes (mostRule .tag) (bytes2 q)
+
+-- a type: u (4), s (4), n (2); then its d, then its q
 abbrev pub typeBytes : TaskType → List ℕ
-typeBytes t = fieldBytes (typeRule .tag) (bytes4 (t .time) ++ (bytes4 (t .memory) ++ bytes2 (t .ceiling))) ++ dataBytes (t .data)
+typeBytes t =
+    fieldBytes (typeRule .tag) (bytes4 (t .time) ++ (bytes4 (t .memory) ++ bytes2 (t .ceiling))) ++ (dataBytes (t .data) ++ mostBytes (t .most))
 
 -- the fields of some types, one after another
 unfoldable pub typesBytes : List TaskType → List ℕ

@@ -7,11 +7,14 @@ use mathlib.Core.Path.{_≡_}
 use mathlib.Core.Logic.{_↔_}
 use lib.ListN.{length, getD, take, drop}
 use lib.Dec.{eqb}
+use Rattle.system.specs.declared.Most.{Most}
+use Rattle.system.specs.declared.Most.the-variants.{NotGiven, AtMost}
 use Rattle.system.specs.declared.TaskType.{TaskType}
 use Rattle.system.specs.declared.System.{System}
 use Rattle.system.specs.declared.Answer.{Answer}
 use Rattle.system.specs.Layout.{readFile, opened}
 use Rattle.system.specs.Outcome.{Outcome, Source, accepted, refused, fromInput, outcomeOf}
+use Rattle.partition.specs.OwnWords.{noType}
 use Rattle.partition.specs.Plain.{typeNo, ceilingNo, LimitsOut}
 use Rattle.writer.specs.Writing.{writeOutcome, writtenTo}
 
@@ -32,9 +35,15 @@ platformOut y = 1 ∷ 0 ∷ 10 ∷ y .engines ∷ y .rule ∷ (fourOut (y .timec
 abbrev pub dataOut : Bool → ℕ → List ℕ
 dataOut told d = cond (eqb d 0 && not told) [] (3 ∷ 0 ∷ 4 ∷ fourOut d)
 
--- type t, counted from 1: tag 2, length 10, u, s, n; then its d
+-- q: tag 4, length 2, q; nothing where it is not given
+abbrev pub mostOut : Most → List ℕ
+mostOut NotGiven = []
+mostOut (AtMost q) = 4 ∷ 0 ∷ 2 ∷ twoOut q
+
+-- type t, counted from 1: tag 2, length 10, u, s, n; then its d, then its q
 abbrev pub typeOut : Bool → TaskType → List ℕ
-typeOut told t = 2 ∷ 0 ∷ 10 ∷ (fourOut (t .time) ++ (fourOut (t .memory) ++ (twoOut (t .ceiling) ++ dataOut told (t .data))))
+typeOut told t =
+    2 ∷ 0 ∷ 10 ∷ (fourOut (t .time) ++ (fourOut (t .memory) ++ (twoOut (t .ceiling) ++ (dataOut told (t .data) ++ mostOut (t .most)))))
 
 -- types 1 to n, in order of their number; `told t` says whether type t has a tag 3 where its d is 0
 unfoldable pub typesOut : (ℕ → Bool) → System → ℕ → List ℕ
@@ -71,6 +80,10 @@ pub record Given (y : System) : Type 0 where
   pub bytes : IsBytes file
   pub reads : readFile file ≡ opened y
 
+-- each q of types 1 to k fits the two bytes of its field, as every q of the code does, which has 16 bits
+abbrev pub ReplicasFit : System → Type 0
+ReplicasFit y = (t q : ℕ) → 1 ≤ t → t ≤ y .typecount → typeNo y t .most ≡ AtMost q → q < 65536
+
 -- "reads as itself, types past k, which are not judged, as 0": z is y, but 0 past k
 pub record SameToK (y z : System) : Type 0 where
   pub engines : z .engines ≡ y .engines
@@ -80,7 +93,7 @@ pub record SameToK (y z : System) : Type 0 where
   pub typecount : z .typecount ≡ y .typecount
   pub six : length (z .types) ≡ 6
   pub types : (t : ℕ) → 1 ≤ t → t ≤ y .typecount → typeNo z t ≡ typeNo y t
-  pub past : (t : ℕ) → y .typecount < t → typeNo z t ≡ record { time = 0; memory = 0; ceiling = 0; «data» = 0 }
+  pub past : (t : ℕ) → y .typecount < t → typeNo z t ≡ noType
 
 -- The order of the refusals: each number is said exactly where its row says so and all that stand before it pass
 
@@ -95,6 +108,10 @@ pub record SizesWithin (y : System) : Type 0 where
   pub capacities : (y .timecap ≤ 1000000) × (y .memorycap ≤ 1000000)
   pub costs : (t : ℕ) → 1 ≤ t → t ≤ y .typecount → (typeNo y t .time ≤ 1000000) × (typeNo y t .memory ≤ 1000000) × (typeNo y t .data ≤ 1000000)
 
+-- 31: no q of types 1 to k is 0
+abbrev pub ReplicasWithin : System → Type 0
+ReplicasWithin y = (t q : ℕ) → 1 ≤ t → t ≤ y .typecount → typeNo y t .most ≡ AtMost q → 1 ≤ q
+
 -- 10: the columns of types 1 to n
 unfoldable pub columnsTo : System → ℕ → ℕ
 columnsTo y zero = 1
@@ -106,6 +123,7 @@ pub record MayBeWritten (y : System) : Type 0 where
   pub engines : EnginesWithin y
   pub rule : y .rule ≤ 1
   pub sizes : SizesWithin y
+  pub replicas : ReplicasWithin y
   pub columns : columnsTo y (y .typecount) ≤ 1024
 
 pub record WritesInOrder (y : System) (room : ℕ) (o : Outcome) : Type 0 where
@@ -114,7 +132,8 @@ pub record WritesInOrder (y : System) (room : ℕ) (o : Outcome) : Type 0 where
   pub thenFive : CountWithin y → (o ≡ refused fromInput 5) ↔ (EnginesWithin y → ⊥)
   pub thenSix : CountWithin y → EnginesWithin y → (o ≡ refused fromInput 6) ↔ (1 < y .rule)
   pub thenEight : CountWithin y → EnginesWithin y → y .rule ≤ 1 → (o ≡ refused fromInput 8) ↔ (SizesWithin y → ⊥)
-  pub thenTen : CountWithin y → EnginesWithin y → y .rule ≤ 1 → SizesWithin y → (o ≡ refused fromInput 10) ↔ (1024 < columnsTo y (y .typecount))
+  pub thenThirtyOne : CountWithin y → EnginesWithin y → y .rule ≤ 1 → SizesWithin y → (o ≡ refused fromInput 31) ↔ (ReplicasWithin y → ⊥)
+  pub thenTen : CountWithin y → EnginesWithin y → y .rule ≤ 1 → SizesWithin y → ReplicasWithin y → (o ≡ refused fromInput 10) ↔ (1024 < columnsTo y (y .typecount))
   pub thenThirty : MayBeWritten y → (o ≡ refused fromInput 30) ↔ (room < length (fileOut y))
   pub orWritten : MayBeWritten y → length (fileOut y) ≤ room → o ≡ accepted (length (fileOut y) ∷ [])
 

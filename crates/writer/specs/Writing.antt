@@ -1,4 +1,4 @@
--- When a system is written, and what the lent buffer then holds: request 2026-01. A test gives the number of the refusal that it calls for, 0 for none.
+-- When a system is written, and what the lent buffer then holds: request 2026-01, with 31 of request 2026-04. A test gives the number of the refusal that it calls for, 0 for none.
 use Prim.Native.Nat.{ℕ}
 use mathlib.Core.List.{List, [], _∷_, _++_}
 use mathlib.Core.Bool.{cond}
@@ -7,7 +7,7 @@ use lib.Dec.{ltb, eqb}
 use Rattle.system.specs.declared.TaskType.{TaskType}
 use Rattle.system.specs.declared.System.{System}
 use Rattle.system.specs.Values.{cleared}
-use Rattle.system.specs.Limits.{typeLimit, platformFault, typeFault, columnsFault}
+use Rattle.system.specs.Limits.{typeLimit, platformFault, typeFault, mostFault, columnsFault}
 use Rattle.system.specs.Outcome.{Outcome, accepted, refused, fromInput}
 use Rattle.writer.specs.File.{fileOf}
 
@@ -24,17 +24,23 @@ unfoldable pub typesFault : List TaskType → ℕ
 typesFault [] = 0
 typesFault (t ∷ ts) = orElse (typeFault t) (typesFault ts)
 
+-- q of some types: 31
+unfoldable pub mostsFault : List TaskType → ℕ
+mostsFault [] = 0
+mostsFault (t ∷ ts) = orElse (mostFault (t .most)) (mostsFault ts)
+
 -- the buffer's length: 30
 abbrev pub roomFault : ℕ → ℕ → ℕ
 roomFault size room = cond (ltb room size) 30 0
 
--- "in the order 7, 9, 5, 6, 8, 10": "types past k .. are not judged", so the system is judged as it is with 0 there
+-- "in the order 7, 9, 5, 6, 8, 10", and 31 after every 8 (request 2026-04): "types past k .. are not judged", so the system is judged as it is with 0 there
 unfoldable pub systemFault : System → ℕ
 systemFault y =
     orElse (countFault (y .typecount))
     (orElse (platformFault (y .engines) (y .rule) (y .timecap) (y .memorycap))
     (orElse (typesFault (cleared y .types))
-    (columnsFault (cleared y .types))))
+    (orElse (mostsFault (cleared y .types))
+    (columnsFault (cleared y .types)))))
 
 -- "30, when the buffer is shorter than the file, after 10"
 unfoldable pub writeFault : System → ℕ → ℕ

@@ -1,4 +1,4 @@
-// The writer of system files: request 2026-01, with the d of request 2026-03. A system within document 01's limits becomes the bytes that the reader reads as it.
+// The writer of system files: request 2026-01, with the d of request 2026-03 and the q of 2026-04. A system within document 01's limits becomes the bytes that the reader reads as it.
 //
 // The functions that put something into the buffer answer the place after it. Tag and length of a field are asked of the reader's own table of field rules.
 ghost use mathlib.Core.Path.{_≡_};
@@ -7,8 +7,8 @@ ghost use lib.ListN.{length, take};
 ghost use Rattle.buffer.specs.Written.{Puts};
 ghost use Rattle.system.specs.Limits.{engineLimit, typeLimit};
 ghost use Rattle.system.specs.Rules.{platformRule, fieldRules, ruleOf, headSize, ruledSize};
-ghost use Rattle.writer.specs.File.{headBytes, foundSize, platformBytes, dataBytes, typeBytes, typesBytes, fileOf};
-ghost use Rattle.writer.specs.Writing.{countFault, typesFault, systemFault, writeFault};
+ghost use Rattle.writer.specs.File.{headBytes, foundSize, platformBytes, dataBytes, mostBytes, typeBytes, typesBytes, fileOf};
+ghost use Rattle.writer.specs.Writing.{countFault, typesFault, mostsFault, systemFault, writeFault};
 ghost use Rattle.writer.specs.Meaning.{WritePromises};
 use buffer::put_byte;
 use buffer::put_four;
@@ -16,6 +16,8 @@ use buffer::put_two;
 use system::Answer;
 use system::DATA;
 use system::HEAD_SIZE;
+use system::MOST;
+use system::Most;
 use system::PLATFORM;
 use system::Refusal;
 use system::RuleFound;
@@ -25,6 +27,7 @@ use system::TYPE_LIMIT;
 use system::TaskType;
 use system::cleared;
 use system::columns_fault;
+use system::most_fault;
 use system::platform_fault;
 use system::rule_of;
 use system::type_fault;
@@ -56,7 +59,22 @@ fn types_fault(types: [TaskType; TYPE_LIMIT]) -> u8
     0
 }
 
-// The limits of a system, in the order 7, 9, 5, 6, 8, 10; 0 where it keeps them. What stands past k is not judged: it is cleared first.
+// The first fault among the q of six types: 31.
+fn mosts_fault(types: [TaskType; TYPE_LIMIT]) -> u8
+    ensures { λ r. ⌜ r ≡ mostsFault types ⌝ }
+{
+    for i in 0..TYPE_LIMIT {
+        let t = types[i];
+        let most = t.most;
+        let fault = most_fault(most);
+        if fault != 0 {
+            return fault;
+        }
+    }
+    0
+}
+
+// The limits of a system, in the order 7, 9, 5, 6, 8, 31, 10; 0 where it keeps them. What stands past k is not judged: it is cleared first.
 fn system_fault(y: System) -> u8
     ensures { λ r. ⌜ r ≡ systemFault y ⌝ }
 {
@@ -74,6 +92,10 @@ fn system_fault(y: System) -> u8
     if sized != 0 {
         return sized;
     }
+    let limited = mosts_fault(types);
+    if limited != 0 {
+        return limited;
+    }
     columns_fault(types)
 }
 
@@ -88,15 +110,32 @@ fn field_size(tag: u8) -> usize
     HEAD_SIZE + rule.body
 }
 
-// The bytes of a type: its d has a field of its own where it is not 0.
+// The bytes of a type's d, which has a field where it is not 0.
+fn data_size(d: u32) -> usize
+    ensures { λ r. ⌜ r ≡ length (dataBytes d) ⌝ }
+{
+    if d == 0 {
+        return 0;
+    }
+    field_size(DATA)
+}
+
+// The bytes of a type's q, which has a field where it is given.
+fn most_size(most: Most) -> usize
+    ensures { λ r. ⌜ r ≡ length (mostBytes most) ⌝ }
+{
+    match most {
+        Most::NotGiven => 0,
+        Most::AtMost(q) => field_size(MOST),
+    }
+}
+
+// The bytes of a type, with those of its d and its q.
 fn type_size(t: TaskType) -> usize
     ensures { λ r. ⌜ r ≡ length (typeBytes t) ⌝ }
 {
-    let size = field_size(TYPE);
-    if t.data == 0 {
-        return size;
-    }
-    size + field_size(DATA)
+    let most = t.most;
+    field_size(TYPE) + data_size(t.data) + most_size(most)
 }
 
 // The bytes of the first `typecount` types.
@@ -171,7 +210,19 @@ fn put_data(out: &mut [u8], at: usize, d: u32) -> usize
     put_four(out, headed, d)
 }
 
-// Puts one type: u, s, n, and then its d.
+// Puts the q of a type; nothing where it is not given.
+fn put_most(out: &mut [u8], at: usize, most: Most) -> usize
+    requires { ⌜ at + length (mostBytes most) ≤ length (now out) ⌝ }
+    ensures { λ r. ⌜ Puts (mostBytes most) at (now (out .entry)) (now (out .exit)) r ⌝ }
+{
+    let Most::AtMost(q) = most else {
+        return at;
+    };
+    let headed = put_head(out, at, MOST);
+    put_two(out, headed, q)
+}
+
+// Puts one type: u, s, n, and then its d and its q.
 fn put_type(out: &mut [u8], at: usize, t: TaskType) -> usize
     requires { ⌜ at + length (typeBytes t) ≤ length (now out) ⌝ }
     ensures { λ r. ⌜ Puts (typeBytes t) at (now (out .entry)) (now (out .exit)) r ⌝ }
@@ -180,7 +231,9 @@ fn put_type(out: &mut [u8], at: usize, t: TaskType) -> usize
     let timed = put_four(out, headed, t.time);
     let stored = put_four(out, timed, t.memory);
     let limited = put_two(out, stored, t.ceiling);
-    put_data(out, limited, t.data)
+    let loaded = put_data(out, limited, t.data);
+    let most = t.most;
+    put_most(out, loaded, most)
 }
 
 // Puts the first `typecount` types.
@@ -205,7 +258,7 @@ fn put_file(out: &mut [u8], y: System) -> usize
     put_types(out, next, types, y.typecount)
 }
 
-// Writes the file of a system at the start of the buffer, and answers its length; or 7, 9, 5, 6, 8, 10, 30 in this order, and nothing is written.
+// Writes the file of a system at the start of the buffer, and answers its length; or 7, 9, 5, 6, 8, 31, 10, 30 in this order, and nothing is written.
 // Types past k are neither judged nor written. Bytes past the file stay as they were.
 pub fn write_system(y: System, out: &mut [u8]) -> Answer
     ensures { λ r. ⌜ WritePromises y (now (out .entry)) (now (out .exit)) r ⌝ }

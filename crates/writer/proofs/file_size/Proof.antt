@@ -3,7 +3,7 @@ use native.Mathlib.Omega.{arith}
 use borrow.Author.Needs.{needs}
 use Rattle.system.specs.Rules.{ruleOf}
 use Rattle.writer.specs.File.{fieldBytes, fileOf}
-use Rattle.writer.proofs.Bytes.{first-most}
+use Rattle.writer.proofs.Bytes.{first-longest}
 use Rattle.writer.proofs.file_size.Statement.{statement}
 use Rattle.writer.proofs.file_size.Tie as tie
 
@@ -19,7 +19,7 @@ add-result c =
     let sized = c .before in
     let start = sized .before .before in
     let y = start .args .y in
-    omega (arith, start .pre, sized .field-size .ensures, c .types-size .ensures, first-most (y .types) (y .typecount))
+    omega (arith, start .pre, sized .field-size .ensures, c .types-size .ensures, first-longest (y .types) (y .typecount))
 
 returns : tie.Need-returns
 unfolding fileOf fieldBytes ruleOf

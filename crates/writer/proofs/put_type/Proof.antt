@@ -1,4 +1,4 @@
--- `put_type`: the head, then u, s and n, and then d.
+-- `put_type`: the head, then u, s and n, and then d and q.
 use Prim.Native.Nat.{_≤_}
 use native.Mathlib.Omega.{arith}
 use lib.ListN.{length}
@@ -6,6 +6,7 @@ use borrow.Author.Needs.{needs}
 use Rattle.system.specs.Rules.{ruleOf}
 use Rattle.buffer.proofs.Laws.{puts-then}
 use Rattle.writer.specs.File.{fieldBytes}
+use Rattle.writer.proofs.Bytes.{type-size}
 use Rattle.writer.proofs.put_type.Statement.{statement}
 use Rattle.writer.proofs.put_type.Tie as tie
 
@@ -27,7 +28,41 @@ put-two-requires c κs = search needs
 
 put-data-requires : tie.Need-put-data-requires
 unfolding fieldBytes ruleOf
-put-data-requires c κs = search needs
+put-data-requires c κs =
+    let limit = c .before .before .before in
+    let stored = limit .before .before .before .before in
+    let timed = stored .before .before .before .before in
+    let headed = timed .before .before .before .before in
+    let start = headed .before .before .before in
+    omega (
+      arith,
+      start .pre,
+      type-size (start .args .t),
+      headed .put-head .ensures .next,
+      timed .put-four .ensures .next,
+      stored .put-four2 .ensures .next,
+      limit .put-two .ensures .next,
+    )
+
+put-most-requires : tie.Need-put-most-requires
+unfolding fieldBytes ruleOf
+put-most-requires c κs =
+    let put = c .before .before .before in
+    let limit = put .before .before .before .before in
+    let stored = limit .before .before .before .before in
+    let timed = stored .before .before .before .before in
+    let headed = timed .before .before .before .before in
+    let start = headed .before .before .before in
+    omega (
+      arith,
+      start .pre,
+      type-size (start .args .t),
+      headed .put-head .ensures .next,
+      timed .put-four .ensures .next,
+      stored .put-four2 .ensures .next,
+      limit .put-two .ensures .next,
+      put .put-data .ensures .next,
+    )
 
 same-length : tie.Need-same-length
 same-length c = search needs
@@ -36,14 +71,15 @@ returns : tie.Need-returns
 unfolding fieldBytes ruleOf
 returns c =
     let given = c .before .before in
-    let limit = given .before .before .before .before in
+    let loaded = given .before .before .before .before in
+    let limit = loaded .before .before .before .before in
     let stored = limit .before .before .before .before in
     let timed = stored .before .before .before .before in
     let headed = timed .before .before .before .before in
     let start = headed .before .before .before in
     let room : start .args .at ≤ length (start .args .out .now) = omega (arith, start .pre) in
     let costs = puts-then room (puts-then room (headed .put-head .ensures) (timed .put-four .ensures)) (stored .put-four2 .ensures) in
-    puts-then room (puts-then room costs (limit .put-two .ensures)) (given .put-data .ensures)
+    puts-then room (puts-then room (puts-then room costs (limit .put-two .ensures)) (loaded .put-data .ensures)) (given .put-most .ensures)
 
 pub put-type-spec : {M : Type 1} → statement M
 put-type-spec =
@@ -54,5 +90,6 @@ put-type-spec =
     put-four-requires-2
     put-two-requires
     put-data-requires
+    put-most-requires
     same-length
     returns)

@@ -1,11 +1,27 @@
 -- `system_fault`: the first test that finds a fault decides.
-use mathlib.Core.Path.{ap, _∙_}
+use mathlib.Core.Path.{_≡_, ap, _∙_}
 use borrow.Author.Needs.{needs}
+use Rattle.system.specs.declared.System.{System}
+use Rattle.system.specs.Values.{cleared}
 use Rattle.system.specs.Limits.{columnsFault}
-use Rattle.writer.specs.Writing.{typesFault}
-use Rattle.writer.proofs.Steps.{fault-of-count, fault-of-platform, fault-of-types, fault-of-columns}
+use Rattle.writer.specs.Writing.{typesFault, mostsFault}
+use Rattle.writer.proofs.Steps.{fault-of-count, fault-of-platform, fault-of-types, fault-of-mosts, fault-of-columns}
 use Rattle.writer.proofs.system_fault.Statement.{statement}
 use Rattle.writer.proofs.system_fault.Tie as tie
+
+-- where the platform's test has passed, from further on; and the system that is judged
+abbrev platform-of : tie.After-types-fault → tie.Else2
+platform-of c = c .before .before .before
+
+abbrev system-of : tie.Else2 → System
+system-of c = c .before .before .before .before .args .y
+
+-- what the tests of the types found
+sizes-found : (c : tie.After-types-fault) → c .types-fault .result ≡ typesFault (cleared (system-of (platform-of c)) .types)
+sizes-found c = c .types-fault .ensures ∙ ap (λ z. typesFault (z .types)) (c .before .before .cleared .ensures)
+
+mosts-found : (c : tie.After-mosts-fault) → c .mosts-fault .result ≡ mostsFault (cleared (system-of (platform-of (c .before .before))) .types)
+mosts-found c = c .mosts-fault .ensures ∙ ap (λ z. mostsFault (z .types)) (c .before .before .before .before .cleared .ensures)
 
 count-fault-requires : tie.Need-count-fault-requires
 count-fault-requires c κs = search needs
@@ -29,24 +45,34 @@ types-fault-requires c κs = search needs
 
 returns-3 : tie.Need-returns-3
 returns-3 c =
-    let cleared = c .before .before .before in
-    let platform = cleared .before in
+    let sized = c .before in
+    let platform = platform-of sized in
     let counted = platform .before .before in
-    let sized = c .before .types-fault .ensures ∙ ap (λ z. typesFault (z .types)) (cleared .cleared .ensures) in
-    fault-of-types (counted .before .before .args .y) (counted .before .count-fault .ensures) (counted .if1 .left) (platform .before .platform-fault .ensures) (platform .if2 .left) sized (c .if3 .taken)
+    fault-of-types (system-of platform) (counted .before .count-fault .ensures) (counted .if1 .left) (platform .before .platform-fault .ensures) (platform .if2 .left) (sizes-found sized) (c .if3 .taken)
+
+mosts-fault-requires : tie.Need-mosts-fault-requires
+mosts-fault-requires c κs = search needs
+
+returns-4 : tie.Need-returns-4
+returns-4 c =
+    let small = c .before .before in
+    let platform = platform-of (small .before) in
+    let counted = platform .before .before in
+    fault-of-mosts (system-of platform) (counted .before .count-fault .ensures) (counted .if1 .left) (platform .before .platform-fault .ensures) (platform .if2 .left) (sizes-found (small .before)) (small .if3 .left)
+    (mosts-found (c .before)) (c .if4 .taken)
 
 columns-fault-requires : tie.Need-columns-fault-requires
 columns-fault-requires c κs = search needs
 
-returns-4 : tie.Need-returns-4
-returns-4 c =
-    let judged = c .before in
-    let cleared = judged .before .before .before in
-    let platform = cleared .before in
+returns-5 : tie.Need-returns-5
+returns-5 c =
+    let apart = c .before in
+    let small = apart .before .before in
+    let platform = platform-of (small .before) in
     let counted = platform .before .before in
-    let sized = judged .before .types-fault .ensures ∙ ap (λ z. typesFault (z .types)) (cleared .cleared .ensures) in
-    let columns = c .columns-fault .ensures ∙ ap (λ z. columnsFault (z .types)) (cleared .cleared .ensures) in
-    fault-of-columns (counted .before .before .args .y) (counted .before .count-fault .ensures) (counted .if1 .left) (platform .before .platform-fault .ensures) (platform .if2 .left) sized (judged .if3 .left) columns
+    let columns = c .columns-fault .ensures ∙ ap (λ z. columnsFault (z .types)) (small .before .before .before .cleared .ensures) in
+    fault-of-columns (system-of platform) (counted .before .count-fault .ensures) (counted .if1 .left) (platform .before .platform-fault .ensures) (platform .if2 .left) (sizes-found (small .before)) (small .if3 .left)
+    (mosts-found (apart .before)) (apart .if4 .left) columns
 
 pub system-fault-spec : {M : Type 1} → statement M
 system-fault-spec =
@@ -59,5 +85,7 @@ system-fault-spec =
     cleared-requires
     types-fault-requires
     returns-3
+    mosts-fault-requires
+    returns-4
     columns-fault-requires
-    returns-4)
+    returns-5)

@@ -1,24 +1,25 @@
 -- `types_fault`. The loop's invariant: the types from i on decide.
 use Prim.Native.Nat.{_-_, _≤_, _<_}
-use mathlib.Core.Path.{_≡_, refl}
+use mathlib.Core.Path.{_≡_, sym}
 use native.Mathlib.Omega.{arith}
 use borrow.Author.Needs.{needs}
 use lib.ListN.{length, drop}
 use Rattle.system.specs.Values.{noTask}
-use Rattle.system.specs.Limits.{typeLimit}
+use Rattle.system.specs.Limits.{typeLimit, typeFault}
 use Rattle.writer.specs.Writing.{typesFault}
-use Rattle.writer.proofs.Steps.{types-faulty, types-on, types-end}
+use Rattle.writer.proofs.Faults.{firstOf, types-first}
+use Rattle.writer.proofs.Steps.{first-faulty, first-on, first-end}
 use Rattle.writer.proofs.types_fault.Statement.{statement}
 use Rattle.writer.proofs.types_fault.Tie as tie
 
 abbrev Inv-loop : tie.InvT-loop
-Inv-loop types i₀ i = (length types ≡ typeLimit) × (i ≤ typeLimit) × (typesFault (drop i types) ≡ typesFault types)
+Inv-loop types i₀ i = (length types ≡ typeLimit) × (i ≤ typeLimit) × (firstOf typeFault (drop i types) ≡ typesFault types)
 
 abbrev μ-loop : tie.MeasureT-loop
 μ-loop types i₀ i = typeLimit - i
 
 loop-holds : tie.Need-loop-holds Inv-loop μ-loop
-loop-holds c = (search needs, search needs, refl)
+loop-holds c = (search needs, search needs, sym (types-first (c .args .t1)))
 
 mul-t : tie.Need-mul-t Inv-loop μ-loop
 mul-t c = search needs
@@ -34,7 +35,7 @@ returns c =
     let l = c .before .before .before .before .loop in
     let ts = c .before .before .before .before .before .args .t1 in
     let inside : l .i < length ts = omega (arith, l .inv .0) in
-    types-faulty ts (l .i) noTask (c .before .type-fault .result) inside (c .before .type-fault .ensures) (c .if1 .taken) (l .inv .2)
+    first-faulty typeFault ts (l .i) noTask (c .before .type-fault .result) (typesFault ts) inside (c .before .type-fault .ensures) (c .if1 .taken) (l .inv .2)
 
 add-i : tie.Need-add-i Inv-loop μ-loop
 add-i c = search needs
@@ -47,12 +48,13 @@ loop-again c =
     let l = c .before .before .before .before .loop in
     let ts = c .before .before .before .before .before .args .t1 in
     let inside : l .i < length ts = omega (arith, l .inv .0) in
-    (l .inv .0, search needs, types-on ts (l .i) noTask (c .before .type-fault .result) inside (c .before .type-fault .ensures) (c .if1 .left) (l .inv .2))
+    (l .inv .0, search needs, first-on typeFault ts (l .i) noTask (c .before .type-fault .result) (typesFault ts) inside (c .before .type-fault .ensures) (c .if1 .left) (l .inv .2))
 
 returns-2 : tie.Need-returns-2 Inv-loop μ-loop
 returns-2 c =
     let l = c .before .loop in
-    types-end (c .before .before .args .t1) (l .i) (omega (arith, l .inv .0)) (l .inv .2)
+    let ts = c .before .before .args .t1 in
+    first-end typeFault ts (l .i) (typesFault ts) (omega (arith, l .inv .0)) (l .inv .2)
 
 pub types-fault-spec : {M : Type 1} → statement M
 types-fault-spec =

@@ -7,7 +7,7 @@ use borrow.Author.Needs.{needs}
 use Rattle.system.specs.Values.{noTask}
 use Rattle.system.specs.Limits.{typeLimit}
 use Rattle.writer.specs.File.{typesBytes}
-use Rattle.writer.proofs.Bytes.{first-most}
+use Rattle.writer.proofs.Bytes.{first-longest}
 use Rattle.writer.proofs.Steps.{types-suc-size, types-within}
 use Rattle.writer.proofs.types_size.Statement.{statement}
 use Rattle.writer.proofs.types_size.Tie as tie
@@ -42,7 +42,7 @@ add-size c =
       turn .loop .inv,
       c .type-size .ensures,
       types-within types (turn .loop .i) (start .args .typecount) noTask (omega arith) (omega (arith, start .pre, turn .loop .inv .0)),
-      first-most types (start .args .typecount),
+      first-longest types (start .args .typecount),
     )
 
 add-i : tie.Need-add-i Inv-loop μ-loop

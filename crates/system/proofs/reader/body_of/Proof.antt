@@ -1,6 +1,6 @@
 -- `reader::body_of` meets its contract: one law for each answer.
 use native.Mathlib.Omega.{arith}
-use Rattle.system.proofs.Goes.{body-many, body-type, body-data, body-platform, types-seen}
+use Rattle.system.proofs.Goes.{body-many, body-type, body-data, body-most, body-platform, types-seen}
 use borrow.Author.Needs.{needs}
 use Rattle.system.proofs.reader.body_of.Statement.{statement}
 use Rattle.system.proofs.reader.body_of.Tie as tie
@@ -30,7 +30,9 @@ returns-2 c =
     body-type (a .rule) (a .b .now) (a .y) (c .type-of .result) (n .result) (n .ensures) (c .before .before .if1 .left) (c .before .if2 .taken) (c .type-of .ensures)
 
 data-of-requires : tie.Need-data-of-requires
-data-of-requires c κs = c .before .before .before .before .before .before .pre .typed (c .if3 .taken)
+data-of-requires c κs =
+    let tag = c .if3 .taken in
+    c .before .before .before .before .before .before .pre .typed (omega (arith, tag))
 
 returns-3 : tie.Need-returns-3
 returns-3 c =
@@ -40,16 +42,29 @@ returns-3 c =
     body-data (a .rule) (a .b .now) (a .y) (c .data-of .result) (n .result) (n .ensures) (p .before .before .if1 .left) (p .before .if2 .left) (p .if3 .taken)
     (c .data-of .ensures)
 
-platform-of-requires : tie.Need-platform-of-requires
-platform-of-requires c κs = search needs
+most-of-requires : tie.Need-most-of-requires
+most-of-requires c κs =
+    let tag = c .if4 .taken in
+    c .before .before .before .before .before .before .before .pre .typed (omega (arith, tag))
 
 returns-4 : tie.Need-returns-4
 returns-4 c =
-    let p = c .before in
+    let p = c .before .before in
+    let a = p .before .before .before .before .before .before .args in
+    let n = p .before .before .before .before .seen-of in
+    body-most (a .rule) (a .b .now) (a .y) (c .most-of .result) (n .result) (n .ensures) (p .before .before .if1 .left) (p .before .if2 .left) (p .if3 .left)
+    (c .before .if4 .taken) (c .most-of .ensures)
+
+platform-of-requires : tie.Need-platform-of-requires
+platform-of-requires c κs = search needs
+
+returns-5 : tie.Need-returns-5
+returns-5 c =
+    let p = c .before .before in
     let a = p .before .before .before .before .before .before .args in
     let n = p .before .before .before .before .seen-of in
     body-platform (a .rule) (a .b .now) (a .y) (c .platform-of .result) (n .result) (n .ensures) (p .before .before .if1 .left) (p .before .if2 .left) (p .if3 .left)
-    (c .platform-of .ensures)
+    (c .before .if4 .left) (c .platform-of .ensures)
 
 pub body-of-spec : {M : Type 1} → statement M
 body-of-spec =
@@ -62,5 +77,7 @@ body-of-spec =
     returns-2
     data-of-requires
     returns-3
+    most-of-requires
+    returns-4
     platform-of-requires
-    returns-4)
+    returns-5)

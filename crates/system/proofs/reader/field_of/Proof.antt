@@ -1,6 +1,6 @@
 -- `reader::field_of` meets its contract: one law for each case of the head.
 use mathlib.Core.Path.{sym, _∙_}
-use Rattle.system.proofs.Goes.{ruled-placed, field-stops, field-ruled}
+use Rattle.system.proofs.Goes.{ruled-ready, field-stops, field-ruled}
 use borrow.Author.Needs.{needs}
 use Rattle.system.proofs.reader.field_of.Statement.{statement}
 use Rattle.system.proofs.reader.field_of.Tie as tie
@@ -21,7 +21,7 @@ body-of-requires : tie.Need-body-of-requires
 body-of-requires c κs =
     let a = c .before .before .before .before .before .args in
     let f = a .field in
-    ruled-placed (f .headed) (f .tag) (f .size) (f .whole) (a .last) (a .y) (c .before .before .before .before .before .pre)
+    ruled-ready (f .headed) (f .tag) (f .size) (f .whole) (a .last) (a .y) (c .before .before .before .before .before .pre)
     (sym (c .before .head2 .given .1) ∙ c .before .before .before .head-of .ensures)
 
 returns : tie.Need-returns

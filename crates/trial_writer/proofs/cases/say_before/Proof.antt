@@ -1,14 +1,14 @@
--- The loop's invariant: `i` is at most 7.
+-- The loop's invariant: `i` is at most 8.
 use Prim.Native.Nat.{_-_, _≤_}
 use borrow.Author.Needs.{needs}
 use Rattle.trial_writer.proofs.cases.say_before.Statement.{statement}
 use Rattle.trial_writer.proofs.cases.say_before.Tie as tie
 
 abbrev Inv-loop : tie.InvT-loop
-Inv-loop place order i₀ i = i ≤ 7
+Inv-loop place order i₀ i = i ≤ 8
 
 abbrev μ-loop : tie.MeasureT-loop
-μ-loop place order i₀ i = 7 - i
+μ-loop place order i₀ i = 8 - i
 
 loop-holds : tie.Need-loop-holds Inv-loop μ-loop
 loop-holds c = search needs

@@ -1,0 +1,58 @@
+-- The loop's invariant: `e` is at most 16.
+use Prim.Native.Nat.{_-_, _≤_}
+use borrow.Author.Needs.{needs}
+use Rattle.trial_board.proofs.scripts.say_board.Statement.{statement}
+use Rattle.trial_board.proofs.scripts.say_board.Tie as tie
+
+abbrev Inv-loop : tie.InvT-loop
+Inv-loop y loads e₀ t6 e = e ≤ 16
+
+abbrev μ-loop : tie.MeasureT-loop
+μ-loop y loads e₀ t6 e = 16 - e
+
+loop-holds : tie.Need-loop-holds Inv-loop μ-loop
+loop-holds c = search needs
+
+mul-l : tie.Need-mul-l Inv-loop μ-loop
+mul-l c = search needs
+
+array-copy-out-l : tie.Need-array-copy-out-l Inv-loop μ-loop
+array-copy-out-l c = search needs
+
+say-load-requires : tie.Need-say-load-requires Inv-loop μ-loop
+say-load-requires c κs = search needs
+
+add-e : tie.Need-add-e Inv-loop μ-loop
+add-e c = search needs
+
+loop-less : tie.Need-loop-less Inv-loop μ-loop
+loop-less c = search needs
+
+loop-again : tie.Need-loop-again Inv-loop μ-loop
+loop-again c = search needs
+
+slice-aggregate-say : tie.Need-slice-aggregate-say Inv-loop μ-loop
+slice-aggregate-say c = search needs
+
+say-requires : tie.Need-say-requires Inv-loop μ-loop
+say-requires c κs = search needs
+
+returns : tie.Need-returns Inv-loop μ-loop
+returns c = search needs
+
+pub say-board-spec : {M : Type 1} → statement M
+say-board-spec =
+    tie.close
+    (tie.spec
+    Inv-loop
+    μ-loop
+    loop-holds
+    mul-l
+    array-copy-out-l
+    say-load-requires
+    add-e
+    loop-less
+    loop-again
+    slice-aggregate-say
+    say-requires
+    returns)

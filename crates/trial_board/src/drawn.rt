@@ -1,0 +1,258 @@
+// Many drawn lists of calls, over dirty tables, the same table again, and tables that are too short: how many calls were answered in each
+// way, and a line for each call that is answered otherwise than the ledger says.
+use crate::live::Live;
+use crate::live::Step;
+use crate::live::live_of;
+use crate::live::played;
+use brute::files;
+use brute::ledger::Call;
+use brute::recovery;
+use brute::say;
+use brute::spread;
+use brute::systems;
+use brute::tables;
+use std::num::wrapping_add_usize;
+use std::num::wrapping_sub_usize;
+use system::System;
+
+// How many calls of each kind were accepted, at 0 to 3, how many refused with each number, and how many answered wrongly; with the
+// seed that the next one is drawn from.
+struct Tally {
+    answers: [usize; 32],
+    wrong: usize,
+    seed: u64,
+}
+
+// A call drawn, how many entries of the table it is lent, whether they are made dirty before, and the seed after it.
+struct DrawnCall {
+    call: Call,
+    lent: usize,
+    dirty: bool,
+    seed: u64,
+}
+
+// A number that is mostly 1 to `last`, now and then 0, one past it, or 255; with the seed after it.
+fn drawn_number(seed: u64, last: usize) -> spread::Drawn {
+    let which = spread::draw(seed, 24);
+    let inside = spread::draw(which.seed, last);
+    let way = which.value;
+    let value = match way {
+        0 => 0,
+        1 => wrapping_add_usize(last, 1),
+        2 => 255,
+        _ => wrapping_add_usize(inside.value, 1),
+    };
+    spread::Drawn {
+        seed: inside.seed,
+        value: value,
+    }
+}
+
+// Of ten calls five admits, a seat, three retires and a repack.
+fn drawn_kind(value: usize) -> usize {
+    match value {
+        0..=4 => 0,
+        5 => 1,
+        6..=8 => 2,
+        _ => 3,
+    }
+}
+
+// Of eight tables one is an entry too short, one is just long enough, and the others are longer.
+fn drawn_length(value: usize, entries: usize) -> usize {
+    match value {
+        0 => wrapping_sub_usize(entries, 1),
+        1 => entries,
+        _ => 512,
+    }
+}
+
+fn drawn_call(seed: u64, y: System) -> DrawnCall {
+    let kind = spread::draw(seed, 10);
+    let task = drawn_number(kind.seed, y.typecount);
+    let engine = drawn_number(task.seed, y.engines);
+    let room = spread::draw(engine.seed, 8);
+    DrawnCall {
+        call: Call {
+            kind: drawn_kind(kind.value),
+            task: task.value,
+            engine: engine.value,
+        },
+        lent: drawn_length(room.value, recovery::entries_of(y)),
+        dirty: room.value < 4,
+        seed: room.seed,
+    }
+}
+
+// The index that an answer is counted at.
+fn place_of(kind: usize, code: usize) -> usize {
+    if (code == 0) | (1000 <= code) {
+        return kind;
+    }
+    code % 100
+}
+
+fn counted(t: Tally, d: DrawnCall, s: Step) -> Tally {
+    let c = d.call;
+    let mut next = t;
+    let place = place_of(c.kind, s.code);
+    if place < 32 {
+        next.answers[place] = wrapping_add_usize(t.answers[place], 1);
+    }
+    if !s.right {
+        next.wrong = wrapping_add_usize(t.wrong, 1);
+    }
+    next.seed = d.seed;
+    next
+}
+
+// A drawn call is wrong: its system, then its kind, type, engine and answer.
+fn say_wrong(y: System, c: Call, code: usize) {
+    say::say_system(b"mismatch:", y);
+    say::say_also(c.kind);
+    say::say_also(c.task);
+    say::say_also(c.engine);
+    say::say_also(code);
+    say::say(b"\n");
+}
+
+fn soiled(live: Live, dirty: bool) -> Live {
+    let mut next = live;
+    if dirty {
+        let table = tables::dirty_table();
+        next.table = table;
+    }
+    next
+}
+
+// A list of calls drawn for one system.
+fn with_list(t: Tally, y: System, cells: bool) -> Tally {
+    let f = files::file_of(y);
+    let bytes = f.bytes;
+    let mut live = live_of(files::first_of(&bytes, f.size));
+    let mut all = t;
+    for i in 0..40usize {
+        let d = drawn_call(all.seed, y);
+        let c = d.call;
+        let s = played(soiled(live, d.dirty), c, d.lent, cells);
+        if !s.right {
+            say_wrong(y, c, s.code);
+        }
+        let next = counted(all, d, s);
+        all = next;
+        live = s.live;
+    }
+    all
+}
+
+fn no_tally(seed: u64) -> Tally {
+    Tally {
+        answers: [0; 32],
+        wrong: 0,
+        seed: seed,
+    }
+}
+
+// So many lists, each for a drawn system, with every cell of every filled table in one of 50.
+fn drawn_lists(seed: u64, number: usize, typecount: usize, most: usize) -> Tally {
+    let mut t = no_tally(seed);
+    let mut i: usize = 0;
+    while i < number {
+        let d = spread::drawn_system(t.seed, 3, typecount, most);
+        let y = d.system;
+        t.seed = d.seed;
+        let next = with_list(t, y, i % 50 == 0);
+        t = next;
+        i += 1;
+    }
+    t
+}
+
+// So many lists for one system.
+fn lists_of(seed: u64, number: usize, y: System) -> Tally {
+    let mut t = no_tally(seed);
+    let mut i: usize = 0;
+    while i < number {
+        let next = with_list(t, y, i % 50 == 0);
+        t = next;
+        i += 1;
+    }
+    t
+}
+
+// Two engines that a few types fill in few ways, so that a newcomer often finds no engine though there is room: by time, and by
+// shared memory.
+fn tight_time() -> System {
+    let y = systems::platform_of(2, 0, 10, 100);
+    systems::with_type(
+        systems::with_type(systems::with_type(y, 6, 1, 2), 4, 1, 2),
+        3,
+        1,
+        2,
+    )
+}
+
+fn tight_memory() -> System {
+    let y = systems::platform_of(2, 1, 100, 6);
+    let two = systems::with_type(systems::with_type(y, 1, 3, 2), 1, 3, 2);
+    systems::with_type(systems::with_type(two, 1, 3, 2), 1, 3, 1)
+}
+
+// The same by memory with data memory, under either rule.
+fn tight_data(rule: u8, memory: u32) -> System {
+    let y = systems::platform_of(2, rule, 100, memory);
+    let one = systems::with_data(systems::with_type(y, 1, 4, 2), 4);
+    let two = systems::with_data(systems::with_type(one, 1, 1, 2), 2);
+    systems::with_data(systems::with_type(two, 1, 4, 2), 3)
+}
+
+// The same by limits on one engine, with time and memory: under rule 0, and under rule 1.
+fn tight_own() -> System {
+    let y = systems::platform_of(2, 0, 9, 15);
+    let one = systems::with_most(systems::with_data(systems::with_type(y, 1, 4, 3), 3), 1);
+    let two = systems::with_most(systems::with_data(systems::with_type(one, 0, 4, 2), 3), 2);
+    systems::with_most(systems::with_type(two, 0, 0, 1), 2)
+}
+
+fn tight_shared() -> System {
+    let y = systems::platform_of(2, 1, 10, 17);
+    let one = systems::with_data(systems::with_type(y, 5, 0, 2), 1);
+    let two = systems::with_most(systems::with_data(systems::with_type(one, 4, 3, 2), 1), 1);
+    systems::with_most(systems::with_data(systems::with_type(two, 1, 2, 3), 3), 1)
+}
+
+// A line of a spread: the accepted admits, seats, retires and repacks, the calls refused 11, 13, 14, 21, 22, 23 and 24, and those
+// answered wrongly.
+fn say_tally(name: &[u8], t: Tally) {
+    let n = t.answers;
+    let row = [
+        n[0],
+        n[1],
+        n[2],
+        n[3],
+        n[11],
+        n[13],
+        n[14],
+        n[21],
+        n[22],
+        n[23],
+        n[24],
+        t.wrong,
+    ];
+    say::say_row(name, row, 12);
+}
+
+pub fn say_drawn() {
+    say::say(
+        b"calls: admitted, seated, retired, repacked, refused 11, 13, 14, 21, 22, 23, 24, mismatches\n",
+    );
+    say_tally(b"one type:", drawn_lists(11, 200, 1, 5));
+    say_tally(b"two types:", drawn_lists(12, 200, 2, 3));
+    say_tally(b"three types:", drawn_lists(13, 200, 3, 2));
+    say_tally(b"tight time:", lists_of(14, 100, tight_time()));
+    say_tally(b"tight memory:", lists_of(15, 100, tight_memory()));
+    say_tally(b"tight data, own:", lists_of(16, 50, tight_data(0, 11)));
+    say_tally(b"tight data, shared:", lists_of(17, 50, tight_data(1, 13)));
+    say_tally(b"tight q, own:", lists_of(18, 50, tight_own()));
+    say_tally(b"tight q, shared:", lists_of(19, 50, tight_shared()));
+}

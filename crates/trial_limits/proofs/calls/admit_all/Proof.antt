@@ -1,0 +1,52 @@
+-- The loop's invariant: `i` is at most 1022, and the lent table is as long as it was.
+use Prim.Native.Nat.{_-_, _≤_}
+use mathlib.Core.Path.{_≡_}
+use lib.ListN.{length}
+use borrow.Author.Needs.{needs}
+use Rattle.trial_limits.proofs.calls.admit_all.Statement.{statement}
+use Rattle.trial_limits.proofs.calls.admit_all.Tie as tie
+
+abbrev Inv-loop : tie.InvT-loop
+Inv-loop t table₀ turn₀ i₀ table turn i = (i ≤ 1022) × (length table ≡ length table₀)
+
+abbrev μ-loop : tie.MeasureT-loop
+μ-loop t table₀ turn₀ i₀ table turn i = 1022 - i
+
+admit-requires : tie.Need-admit-requires Inv-loop μ-loop
+admit-requires c κs = search needs
+
+loop-holds : tie.Need-loop-holds Inv-loop μ-loop
+loop-holds c = search needs
+
+admit-requires-2 : tie.Need-admit-requires-2 Inv-loop μ-loop
+admit-requires-2 c κs = search needs
+
+add-i : tie.Need-add-i Inv-loop μ-loop
+add-i c = search needs
+
+loop-less : tie.Need-loop-less Inv-loop μ-loop
+loop-less c = search needs
+
+loop-again : tie.Need-loop-again Inv-loop μ-loop
+loop-again c = search needs
+
+same-length : tie.Need-same-length Inv-loop μ-loop
+same-length c = search needs
+
+returns : tie.Need-returns Inv-loop μ-loop
+returns c = search needs
+
+pub admit-all-spec : {M : Type 1} → statement M
+admit-all-spec =
+    tie.close
+    (tie.spec
+    Inv-loop
+    μ-loop
+    admit-requires
+    loop-holds
+    admit-requires-2
+    add-i
+    loop-less
+    loop-again
+    same-length
+    returns)

@@ -1,0 +1,136 @@
+// The calls of a script, four bytes each: its kind (a for admit, m for many admits, s for seat, r for retire, any other for repack), its type,
+// and the engine that it leaves or that is shown after it, then a space. Each answer, what the engine holds after it, and the table at the end.
+use crate::lent::LONG;
+use crate::lent::OLD;
+use crate::lent::say_table;
+use board::Board;
+use board::Turn;
+use board::admit;
+use board::open_board;
+use board::repack;
+use board::retire;
+use board::seat;
+use brute::files;
+use brute::say;
+use std::num::wrapping_add_usize;
+use system::ENGINE_LIMIT;
+use system::System;
+use system::TYPE_LIMIT;
+
+// The largest number of a type that a file may have, admitted one after the other: what the last of them answers.
+fn admit_all(b: Board, t: usize, table: &mut [u16]) -> Turn {
+    let mut turn = admit(b, t, table);
+    for i in 0..1022usize {
+        let before = turn.board;
+        let next = admit(before, t, table);
+        turn = next;
+    }
+    turn
+}
+
+// The call that a byte stands for: a for admit, m for many admits, s for seat, r for retire, any other for repack.
+fn called(b: Board, kind: u8, t: usize, e: usize, table: &mut [u16]) -> Turn {
+    if kind == b'a' {
+        return admit(b, t, table);
+    }
+    if kind == b'm' {
+        return admit_all(b, t, table);
+    }
+    if kind == b's' {
+        return seat(b, t, table);
+    }
+    if kind == b'r' {
+        return retire(b, t, e);
+    }
+    repack(b, table)
+}
+
+fn byte_of(script: &[u8], i: usize) -> u8 {
+    if i < script.len() {
+        return script[i];
+    }
+    0
+}
+
+// The number that a byte stands for: `0` is 0, and so on to `@`, which is 16, and `A`, 17; `z` is the largest there is.
+fn number_of(b: u8) -> usize {
+    if b == b'z' {
+        return 18446744073709551615;
+    }
+    if b < b'0' {
+        return 0;
+    }
+    (b - b'0') as usize
+}
+
+// What an engine of a board holds, nothing where there is no such engine.
+fn say_engine(b: Board, e: usize) {
+    let loads = b.loads;
+    if e == 0 {
+        return;
+    }
+    if ENGINE_LIMIT < e {
+        return;
+    }
+    let load = loads[e - 1];
+    say::say_load(load, TYPE_LIMIT);
+}
+
+fn say_kind(kind: u8) {
+    match kind {
+        b'a' => say::say(b"admit"),
+        b'm' => say::say(b"admit often"),
+        b's' => say::say(b"seat"),
+        b'r' => say::say(b"retire"),
+        _ => say::say(b"repack"),
+    }
+}
+
+// The call of a script at a place, where it has one: its kind, its type, and the engine that it leaves or that is shown after it.
+fn say_call(b: Board, script: &[u8], at: usize, table: &mut [u16]) -> Board {
+    if script.len() <= at {
+        return b;
+    }
+    let kind = byte_of(script, at);
+    let t = number_of(byte_of(script, wrapping_add_usize(at, 1)));
+    let e = number_of(byte_of(script, wrapping_add_usize(at, 2)));
+    let turn = called(b, kind, t, e, table);
+    let answer = turn.answer;
+    let after = turn.board;
+    say_kind(kind);
+    say::say_also(t);
+    say::say_also(e);
+    say::say_answer(answer);
+    say_engine(after, e);
+    say::say(b"\n");
+    after
+}
+
+// The calls of a script of at most 64, four bytes each, of which the last is a space.
+fn say_calls(b: Board, script: &[u8], table: &mut [u16]) {
+    let mut board = b;
+    for i in 0..64usize {
+        let next = say_call(board, script, i * 4, table);
+        board = next;
+    }
+}
+
+// A list of calls from the fresh board of a file, over the first entries of a table.
+pub fn say_script(y: System, lent: usize, script: &[u8]) {
+    let f = files::file_of(y);
+    let bytes = f.bytes;
+    let mut table: [u16; LONG] = [OLD; LONG];
+    let turn = open_board(files::first_of(&bytes, f.size));
+    let answer = turn.answer;
+    let board = turn.board;
+    say::say(b"open, lent");
+    say::say_also(lent);
+    say::say_answer(answer);
+    say::say(b"\n");
+    if lent < LONG {
+        say_calls(board, script, &mut table[0..lent]);
+    } else {
+        say_calls(board, script, &mut table);
+    }
+    say_table(&table, y);
+}

@@ -1,0 +1,31 @@
+// The field step at some places of a file: the field's tag, the place after it and the length of its body, or `none`.
+use crate::show::number;
+use libc::STDOUT_FILENO;
+use system::Cursor;
+
+// The field step at a place: its answer, and the part of the file that it hands on.
+fn step(name: &[u8], file: &[u8], at: usize) {
+    let c = Cursor { at };
+    io::write_all(STDOUT_FILENO, name);
+    let field = system::field_at(file, c);
+    let body = system::body_part(file, field);
+    if field.whole {
+        number(b" ", field.tag as usize);
+        number(b" ", field.next.at);
+    } else {
+        io::write_all(STDOUT_FILENO, b" none");
+    }
+    number(b" ", body.len());
+    io::write_all(STDOUT_FILENO, b"\n");
+}
+
+// Two fields, of 2 bytes and of none, then the start of one.
+pub fn steps() {
+    let file = b"\x01\x00\x02\xAA\xBB\x09\x00\x00\x02\x00\x05\xCC";
+    step(b"step-at-0", file, 0);
+    step(b"step-at-5", file, 5);
+    step(b"step-at-8", file, 8);
+    step(b"step-at-11", file, 11);
+    step(b"step-at-the-end", file, 12);
+    step(b"step-past-the-end", file, 18446744073709551615);
+}

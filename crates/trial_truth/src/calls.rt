@@ -1,0 +1,72 @@
+// The four calls on a board: a line with whether all refuse it 20 and leave everything as it was, or with what they answer.
+use board::Board;
+use board::Turn;
+use brute::recovery;
+use brute::say;
+use brute::systems;
+
+fn same_board(a: Board, b: Board) -> bool {
+    let x = a.system;
+    let y = b.system;
+    let held = a.loads;
+    let wanted = b.loads;
+    systems::same_system(x, y) & recovery::same_loads(held, wanted)
+}
+
+// Refused 20, with the board as it was.
+fn refuses(t: Turn, b: Board) -> bool {
+    let a = t.answer;
+    let after = t.board;
+    (say::code_of(a) == 220) & same_board(after, b)
+}
+
+// The table as it was lent: all 9.
+fn untouched(table: [u16; 512]) -> bool {
+    let mut same = true;
+    for i in 0..512 {
+        same = same & (table[i] == 9);
+    }
+    same
+}
+
+// All four calls refuse the board.
+fn all_refuse(b: Board) -> bool {
+    let mut table: [u16; 512] = [9; 512];
+    let admitted = board::admit(b, 1, &mut table);
+    let seated = board::seat(b, 1, &mut table);
+    let repacked = board::repack(b, &mut table);
+    let retired = board::retire(b, 1, 1);
+    refuses(admitted, b)
+        & refuses(seated, b)
+        & refuses(repacked, b)
+        & refuses(retired, b)
+        & untouched(table)
+}
+
+pub fn say_board(name: &[u8], b: Board) {
+    say::say(name);
+    if all_refuse(b) {
+        say::say(b": refused 20\n");
+    } else {
+        say::say(b": NOT REFUSED 20\n");
+    }
+}
+
+// The four answers on a board that is true.
+pub fn say_true(name: &[u8], b: Board) {
+    let mut table: [u16; 512] = [9; 512];
+    let admitted = board::admit(b, 1, &mut table);
+    let seated = board::seat(b, 1, &mut table);
+    let repacked = board::repack(b, &mut table);
+    let retired = board::retire(b, 1, 1);
+    let first = admitted.answer;
+    let second = seated.answer;
+    let third = repacked.answer;
+    let fourth = retired.answer;
+    say::say(name);
+    say::say_answer(first);
+    say::say_answer(second);
+    say::say_answer(third);
+    say::say_answer(fourth);
+    say::say(b"\n");
+}

@@ -1,0 +1,98 @@
+// Lines on standard output: what a call of the writer answered, and that its buffer or a round trip is wrong where it is; and the bytes of a file.
+use crate::lent;
+use crate::rounds;
+use brute::files;
+use brute::files::File;
+use brute::say;
+use system::Answer;
+use system::Refusal;
+use system::System;
+use system::read_system;
+
+fn say_refusal(r: Refusal) {
+    match r {
+        Refusal::Input(n) => say::say_also(n as usize),
+        Refusal::State(n) => {
+            say::say_also(n as usize);
+            say::say(b" from the state");
+        }
+    }
+}
+
+fn say_answer(a: Answer) {
+    match a {
+        Answer::Accepted => say::say(b" accepted"),
+        Answer::Number(n) => {
+            say::say(b" written");
+            say::say_also(n);
+        }
+        Answer::Refused(r) => {
+            say::say(b" refused");
+            say_refusal(r);
+        }
+    }
+}
+
+// What was answered, and that the buffer or a round trip is wrong where it is.
+pub fn say_judged(y: System, room: usize) {
+    let c = lent::called(y, room, 33);
+    let answer = c.answer;
+    say_answer(answer);
+    if !rounds::right(y, room) {
+        say::say(b" wrong");
+    }
+}
+
+// The end of a line.
+pub fn say_call(y: System, room: usize) {
+    say_judged(y, room);
+    say::say(b"\n");
+}
+
+// A line for a system: a name and a number, then what was answered.
+pub fn say_case(name: &[u8], n: usize, y: System) {
+    say::say(name);
+    say::say_also(n);
+    say::say(b":");
+    say_call(y, 256);
+}
+
+// The buffer that a refusal asks for: one that is too short for any file for 30, else one that is long enough for all.
+pub fn room_for(number: usize) -> usize {
+    if number == 30 { 12 } else { 256 }
+}
+
+fn say_byte(b: u8) {
+    say::say_also(b as usize);
+}
+
+// The bytes of a file as they stand in the buffer, up to the answer's number.
+pub fn say_bytes(bytes: [u8; 256], n: usize) {
+    for i in 0..256 {
+        if i < n {
+            say_byte(bytes[i]);
+        }
+    }
+    say::say(b"\n");
+}
+
+pub fn say_file(name: &[u8], y: System) {
+    let c = lent::called(y, 256, 33);
+    let answer = c.answer;
+    let bytes = c.bytes;
+    say::say(name);
+    say_answer(answer);
+    if let Answer::Number(n) = answer {
+        say_bytes(bytes, n);
+    }
+}
+
+// A file with a tag 3 of d 0: how long it is, and how long the one is that is written for what was read.
+pub fn say_zero(f: File) {
+    let bytes = f.bytes;
+    let o = read_system(files::first_of(&bytes, f.size));
+    let z = o.system;
+    say::say_also(f.size);
+    say::say(b" bytes,");
+    say_call(z, 256);
+}

@@ -1,0 +1,57 @@
+-- Tests one after another, where the first that finds a fault decides; and one test of each type. The laws are of any test of a type, so that they serve 8 (u, s and d) and 31 (q).
+use Prim.Native.Nat.{ℕ, zero, suc}
+use mathlib.Core.Path.{_≡_, refl, ap}
+use mathlib.Core.List.{List, [], _∷_}
+use mathlib.Core.Bool.{Bool, true, false, cond}
+use borrow.Author.Tests.{eqb-true, eqb-false, eq-eqb}
+use lib.ListN.{getD}
+use lib.Dec.{eqb}
+use Rattle.system.specs.declared.TaskType.{TaskType}
+use Rattle.system.specs.Values.{noTask}
+use Rattle.system.specs.Limits.{typeFault, mostFault}
+use Rattle.writer.specs.Writing.{orElse, typesFault, mostsFault}
+
+-- `orElse` is 0 exactly where both are
+
+pub or-none : (fault later : ℕ) → orElse fault later ≡ 0 → (fault ≡ 0) × (later ≡ 0)
+or-none fault later e = at (eqb fault 0) refl e
+  where
+    at : (b : Bool) → eqb fault 0 ≡ b → cond b later fault ≡ 0 → (fault ≡ 0) × (later ≡ 0)
+    at true q e = (eqb-true fault 0 q, e)
+    at false q e = absurd (eqb-false fault 0 q e)
+
+pub none-or : (fault later : ℕ) → fault ≡ 0 → later ≡ 0 → orElse fault later ≡ 0
+none-or fault later p q = rw (eq-eqb fault 0 p) q
+
+-- the first type that a test finds at fault
+
+unfoldable pub firstOf : (TaskType → ℕ) → List TaskType → ℕ
+firstOf test [] = 0
+firstOf test (t ∷ ts) = orElse (test t) (firstOf test ts)
+
+-- 8 of some types, and 31
+pub types-first : (ts : List TaskType) → typesFault ts ≡ firstOf typeFault ts
+unfolding typesFault firstOf
+types-first [] = refl
+types-first (t ∷ ts) = ap (orElse (typeFault t)) (types-first ts)
+
+abbrev pub replicaFault : TaskType → ℕ
+replicaFault t = mostFault (t .most)
+
+pub mosts-first : (ts : List TaskType) → mostsFault ts ≡ firstOf replicaFault ts
+unfolding mostsFault firstOf
+mosts-first [] = refl
+mosts-first (t ∷ ts) = ap (orElse (replicaFault t)) (mosts-first ts)
+
+-- none is found exactly where each type passes
+module _ (test : TaskType → ℕ) where
+  pub first-each : test noTask ≡ 0 → (ts : List TaskType) → firstOf test ts ≡ 0 → (i : ℕ) → test (getD ts i noTask) ≡ 0
+  unfolding firstOf
+  first-each free [] e i = free
+  first-each free (t ∷ ts) e zero = or-none (test t) (firstOf test ts) e .0
+  first-each free (t ∷ ts) e (suc i) = first-each free ts (or-none (test t) (firstOf test ts) e .1) i
+
+  pub first-none : (ts : List TaskType) → ((i : ℕ) → test (getD ts i noTask) ≡ 0) → firstOf test ts ≡ 0
+  unfolding firstOf
+  first-none [] h = refl
+  first-none (t ∷ ts) h = none-or (test t) (firstOf test ts) (h zero) (first-none ts (λ i. h (suc i)))
