@@ -1,15 +1,16 @@
--- Worked examples of our own beside W1 to W12: a recovery with three different loads, what a cell holds that says no, systems with d, and systems with q.
+-- Worked examples of our own beside W1 to W12: a recovery with three different loads, what a cell holds that says no, systems with d, systems with q, and the pairs that a fill tries.
 use Prim.Native.Nat.{ℕ}
 use mathlib.Core.List.{List, [], _∷_, _++_, map}
 use lib.ListN.{take, replicate}
 use Rattle.system.specs.Layout.{readFile}
 use Rattle.system.specs.Outcome.{Outcome, refused, fromInput, fromState}
 use Rattle.loads.specs.declared.EngineLoad.{EngineLoad}
+use Rattle.table.specs.Pairs.{triedAt, pairsOf}
 use Rattle.planner.specs.Plan.{verdictOf, planOutcome, planLoads}
 use Rattle.board.specs.Boards.{openedBoard}
 use Rattle.ledger.specs.Ledger.{Call, admit, seat, retire, repack, freshLedger, ledgerAfter}
 use Rattle.ledger.specs.Demand3.{Request, Made, boardAfter, answersOf, played}
-use Rattle.cases.specs.Cases.{platform, taskType, fileB, systemOf, systemA, entryAt, planAnswer, planLines, answers, boardLines, entered, counted, Case, case, number, lines, outcome, outcomes, done, on}
+use Rattle.cases.specs.Cases.{platform, taskType, fileB, systemOf, systemA, entryAt, planAnswer, planLines, answers, boardLines, entered, counted, Case, case, number, numbers, lines, outcome, outcomes, done, on}
 
 -- system C: m 4, rule 0, U 10, S 9, and three types, each with n 2: u 5, s 2; u 2, s 3; u 4, s 4
 abbrev pub fileC : List ℕ
@@ -109,4 +110,9 @@ ours =
     ∷ case 11 (outcomes (entered (fileF 2 (withQ 1) 4) callsF)) (outcomes (answersF (refused fromState 23)))
     ∷ case 11 (lines (boardLines 2 (fileF 2 (withQ 1) 4) (callsF ++ (seat 1 ∷ [])))) (lines (replicate 2 (6 ∷ 2 ∷ 1 ∷ 1 ∷ [])))
     ∷ case 11 (lines (counted (fileF 2 (withQ 1) 4) (callsF ++ (seat 1 ∷ [])))) (lines (replicate 2 (1 ∷ 1 ∷ [])))
+    -- pairs tried (request 2026-05). W2 again: row 2 of system A accepts column 2 for column 11, which has every column under it, so that three are tried; 46 in row 1 and 19 in row 2
+    ∷ case 12 (numbers (triedAt systemA 2 11)) (numbers (0 ∷ 1 ∷ 2 ∷ []))
+    ∷ case 12 (numbers (pairsOf systemA 1 ∷ pairsOf systemA 2 ∷ [])) (numbers (46 ∷ 65 ∷ []))
+    -- where no instance fits, every column under one is tried: 1 + 2 + 3 + 4 + 5 in each of four rows
+    ∷ case 13 (number (pairsOf (systemOf (platform 4 0 1 8 ++ taskType 2 5 4)) 4)) (number 60)
     ∷ []

@@ -10,6 +10,7 @@ use loads::EngineLoad;
 use system::Answer;
 use system::Refusal;
 use table::entries_needed;
+use table::fill_table;
 
 // Opens a board, makes ten calls, and says what each answered. Each call takes the board that the call before it handed back, also
 // where that call was refused.
@@ -25,8 +26,10 @@ fn main() {
         return;
     };
     // Admit and seat work in a lent table of (2 + 1) × (3 + 1) × (2 + 1) entries or more. 17,408 are enough for every system.
-    say_entries(entries_needed(file));
+    say_number(b"table: entries needed", entries_needed(file));
     let mut table = [0u16; 36];
+    // What a fill costs is told by the pairs that it tries: at most 2 × (4 × 5 / 2) × (3 × 4 / 2) here.
+    say_number(b"table: pairs tried", fill_table(file, &mut table));
     let b = opened.board;
     let b = admitted(b, 1, &mut table);
     let b = admitted(b, 1, &mut table);
@@ -83,10 +86,10 @@ fn say_answer(a: Answer) {
     say(b"\n");
 }
 
-// How many entries a table must have; nothing where the file is refused, which opening it has said.
-fn say_entries(a: Answer) {
+// A number that was asked of the table; nothing where the file is refused, which opening it has said.
+fn say_number(what: &[u8], a: Answer) {
     if let Answer::Number(n) = a {
-        say_named(b"table: entries needed", n);
+        say_named(what, n);
         say(b"\n");
     }
 }

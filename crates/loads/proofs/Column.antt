@@ -63,6 +63,13 @@ loadOf-below (n ∷ ns) c =
 pub loadOf-within : (ns : List ℕ) (c : ℕ) → within (loadOf ns c) ns ≡ true
 loadOf-within ns c = below→within (loadOf-below ns c)
 
+-- of a column in Horner's form
+pub loadOf-digit : (n r q : ℕ) (ns : List ℕ) → r ≤ n → loadOf (n ∷ ns) (r + (n + 1) * q) ≡ r ∷ loadOf ns q
+unfolding loadOf
+loadOf-digit n r q ns h =
+    let small : r < n + 1 = omega arith in
+    rw (add-mul-mod-self-left r (n + 1) q, add-mul-div-left r q (positive n), mod-eq-of-lt small, div-eq-of-lt small, zero-add q)
+
 pub loadOf-columnOf-below : {x ns : List ℕ} → Below x ns → loadOf ns (columnOf ns x) ≡ x
 unfolding loadOf
 loadOf-columnOf-below none = refl

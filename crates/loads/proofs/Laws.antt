@@ -259,6 +259,43 @@ fits-within y x z h f =
     (le-trans (memory-within (y .rule) (y .types) x z h) (fits-memory y z f))
     (apart-within (y .types) x z h (fits-apart y z f))
 
+-- main: one instance of a load takes no more than the load
+
+pub sum-entry : (each : TaskType → ℕ → ℕ) → ((x : ℕ) → each noTask x ≡ 0) → (ts : List TaskType) (x : List ℕ) (i : ℕ) → i < length x →
+    each (getD ts i noTask) (getD x i 0) ≤ sumOver each ts x
+unfolding sumOver
+sum-entry each e [] x i h = rw (e (getD x i 0)) zero-le
+sum-entry each e (t ∷ ts) [] i h = absurd (not-suc-le-zero h)
+sum-entry each e (t ∷ ts) (x ∷ xs) zero h = omega arith
+sum-entry each e (t ∷ ts) (x ∷ xs) (suc i) h = omega (arith, sum-entry each e ts xs i (le-of-suc-le-suc h))
+
+-- code and data of one instance, which are the same under both rules
+one-memory : (rule : ℕ) (t : TaskType) → memoryAt rule t 1 ≡ t .memory + t .data
+one-memory rule t = go (isOwn rule)
+  where
+    go : (b : Bool) → cond b (ownCopies t 1) (sharedCode t 1) ≡ t .memory + t .data
+    go true = omega arith
+    go false = omega arith
+
+-- so each instance of a load that fits would fit an empty engine
+module _ (y : System) (x : List ℕ) (i : ℕ) (fit : fitsEngine y x ≡ true) (held : 1 ≤ getD x i 0) where
+  abbrev one : TaskType
+  one = getD (y .types) i noTask
+
+  pub fits-held-time : getD (y .types) i noTask .time ≤ y .timecap
+  fits-held-time =
+      omega (arith, mul-le-mul-right (one .time) held, sum-entry timeAt timeAt-noTask (y .types) x i (held-in x i held), fits-time y x fit)
+
+  pub fits-held-memory : getD (y .types) i noTask .memory + getD (y .types) i noTask .data ≤ y .memorycap
+  fits-held-memory =
+      omega (
+        arith,
+        one-memory (y .rule) one,
+        memoryAt-le (y .rule) one 1 (getD x i 0) held,
+        sum-entry (memoryAt (y .rule)) (memoryAt-noTask (y .rule)) (y .types) x i (held-in x i held),
+        fits-memory y x fit,
+      )
+
 -- main: the two loads together
 
 pub time-plus : (ts : List TaskType) (x z : List ℕ) → length x ≡ length z → timeOf ts (plus x z) ≡ timeOf ts x + timeOf ts z

@@ -1,11 +1,12 @@
--- Laws of the search from run to run: in a run every column is one to visit, and between two runs there is none.
-use Prim.Native.Nat.{ℕ, _+_, _-_, _≤_, _<_}
+-- Laws of the search from run to run: in a run every column is one to visit, and between two runs there is none. So the columns tried are counted by whole runs.
+use Prim.Native.Nat.{ℕ, zero, suc, _+_, _-_, _≤_, _<_}
 use mathlib.Core.Path.{_≡_, refl, sym, ap, subst, _∙_}
 use mathlib.Core.List.{List, [], _∷_, _++_}
 use mathlib.Core.Bool.{Bool, true, false}
 use mathlib.Core.Logic.{⊎-elim}
-use native.Mathlib.Nat.{le-refl}
+use native.Mathlib.Nat.{le-refl, add-zero, add-suc, mul-le-mul}
 use native.Mathlib.Omega.{arith}
+use borrow.Author.Tests.{ne-eqb}
 use lib.ListN.{length, getD, take, drop, replicate}
 use Rattle.system.specs.Limits.{columnsOf}
 use Rattle.loads.specs.Load.{within}
@@ -14,8 +15,8 @@ use Rattle.loads.proofs.Order.{Below, none, more, below→within, within→belo
 use Rattle.loads.proofs.Column.{columnOf-horner, columnOf-lt, columnOf-less, columnOf-loadOf, length-loadOf, loadOf-columnOf-below, columnOf-zero}
 use Rattle.partition.specs.Cell.{lowest, noColumn}
 use Rattle.partition.proofs.Lists.{true-or-false}
-use Rattle.partition.proofs.Lowest.{lowest-same, lowest-none}
-use Rattle.table.specs.Search.{seen, candidate, nextUnder, risesAt, jumpsFrom, SearchInside}
+use Rattle.partition.proofs.Lowest.{Found, lowest-same, lowest-none, lowest-found}
+use Rattle.table.specs.Search.{seen, candidate, visitedTo, foundAt, nextUnder, risesAt, jumpsFrom, SearchInside, NoneInFirst}
 use Rattle.table.proofs.Between.{between-found, between-none, between-skip}
 use Rattle.table.proofs.Stepping.{nextUnder-turn, risesAt-later, risesAt-le, nextUnder-below, none-between, columnFrom-next, columnOf-next-gt}
 
@@ -31,8 +32,25 @@ pub zeros-below : (x : List ℕ) → Below (replicate (length x) 0) x
 zeros-below [] = none
 zeros-below (a ∷ x) = more {x = 0} {y = a} (omega arith) (zeros-below x)
 
+-- a stretch of columns that are all to visit, and one of which none is
+visited-run : (ns x : List ℕ) (a d : ℕ) → ((q : ℕ) → a ≤ q → q < a + d → within (loadOf ns q) x ≡ true) → visitedTo ns x (a + d) ≡ visitedTo ns x a + d
+unfolding visitedTo
+visited-run ns x a zero h = rw (add-zero a) (omega arith)
+visited-run ns x a (suc d) h = rw (add-suc a d, h (a + d) (omega arith) (omega arith)) (omega (arith, visited-run ns x a d (λ q l u. h q l (omega arith))))
+
+visited-skip : (ns x : List ℕ) (a d : ℕ) → ((q : ℕ) → a ≤ q → q < a + d → within (loadOf ns q) x ≡ false) → visitedTo ns x (a + d) ≡ visitedTo ns x a
+unfolding visitedTo
+visited-skip ns x a zero h = rw (add-zero a)
+visited-skip ns x a (suc d) h = rw (add-suc a d, h (a + d) (omega arith) (omega arith)) (omega (arith, visited-skip ns x a d (λ q l u. h q l (omega arith))))
+
 columnOf-le : (ns : List ℕ) {x y : List ℕ} → Below x y → columnOf ns x ≤ columnOf ns y
 columnOf-le ns b = omega (arith, columnOf-less ns b)
+
+-- a smaller load has no more columns under it
+pub columnsOf-le : {x y : List ℕ} → Below x y → columnsOf x ≤ columnsOf y
+unfolding columnsOf
+columnsOf-le none = le-refl 1
+columnsOf-le (more {x = a} {y = b} {xs = x} {ys = y} h r) = mul-le-mul {n₁ = a + 1} {m₁ = columnsOf x} {n₂ = b + 1} {m₂ = columnsOf y} (omega arith) (columnsOf-le r)
 
 module _ (table : List ℕ) (before single n t : ℕ) (ds ts ns : List ℕ) (hn : t ≤ n) (rd : Below ds ts) (rn : Below ts ns) where
   -- the ceilings, the load, the first column of the run, and the tests
@@ -58,14 +76,17 @@ module _ (table : List ℕ) (before single n t : ℕ) (ds ts ns : List ℕ) (hn 
   run-below : (j : ℕ) → j ≤ t → Below (j ∷ ds) X
   run-below j h = more h rd
 
-  in-run-same : (q : ℕ) → base ≤ q → q < base + t + 1 → C q ≡ S q
-  unfolding candidate
-  in-run-same q l u =
+  in-run-under : (q : ℕ) → base ≤ q → q < base + t + 1 → within (loadOf N q) X ≡ true
+  in-run-under q l u =
       let j = q - base in
       let small : j ≤ t = omega arith in
       let same : columnOf N (j ∷ ds) ≡ q = in-run j small ∙ omega arith in
       let load : loadOf N q ≡ j ∷ ds = ap (loadOf N) (sym same) ∙ loadOf-columnOf-below (below-trans (run-below j small) (more hn rn)) in
-      rw (load, below→within (run-below j small))
+      rw load (below→within (run-below j small))
+
+  in-run-same : (q : ℕ) → base ≤ q → q < base + t + 1 → C q ≡ S q
+  unfolding candidate
+  in-run-same q l u = rw (in-run-under q l u)
 
   run-same : lowest C noColumn (base + t + 1 - base) base ≡ lowest S noColumn (base + t + 1 - base) base
   run-same = lowest-same C S noColumn (base + t + 1 - base) base (λ q l u. in-run-same q l (omega arith))
@@ -137,6 +158,28 @@ module _ (table : List ℕ) (before single n t : ℕ) (ds ts ns : List ℕ) (hn 
       (not-visited q)
       (true-or-false (within (loadOf N q) X)))
 
+  -- main: how many columns to visit there are up to one of the run, up to the next run, and past the last
+
+  visits-to : (p : ℕ) → base ≤ p → p ≤ base + t → visitedTo N X (p + 1) ≡ visitedTo N X base + (p + 1 - base)
+  visits-to p l u =
+      let parts : p + 1 ≡ base + (p + 1 - base) = omega arith in
+      subst (λ (k : ℕ). visitedTo N X k ≡ visitedTo N X base + (p + 1 - base)) (sym parts)
+      (visited-run N X base (p + 1 - base) (λ q from to. in-run-under q from (omega arith)))
+
+  no-visit : (b e : ℕ) → b ≤ e → ((q : ℕ) → b ≤ q → q < e → within (loadOf N q) X ≡ true → ⊥) → visitedTo N X e ≡ visitedTo N X b
+  no-visit b e h out =
+      let parts : e ≡ b + (e - b) = omega arith in
+      subst (λ (k : ℕ). visitedTo N X k ≡ visitedTo N X b) (sym parts)
+      (visited-skip N X b (e - b) (λ q l u. ⊎-elim (λ w. absurd (out q l (omega arith) w)) (λ w. w) (true-or-false (within (loadOf N q) X))))
+
+  visits-next : rise < length ts → visitedTo N X next ≡ visitedTo N X (base + t + 1)
+  visits-next h =
+      no-visit (base + t + 1) next (omega (arith, next-past h))
+      (λ q l u w. omega (arith, past-run q (omega arith) (omega (arith, next-inside h)) w .1, next-column h))
+
+  visits-all : rise ≡ length ts → visitedTo N X (columnsOf N) ≡ visitedTo N X (base + t + 1)
+  visits-all h = no-visit (base + t + 1) (columnsOf N) (omega (arith, run-lt)) (λ q l u w. omega (arith, past-run q (omega arith) u w .0))
+
 -- main: over the lists as the code has them
 
 abbrev pub lastOf : List ℕ → ℕ → ℕ
@@ -163,6 +206,9 @@ pub record Run (table : List ℕ) (before single : ℕ) (ns x counts : List ℕ)
   pub goes : lowest (seen table before single) noColumn (lastOf x base + 1 - base) base ≡ noColumn → risen x counts < length x →
       lowest (candidate table before single ns x) noColumn (columnsOf ns - base) base
       ≡ lowest (candidate table before single ns x) noColumn (columnsOf ns - nextBase ns x counts base) (nextBase ns x counts base)
+  pub visits : (p : ℕ) → base ≤ p → p ≤ lastOf x base → visitedTo ns x (p + 1) ≡ visitedTo ns x base + (p + 1 - base)
+  pub visitsAll : risen x counts ≡ length x → visitedTo ns x (columnsOf ns) ≡ visitedTo ns x (lastOf x base + 1)
+  pub visitsNext : risen x counts < length x → visitedTo ns x (nextBase ns x counts base) ≡ visitedTo ns x (lastOf x base + 1)
   pub rises : risen x counts < length x → base < nextBase ns x counts base
   pub next : risen x counts < length x → AtRun ns x (stepped x counts) (nextBase ns x counts base)
 
@@ -183,6 +229,9 @@ run-at table before single {ns} {x} {counts} base few some b r = go b (r .under)
           finds = run-finds table before single n t ds ts ns hn rd rn;
           ends = λ f h. run-passes table before single n t ds ts ns hn rd rn few f ∙ run-ends table before single n t ds ts ns hn rd rn (omega arith);
           goes = λ f h. run-passes table before single n t ds ts ns hn rd rn few f ∙ run-goes table before single n t ds ts ns hn rd rn (omega arith);
+          visits = visits-to table before single n t ds ts ns hn rd rn;
+          visitsAll = λ h. visits-all table before single n t ds ts ns hn rd rn (omega arith);
+          visitsNext = λ h. visits-next table before single n t ds ts ns hn rd rn (omega arith);
           rises = λ h. omega (arith, next-past table before single n t ds ts ns hn rd rn (omega arith));
           next = λ h. record {
             under = more {x = 0} {y = t} (omega arith) (nextUnder-below rd);
@@ -224,3 +273,77 @@ module _ {table : List ℕ} {before single : ℕ} {ns x jumps : List ℕ} (given
       let r = searching-run s in
       let l : risen x counts < length x = omega (arith, given .sized) in
       record { run = r .next l; rest = sym (r .goes f l) ∙ s .rest }
+
+  -- main: the columns tried, where a run finds, where the last one does not, and from run to run
+
+  abbrev answer : ℕ
+  answer = lowest (candidate table before single ns x) noColumn (columnsOf ns) 0
+
+  abbrev inRun : ℕ → ℕ
+  inRun base = lowest (seen table before single) noColumn (lastOf x base + 1 - base) base
+
+  found-at : (p : ℕ) → (p ≡ noColumn → ⊥) → foundAt ns x p ≡ record { column = p; tried = visitedTo ns x (p + 1) }
+  found-at p h = rw (ne-eqb p noColumn h)
+
+  pub run-found : {counts : List ℕ} {base : ℕ} → Searching table before single ns x counts base → (p : ℕ) → p ≡ inRun base → (p ≡ noColumn → ⊥) →
+      (base ≤ p) × (p ≤ lastOf x base) × (record { column = p; tried = visitedTo ns x base + (p + 1 - base) } ≡ foundAt ns x answer)
+  run-found {counts = counts} {base = base} s p e h = ⊎-elim (λ z. absurd (h (e ∙ z))) inside (lowest-found (seen table before single) noColumn (lastOf x base + 1 - base) base)
+    where
+      r : Run table before single ns x counts base
+      r = searching-run s
+
+      is-answer : p ≡ answer
+      is-answer = e ∙ sym (r .finds (λ z. h (e ∙ z))) ∙ s .rest
+
+      inside : Found (seen table before single) noColumn (lastOf x base + 1 - base) base (inRun base) →
+          (base ≤ p) × (p ≤ lastOf x base) × (record { column = p; tried = visitedTo ns x base + (p + 1 - base) } ≡ foundAt ns x answer)
+      inside f =
+          let low : base ≤ p = omega (arith, f .from) in
+          let high : p ≤ lastOf x base = omega (arith, f .to) in
+          (low, high, ap (λ (k : ℕ). record { column = p; tried = k }) (sym (r .visits p low high)) ∙ sym (found-at p h) ∙ ap (foundAt ns x) is-answer)
+
+  -- the first run, before which nothing is tried
+  pub run-first : (p : ℕ) → p ≡ lowest (seen table before single) noColumn (getD x 0 0 + 1 - 0) 0 → (p ≡ noColumn → ⊥) →
+      record { column = p; tried = p + 1 } ≡ foundAt ns x (lowest (candidate table before single ns x) noColumn (columnsOf ns) 0)
+  unfolding visitedTo
+  run-first p e h =
+      let one : getD x 0 0 + 1 - 0 ≡ lastOf x 0 + 1 - 0 = omega arith in
+      let same : p + 1 ≡ 0 + (p + 1 - 0) = omega arith in
+      ap (λ (k : ℕ). record { column = p; tried = k }) same
+      ∙ run-found searching-start p (e ∙ ap (λ (k : ℕ). lowest (seen table before single) noColumn k 0) one) h .2
+
+-- the search has passed a run in which it found nothing, and has tried all columns to visit up to its end
+pub record Passed (table : List ℕ) (before single : ℕ) (ns x counts : List ℕ) (base tried : ℕ) : Type 0 where
+  pub searching : Searching table before single ns x counts base
+  pub nothing : lowest (seen table before single) noColumn (lastOf x base + 1 - base) base ≡ noColumn
+  pub counted : tried ≡ visitedTo ns x (lastOf x base + 1)
+
+module _ {table : List ℕ} {before single : ℕ} {ns x jumps : List ℕ} (given : Given table before single ns x jumps) where
+  -- one run more
+  pub passed-on : {counts : List ℕ} {base tried : ℕ} → Searching table before single ns x counts base → tried ≡ visitedTo ns x base →
+      lowest (seen table before single) noColumn (lastOf x base + 1 - base) base ≡ noColumn → Passed table before single ns x counts base (tried + (getD x 0 0 + 1))
+  passed-on {base = base} s e f =
+      let r = searching-run given s in
+      record { searching = s; nothing = f; counted = omega (arith, e, r .visits (lastOf x base) (omega arith) (omega arith)) }
+
+  pub passed-start : NoneInFirst table before single x → Passed table before single ns x (replicate 6 0) 0 (getD x 0 0 + 1)
+  unfolding visitedTo
+  passed-start f =
+      let same : 0 + (getD x 0 0 + 1) ≡ getD x 0 0 + 1 = omega arith in
+      let one : lastOf x 0 + 1 - 0 ≡ getD x 0 0 + 1 - 0 = omega arith in
+      subst (Passed table before single ns x (replicate 6 0) 0) same
+      (passed-on {tried = 0} (searching-start given) refl (ap (λ (k : ℕ). lowest (seen table before single) noColumn k 0) one ∙ f))
+
+  module _ {counts : List ℕ} {base tried : ℕ} (p : Passed table before single ns x counts base tried) where
+    run : Run table before single ns x counts base
+    run = searching-run given (p .searching)
+
+    pub passed-last : risen x counts ≡ 6 → record { column = noColumn; tried = tried } ≡ foundAt ns x (lowest (candidate table before single ns x) noColumn (columnsOf ns) 0)
+    passed-last h =
+        let all : risen x counts ≡ length x = omega (arith, given .sized) in
+        ap (λ (k : ℕ). record { column = noColumn; tried = k }) (p .counted ∙ sym (run .visitsAll all)) ∙ ap (foundAt ns x) (sym (run .ends (p .nothing) all) ∙ p .searching .rest)
+
+    pub passed-next : risen x counts < 6 → Searching table before single ns x (stepped x counts) (nextBase ns x counts base) × (tried ≡ visitedTo ns x (nextBase ns x counts base))
+    passed-next h =
+        let more : risen x counts < length x = omega (arith, given .sized) in
+        (searching-next given (p .searching) (p .nothing) h, p .counted ∙ sym (run .visitsNext more))

@@ -1,18 +1,26 @@
--- Laws of a row that is being filled: the rows before it stay as they are, and its next cell is the next entry.
-use Prim.Native.Nat.{ℕ, _+_, _-_, _*_, _/_, _%_, _≤_, _<_}
+-- Laws of a row that is being filled: the rows before it stay as they are, its next cell is the next entry, and the pairs tried for it are one cell's more.
+use Prim.Native.Nat.{ℕ, zero, suc, _+_, _-_, _*_, _/_, _%_, _≤_, _<_}
 use mathlib.Core.Path.{_≡_, refl, sym, ap, _∙_}
 use mathlib.Core.List.{List}
-use mathlib.Core.Bool.{true}
-use native.Mathlib.Nat.{add-mul, mul-le-mul-right, mod-lt, div-add-mod', div-lt-iff-lt-mul, add-zero}
+use mathlib.Core.Bool.{Bool, true, false, cond}
+use native.Mathlib.Nat.{add-mul, mul-le-mul-right, mod-lt, div-add-mod', div-lt-iff-lt-mul, add-zero, zero-add}
 use native.Mathlib.Omega.{arith}
-use lib.ListN.{length, getD, set}
+use borrow.Author.Tests.{ne-eqb}
+use lib.ListN.{length, getD, set, length-map}
+use lib.Dec.{eqb}
 use Rattle.system.specs.declared.System.{System}
 use Rattle.system.specs.Values.{ceilingsOf}
-use Rattle.system.specs.Limits.{columns, keepsLimits, engineLimit}
-use Rattle.system.proofs.Laws.{columnsOf-pos}
+use Rattle.system.specs.Limits.{columns, columnLimit, keepsLimits, engineLimit}
+use Rattle.system.proofs.Laws.{columnsOf-pos, limits-of}
+use Rattle.loads.specs.Load.{fitsEngine}
+use Rattle.loads.proofs.Column.{loadOf-below}
+use Rattle.partition.specs.Assignment.{numbersFrom}
 use Rattle.partition.specs.ForSystem.{cellFor}
 use Rattle.table.specs.Table.{upTo, entryOf, entries, filledTo}
-use Rattle.table.specs.Search.{RowsBefore}
+use Rattle.table.specs.Pairs.{forEach, triedAt, Pair, cellPairs, rowPairs}
+use Rattle.table.specs.Search.{RowsBefore, cellTried, rowTried}
+use Rattle.table.proofs.Pairs.{length-forEach-more, cell-ends, tried-le}
+use Rattle.table.proofs.Candidates.{columnsOf-le}
 use Rattle.table.proofs.Filled.{entryOf-at}
 use Rattle.table.proofs.Begun.{begun, length-begun, getD-begun, begun-start, begun-store, begun-again}
 
@@ -112,3 +120,45 @@ row-after y row table =
 pub none-begun : (f : ℕ → ℕ) (table : List ℕ) → begun f 0 table ≡ table
 unfolding begun upTo
 none-begun f table = refl
+
+-- main: the pairs tried, cell after cell and row after row
+
+-- of a row, for the columns below c; of the rows below one
+abbrev pub rowTriedTo : System → ℕ → ℕ → ℕ
+rowTriedTo y row c = cond (eqb row 0) 0 (length (forEach (numbersFrom 0 c) (cellPairs y row)))
+
+abbrev pub triedBefore : System → ℕ → ℕ
+triedBefore y row = length (forEach (numbersFrom 1 (row - 1)) (rowPairs y))
+
+pub none-tried : (y : System) (row : ℕ) → rowTriedTo y row 0 ≡ 0
+unfolding forEach numbersFrom
+none-tried y row = go (eqb row 0)
+  where
+    go : (b : Bool) → _≡_ {A = ℕ} (cond b 0 0) 0
+    go true = refl
+    go false = refl
+
+pub cell-more : (y : System) (row c : ℕ) → rowTriedTo y row c + cellTried y row c .tried ≡ rowTriedTo y row (c + 1)
+cell-more y row c = go (eqb row 0)
+  where
+    go : (b : Bool) → cond b 0 (length (forEach (numbersFrom 0 c) (cellPairs y row))) + cond b 0 (length (cellPairs y row c)) ≡ cond b 0 (length (forEach (numbersFrom 0 (c + 1)) (cellPairs y row)))
+    go true = refl
+    go false = sym (rw (zero-add c) at (length-forEach-more (cellPairs y row) 0 c))
+
+pub row-more : (y : System) (row : ℕ) → triedBefore y row + rowTried y row ≡ triedBefore y (row + 1)
+row-more y zero = unfold forEach numbersFrom in refl
+row-more y (suc i) =
+    let here : suc i - 1 ≡ i = omega arith in
+    let next : suc i + 1 - 1 ≡ i + 1 = omega arith in
+    let one : 1 + i ≡ suc i = omega arith in
+    rw (here, next, ne-eqb (suc i) 0 (λ e. omega arith)) (sym (rw one at (length-forEach-more (rowPairs y) 1 i)))
+
+-- they are few
+pub cell-few : (y : System) → keepsLimits y ≡ true → (row c : ℕ) → c < columns y → cellTried y row c .tried ≤ columnLimit
+cell-few y limits zero c small = omega arith
+cell-few y limits (suc i) c small =
+    let ns = ceilingsOf y in
+    let few = limits-of y limits .columns in
+    let ends = cell-ends (fitsEngine y) ns (omega (arith, few)) i c small in
+    rw (ne-eqb (suc i) 0 (λ e. omega arith), length-map {B = Pair} (triedAt y (suc i) c) (λ (q : ℕ). record { row = suc i; column = c; tried = q }))
+    (omega (arith, tried-le ns c (cellFor y (suc i) c) ends, columnsOf-le (loadOf-below ns c), few))

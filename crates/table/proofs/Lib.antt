@@ -4,6 +4,8 @@ pub mod Begun
 pub mod Between
 pub mod Stepping
 pub mod Candidates
+pub mod Sums
+pub mod Pairs
 pub mod Preceding
 pub mod FilledRow
 pub mod Shown
@@ -11,5 +13,6 @@ pub mod Rows
 pub mod Recovered
 pub mod Spread
 pub mod Placed
+pub mod Bound
 pub mod Reading
 pub mod Meaning

@@ -1,9 +1,10 @@
 -- A filled table says what document 01's "Table" says of it, in plain words, and so do the calls that fill one.
 use Prim.Native.Nat.{ℕ, _+_, _-_, _*_, _≤_, _<_}
 use mathlib.Core.Path.{_≡_, refl, sym, ap, subst, _∙_}
-use mathlib.Core.Bool.{Bool, true, false, false≢true}
+use mathlib.Core.Bool.{Bool, true, false, cond, _&&_, and-true, false≢true}
 use mathlib.Core.List.{List, [], _∷_}
 use mathlib.Core.Logic.{_↔_}
+use native.Mathlib.Numerals.{add-one}
 use native.Mathlib.Nat.{le-refl, mul-le-mul-right, add-mul}
 use native.Mathlib.Omega.{arith}
 use borrow.Author.Tests.{eqb-true, eqb-false, eq-eqb, ne-eqb, leb-true, leb-false, le-leb, lt-leb}
@@ -17,7 +18,7 @@ use Rattle.system.specs.Limits.{columns, typeLimit}
 use Rattle.system.specs.Layout.{Reading, readFile, opened, unread}
 use Rattle.system.specs.Outcome.{Outcome, Source, accepted, refused, fromInput, outcomeOf}
 use Rattle.system.proofs.Laws.{Limits, read-limits}
-use Rattle.loads.specs.Load.{fitsEngine}
+use Rattle.loads.specs.Load.{fitsEngine, within}
 use Rattle.loads.specs.Column.{loadOf}
 use Rattle.loads.proofs.Column.{length-loadOf}
 use Rattle.partition.specs.Assignment.{among, every, enginesTo}
@@ -28,9 +29,13 @@ use Rattle.partition.proofs.Lists.{distinct-enginesTo, length-enginesTo, among-
 use Rattle.partition.proofs.ForSystem.{length-ceilings, ground}
 use Rattle.partition.proofs.Theorems.{cell-yes-iff-feasible}
 use Rattle.partition.proofs.Plain.{columns-out, impossible-out}
+use Rattle.table.specs.Pairs.{triedAt, pairsOf}
 use Rattle.table.specs.Table.{entries, longEnough, filledTo, fillOutcome, fillTable, entriesNeeded}
-use Rattle.table.specs.Meaning.{countIn, FilledMeans, FillPromises, NeedPromises}
+use Rattle.table.specs.Meaning.{countIn, FilledMeans, sumBelow, noGreater, pairsOut, FillPromises, NeedPromises}
 use Rattle.table.proofs.Filled.{length-filledTo, filledTo-at, drop-filledTo}
+use Rattle.table.proofs.Sums.{sum-same}
+use Rattle.table.proofs.Pairs.{pairs-rows, EndsAt, tried-counted, cell-ends}
+use Rattle.table.proofs.Bound.{pairs-bounded, pairs-met}
 
 -- intermediate: a cell that says no
 
@@ -43,6 +48,39 @@ no-cell v = (there, back (eqb v 65535) refl)
     back : (b : Bool) → eqb v 65535 ≡ b → (saysYes v ≡ true → ⊥) → v ≡ 65535
     back true q h = eqb-true v 65535 q
     back false q h = absurd (h (rw q))
+
+-- intermediate: six tests of counts are one test of loads
+
+six-tests : (p q r s t u : Bool) → (p && q && r && s && t && u) ≡ (p && (q && (r && (s && (t && (u && true))))))
+six-tests false q r s t u = refl
+six-tests true false r s t u = refl
+six-tests true true false s t u = refl
+six-tests true true true false t u = refl
+six-tests true true true true false u = refl
+six-tests true true true true true u = sym (and-true u)
+
+six-counts : (x : List ℕ) → length x ≡ 6 → x ≡ getD x 0 0 ∷ getD x 1 0 ∷ getD x 2 0 ∷ getD x 3 0 ∷ getD x 4 0 ∷ getD x 5 0 ∷ []
+six-counts [] l = absurd (omega arith)
+six-counts (a ∷ []) l = absurd (omega arith)
+six-counts (a ∷ b ∷ []) l = absurd (omega arith)
+six-counts (a ∷ b ∷ c ∷ []) l = absurd (omega arith)
+six-counts (a ∷ b ∷ c ∷ d ∷ []) l = absurd (omega arith)
+six-counts (a ∷ b ∷ c ∷ d ∷ e ∷ []) l = absurd (omega arith)
+six-counts (a ∷ b ∷ c ∷ d ∷ e ∷ f ∷ []) l = refl
+six-counts (a ∷ b ∷ c ∷ d ∷ e ∷ f ∷ g ∷ x) l = absurd (omega arith)
+
+six-within : (x z : List ℕ) → length x ≡ 6 → length z ≡ 6 →
+    (leb (getD x 0 0) (getD z 0 0)
+    && leb (getD x 1 0) (getD z 1 0)
+    && leb (getD x 2 0) (getD z 2 0)
+    && leb (getD x 3 0) (getD z 3 0)
+    && leb (getD x 4 0) (getD z 4 0)
+    && leb (getD x 5 0) (getD z 5 0))
+    ≡ within x z
+unfolding within
+six-within x z l k =
+    six-tests (leb (getD x 0 0) (getD z 0 0)) (leb (getD x 1 0) (getD z 1 0)) (leb (getD x 2 0) (getD z 2 0)) (leb (getD x 3 0) (getD z 3 0)) (leb (getD x 4 0) (getD z 4 0)) (leb (getD x 5 0) (getD z 5 0))
+    ∙ sym (λ i. within (six-counts x l i) (six-counts z k i))
 
 module _ (y : System) (limits : Limits y) where
   -- main: a cell is 65,535 exactly when its load cannot be partitioned among as many engines as its row says
@@ -81,7 +119,51 @@ module _ (y : System) (limits : Limits y) where
           subst (λ (j : ℕ). getD (filledTo y rows table) j 0 ≡ getD table j 0) up
           (sym (getD-drop n (filledTo y rows table) (k - n) 0) ∙ ap (λ (l : List ℕ). getD l (k - n) 0) (drop-filledTo y rows table) ∙ getD-drop n table (k - n) 0)
 
+  -- main: the pairs tried, counted in the filled table
+
+  no-greater : (p c : ℕ) → noGreater y p c ≡ within (loadOf (ceilingsOf y) p) (loadOf (ceilingsOf y) c)
+  no-greater p c = six-within (loadOf (ceilingsOf y) p) (loadOf (ceilingsOf y) c) (six p) (six c)
+    where
+      six : (q : ℕ) → length (loadOf (ceilingsOf y) q) ≡ 6
+      six q = length-loadOf (ceilingsOf y) q ∙ length-ceilings y limits
+
+  -- by the table, where a row has `width` columns, whether p is tried for row i, column c
+  abbrev shownTried : List ℕ → ℕ → ℕ → ℕ → ℕ → ℕ
+  shownTried after width i c p = cond (noGreater y p c && leb p (getD after (i * width + c) 0)) 1 0
+
+  cell-counted : (rows : ℕ) (table : List ℕ) (i c : ℕ) → i < rows → c < columns y → length (triedAt y (i + 1) c) ≡ sumBelow (columns y) (shownTried (filledTo y rows table) (columns y) (i + 1) c)
+  cell-counted rows table i c h l =
+      subst (λ (v : ℕ). length (triedAt y (i + 1) c) ≡ sumBelow (columns y) (λ (p : ℕ). cond (noGreater y p c && leb p v) 1 0)) (sym (filledTo-at y rows table (i + 1) c (omega arith) l))
+      (tried-counted ns c r ends
+      ∙ sum-same (columns y) (λ (p : ℕ). cond (within (loadOf ns p) (loadOf ns c) && leb p r) 1 0) (λ (p : ℕ). cond (noGreater y p c && leb p r) 1 0)
+      (λ p k. ap (λ (b : Bool). cond (b && leb p r) 1 0) (sym (no-greater p c))))
+    where
+      ns : List ℕ
+      ns = ceilingsOf y
+
+      r : ℕ
+      r = cellFor y (i + 1) c
+
+      ends : EndsAt ns c (cellFor y (i + 1) c)
+      ends = rw (add-one i) (cell-ends (fitsEngine y) ns (omega (arith, limits .columns)) i c l)
+
+  pub pairs-counted : (rows : ℕ) (table : List ℕ) → pairsOf y rows ≡ pairsOut y rows (filledTo y rows table)
+  pairs-counted rows table =
+      pairs-rows y rows
+      ∙ subst (λ (width : ℕ). sumBelow rows inRow ≡ sumBelow rows (shownRow width)) (sym (columns-out y (limits .six)))
+      (sum-same rows inRow (shownRow (columns y))
+      (λ i h. sum-same (columns y) (λ (c : ℕ). length (triedAt y (i + 1) c)) (λ (c : ℕ). sumBelow (columns y) (shownTried (filledTo y rows table) (columns y) (i + 1) c)) (λ c l. cell-counted rows table i c h l)))
+    where
+      inRow : ℕ → ℕ
+      inRow i = sumBelow (columns y) (λ (c : ℕ). length (triedAt y (i + 1) c))
+
+      shownRow : ℕ → ℕ → ℕ
+      shownRow width i = sumBelow width (λ (c : ℕ). sumBelow width (shownTried (filledTo y rows table) width (i + 1) c))
+
 -- main: what the calls promise
+
+same-number : (m n : ℕ) → accepted (m ∷ []) ≡ accepted (n ∷ []) → m ≡ n
+same-number m n e = cc
 
 clash : {A : Type 0} (o : Outcome) {s : Source} {n : ℕ} {ns : List ℕ} → o ≡ accepted ns → o ≡ refused s n → A
 clash o p q = let z : _≡_ {A = ℕ} 0 1 = cc in absurd (omega arith)
@@ -91,7 +173,7 @@ lent (unread k) a left told s n o = left
 lent (opened y) a {table = table} {after = after} left told s n o = go (longEnough y table) refl
   where
     go : (b : Bool) → longEnough y table ≡ b → after ≡ table
-    go true q = let yes : a ≡ accepted [] = told ∙ rw q in clash a yes o
+    go true q = let yes : a ≡ accepted (pairsOf y (y .engines) ∷ []) = told ∙ rw q in clash a yes o
     go false q = left ∙ rw q
 
 module _ (x : Reading) (known : (y : System) → x ≡ opened y → Limits y) (answer : Answer) where
@@ -111,7 +193,7 @@ module _ (x : Reading) (known : (y : System) → x ≡ opened y → Limits y) (a
     short-told : (y : System) → x ≡ opened y → longEnough y table ≡ false → (outcomeOf answer ≡ refused fromInput 11) × (after ≡ table)
     short-told y is q = (told ∙ ap (λ (r : Reading). fillOutcome r table) is ∙ rw q, left ∙ ap (λ (r : Reading). fillTable r table) is ∙ rw q)
 
-    long-told : (y : System) → x ≡ opened y → longEnough y table ≡ true → (outcomeOf answer ≡ accepted []) × (after ≡ filledTo y (y .engines) table)
+    long-told : (y : System) → x ≡ opened y → longEnough y table ≡ true → (outcomeOf answer ≡ accepted (pairsOf y (y .engines) ∷ [])) × (after ≡ filledTo y (y .engines) table)
     long-told y is q =
         (told ∙ ap (λ (r : Reading). fillOutcome r table) is ∙ rw q, left ∙ ap (λ (r : Reading). fillTable r table) is ∙ rw (q, length-enginesTo (y .engines)))
 
@@ -119,6 +201,14 @@ module _ (x : Reading) (known : (y : System) → x ≡ opened y → Limits y) (a
     then-table y is true q = ((λ o. clash (outcomeOf answer) (long-told y is q .0) o), (λ h. absurd (not-both q (long-or-short y is .1 h))))
     then-table y is false q =
         ((λ o. rw (columns-out y (known y is .six)) (leb-false (entries y (y .engines)) (length table) q)), (λ h. short-told y is q .0))
+
+    -- a number that is answered is that of the pairs
+    pairs-told : (y : System) (pairs : ℕ) → x ≡ opened y → outcomeOf answer ≡ accepted (pairs ∷ []) → pairs ≡ pairsOf y (y .engines)
+    pairs-told y pairs is o = go (longEnough y table) refl
+      where
+        go : (b : Bool) → longEnough y table ≡ b → pairs ≡ pairsOf y (y .engines)
+        go true q = same-number pairs (pairsOf y (y .engines)) (sym o ∙ long-told y is q .0)
+        go false q = clash (outcomeOf answer) o (short-told y is q .0)
 
     pub fill-promises : FillPromises x table answer after
     fill-promises = record {
@@ -128,7 +218,12 @@ module _ (x : Reading) (known : (y : System) → x ≡ opened y → Limits y) (a
       thenTable = λ y is. then-table y is (longEnough y table) refl;
       fills = λ y is long.
           let done = long-told y is (long-or-short y is .0 long) in
-          (done .0, rw (done .1) (filled-means y (known y is) (y .engines) table (le-refl (y .engines)) long));
+          rw (done .1) (filled-means y (known y is) (y .engines) table (le-refl (y .engines)) long);
+      counts = λ y is long.
+          let done = long-told y is (long-or-short y is .0 long) in
+          done .0 ∙ ap (λ (pairs : ℕ). accepted (pairs ∷ [])) (pairs-counted y (known y is) (y .engines) table ∙ ap (pairsOut y (y .engines)) (sym (done .1)));
+      bounded = λ y pairs is o. rw (pairs-told y pairs is o) (pairs-bounded y (known y is) (y .engines));
+      met = λ y pairs is o nothing. pairs-told y pairs is o ∙ pairs-met y (known y is) nothing (y .engines);
       asLent = λ s n o. lent x (outcomeOf answer) left told s n o;
     }
 

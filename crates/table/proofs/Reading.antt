@@ -12,6 +12,7 @@ use Rattle.system.specs.Outcome.{accepted, outcomeOf, refusalOf, fromInput, pas
 use Rattle.system.proofs.Checks.{check-passed, check-failed, fails-refuse}
 use Rattle.system.proofs.Laws.{read-keeps-limits, reads-opened, reads-unread}
 use Rattle.partition.proofs.Lists.{length-enginesTo}
+use Rattle.table.specs.Pairs.{pairsOf}
 use Rattle.table.specs.Table.{longEnough, tableCheck, filledTo, fillOutcome, fillTable, entriesNeeded}
 
 -- a system that was read keeps the limits
@@ -34,10 +35,11 @@ module _ (x : Reading) (r : Opened) (reads : Reads x r) where
     pub fill-short : r .answer ≡ Accepted → (why : Refusal) → failsWith why ≡ tableCheck (r .system) table → (refusalOf why ≡ fillOutcome x table) × (table ≡ fillTable x table)
     fill-short e why failed =
         let same = reads-opened x r reads e in
-        (rw (same, ← failed) (sym (fails-refuse why (accepted []))), rw (same, check-failed (longEnough (r .system) table) fromInput 11 why failed))
+        (rw (same, ← failed) (sym (fails-refuse why (accepted (pairsOf (r .system) (r .system .engines) ∷ [])))), rw (same, check-failed (longEnough (r .system) table) fromInput 11 why failed))
 
-    pub fill-done : r .answer ≡ Accepted → passes ≡ tableCheck (r .system) table → (last : List ℕ) → last ≡ filledTo (r .system) (r .system .engines) table → (accepted [] ≡ fillOutcome x table) × (last ≡ fillTable x table)
-    fill-done e passed last h =
+    pub fill-done : r .answer ≡ Accepted → passes ≡ tableCheck (r .system) table → (last : List ℕ) → last ≡ filledTo (r .system) (r .system .engines) table
+        → (pairs : ℕ) → pairs ≡ pairsOf (r .system) (r .system .engines) → (accepted (pairs ∷ []) ≡ fillOutcome x table) × (last ≡ fillTable x table)
+    fill-done e passed last h pairs counted =
         let same = reads-opened x r reads e in
         let long = check-passed (longEnough (r .system) table) fromInput 11 passed in
-        (rw (same, long), rw (same, long, length-enginesTo (r .system .engines)) h)
+        (rw (same, long, counted), rw (same, long, length-enginesTo (r .system .engines)) h)

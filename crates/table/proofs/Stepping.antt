@@ -14,7 +14,7 @@ use Rattle.system.specs.Limits.{columnsOf}
 use Rattle.system.proofs.Laws.{columnsOf-pos}
 use Rattle.loads.specs.Column.{columnFrom, columnOf, loadOf}
 use Rattle.loads.proofs.Order.{Below, none, more}
-use Rattle.loads.proofs.Column.{columnOf-horner}
+use Rattle.loads.proofs.Column.{columnOf-horner, loadOf-digit}
 use Rattle.partition.proofs.Lists.{true-or-false}
 use Rattle.table.specs.Search.{nextUnder, risesAt, jumpsFrom}
 
@@ -171,13 +171,6 @@ columnFrom-next s p (more {x = d} {y = t} {xs = ds} {ys = ts} hd rd) (more {y = 
     (le-or-lt t d)
 
 -- main: with the ceilings as tops it is the load of the next column
-
-loadOf-digit : (n r q : ℕ) (ns : List ℕ) → r ≤ n → loadOf (n ∷ ns) (r + (n + 1) * q) ≡ r ∷ loadOf ns q
-unfolding loadOf
-loadOf-digit n r q ns h =
-    let small : r < n + 1 = omega arith in
-    let some : 0 < n + 1 = omega arith in
-    rw (add-mul-mod-self-left r (n + 1) q, add-mul-div-left r q some, mod-eq-of-lt small, div-eq-of-lt small, zero-add q)
 
 pub nextUnder-loadOf : (ns : List ℕ) (c : ℕ) → nextUnder ns (loadOf ns c) ≡ loadOf ns (c + 1)
 nextUnder-loadOf [] c = unfold nextUnder loadOf in refl

@@ -1,4 +1,5 @@
 -- The definitions of crate `table`, in reading order.
+pub mod Pairs
 pub mod Table
 pub mod Search
 pub mod Recovery

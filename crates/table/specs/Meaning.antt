@@ -1,9 +1,11 @@
 -- What a filled table says, in plain words, and what the calls that fill one promise. Of the table only `Table` is known here.
-use Prim.Native.Nat.{ℕ, _+_, _-_, _*_, _≤_, _<_}
+use Prim.Native.Nat.{ℕ, zero, suc, _+_, _-_, _*_, _/_, _≤_, _<_}
 use mathlib.Core.List.{List, [], _∷_}
+use mathlib.Core.Bool.{Bool, cond, _&&_}
 use mathlib.Core.Path.{_≡_}
-use mathlib.Core.Logic.{_↔_}
+use mathlib.Core.Logic.{_↔_, _⊎_}
 use lib.ListN.{length, getD}
+use lib.Dec.{leb}
 use Rattle.system.specs.declared.System.{System}
 use Rattle.system.specs.declared.Answer.{Answer}
 use Rattle.system.specs.Values.{ceilingsOf}
@@ -11,7 +13,7 @@ use Rattle.system.specs.Layout.{Reading, opened, unread}
 use Rattle.system.specs.Outcome.{Outcome, Source, accepted, refused, fromInput, outcomeOf}
 use Rattle.loads.specs.Column.{loadOf}
 use Rattle.partition.specs.ForSystem.{cellFor}
-use Rattle.partition.specs.Plain.{columnsOut, LongEnough, Impossible}
+use Rattle.partition.specs.Plain.{typeNo, ceilingNo, columnsOut, LongEnough, Impossible}
 use Rattle.table.specs.Table.{fillOutcome, fillTable, entriesNeeded}
 
 -- how many instances of type t, counted from 1, the load of column c has
@@ -26,13 +28,55 @@ pub record FilledMeans (y : System) (rows : ℕ) (table after : List ℕ) : Type
   pub past : (k : ℕ) → (rows + 1) * columnsOut y ≤ k → getD after k 0 ≡ getD table k 0
   pub asLong : length after ≡ length table
 
--- what the call `fill_table` promises: 1 to 10, then 11 exactly for a table that is too short, and the table as lent; else the table filled
+-- Request 2026-05: the pairs that a fill tries, counted in the table that it leaves
+
+-- f 0 + f 1 + .., as many as n
+unfoldable pub sumBelow : ℕ → (ℕ → ℕ) → ℕ
+sumBelow zero f = 0
+sumBelow (suc n) f = sumBelow n f + f n
+
+-- "no greater count": of none of the six types does column p have more instances than column c
+abbrev pub noGreater : System → ℕ → ℕ → Bool
+noGreater y p c =
+    leb (countIn y p 1) (countIn y c 1)
+    && leb (countIn y p 2) (countIn y c 2)
+    && leb (countIn y p 3) (countIn y c 3)
+    && leb (countIn y p 4) (countIn y c 4)
+    && leb (countIn y p 5) (countIn y c 5)
+    && leb (countIn y p 6) (countIn y c 6)
+
+-- 1 where column p is tried for row i, column c: "from the lowest up to the one accepted or to the last". The one accepted is what the entry holds; 65,535 there is past every column
+abbrev pub triedOut : System → List ℕ → ℕ → ℕ → ℕ → ℕ
+triedOut y after i c p = cond (noGreater y p c && leb p (getD after (i * columnsOut y + c) 0)) 1 0
+
+-- "for each row from 1 and each column"
+abbrev pub pairsOut : System → ℕ → List ℕ → ℕ
+pairsOut y rows after = sumBelow rows (λ (i : ℕ). sumBelow (columnsOut y) (λ (c : ℕ). sumBelow (columnsOut y) (triedOut y after (i + 1) c)))
+
+-- "the product of (n(t)+1) × (n(t)+2) / 2", written out
+abbrev pub triangle : ℕ → ℕ
+triangle n = (n + 1) * (n + 2) / 2
+
+abbrev pub boundOut : System → ℕ
+boundOut y =
+    triangle (ceilingNo y 1)
+    * (triangle (ceilingNo y 2) * (triangle (ceilingNo y 3) * (triangle (ceilingNo y 4) * (triangle (ceilingNo y 5) * triangle (ceilingNo y 6)))))
+
+-- of no type that has instances does one fit an empty engine: its time, or its code with its data, is too large. A q that is given is not 0, so that it never forbids one
+abbrev pub NoneFits : System → Type 0
+NoneFits y = (t : ℕ) → 1 ≤ t → 1 ≤ ceilingNo y t → (y .timecap < typeNo y t .time) ⊎ (y .memorycap < typeNo y t .memory + typeNo y t .data)
+
+-- what the call `fill_table` promises: 1 to 10, then 11 exactly for a table that is too short, and the table as lent; else the table filled, and the answer is the number of pairs tried,
+-- at most m times the product, and just that where no type fits
 pub record FillPromises (x : Reading) (table : List ℕ) (answer : Answer) (after : List ℕ) : Type 0 where
   pub answers : outcomeOf answer ≡ fillOutcome x table
   pub leaves : after ≡ fillTable x table
   pub fileFirst : (n : ℕ) → x ≡ unread n → outcomeOf answer ≡ refused fromInput n
   pub thenTable : (y : System) → x ≡ opened y → (outcomeOf answer ≡ refused fromInput 11) ↔ (length table < (y .engines + 1) * columnsOut y)
-  pub fills : (y : System) → x ≡ opened y → LongEnough y table → (outcomeOf answer ≡ accepted []) × FilledMeans y (y .engines) table after
+  pub fills : (y : System) → x ≡ opened y → LongEnough y table → FilledMeans y (y .engines) table after
+  pub counts : (y : System) → x ≡ opened y → LongEnough y table → outcomeOf answer ≡ accepted (pairsOut y (y .engines) after ∷ [])
+  pub bounded : (y : System) (pairs : ℕ) → x ≡ opened y → outcomeOf answer ≡ accepted (pairs ∷ []) → pairs ≤ y .engines * boundOut y
+  pub met : (y : System) (pairs : ℕ) → x ≡ opened y → outcomeOf answer ≡ accepted (pairs ∷ []) → NoneFits y → pairs ≡ y .engines * boundOut y
   pub asLent : (s : Source) (n : ℕ) → outcomeOf answer ≡ refused s n → after ≡ table
 
 -- what the call `entries_needed` promises: the shortest table that 11 passes

@@ -12,6 +12,7 @@ use Rattle.loads.specs.Load.{engineWith, idleEngine}
 use Rattle.partition.specs.Assignment.{enginesTo}
 use Rattle.partition.specs.ForSystem.{cellFor, rowFor, placeable, recoveredFor}
 use Rattle.table.specs.declared.Placement.{Placement}
+use Rattle.table.specs.Pairs.{pairsOf}
 
 -- f 0, f 1, .., as many as k
 unfoldable pub upTo : (ℕ → ℕ) → ℕ → List ℕ
@@ -50,10 +51,10 @@ filledTo y rows table = upTo (entryOf y) (entries y rows) ++ drop (entries y row
 abbrev pub filled : System → List ℕ → List ℕ → List ℕ
 filled y es table = filledTo y (length es) table
 
--- a call that only fills: 1 to 10, 11, else accepted
+-- a call that only fills: 1 to 10, 11, else accepted with the number of pairs tried (request 2026-05)
 abbrev pub fillOutcome : Reading → List ℕ → Outcome
 fillOutcome (unread n) table = refused fromInput n
-fillOutcome (opened y) table = unlessFails (tableCheck y table) (accepted [])
+fillOutcome (opened y) table = unlessFails (tableCheck y table) (accepted (pairsOf y (y .engines) ∷ []))
 
 abbrev pub fillTable : Reading → List ℕ → List ℕ
 fillTable (unread n) table = table

@@ -1,4 +1,5 @@
 // The search for a predecessor in rows that are filled: it visits only the columns whose load has no count above the searched one, lowest first.
+// For fixed counts of types 2 to 6 these are one run of columns, and `step` goes from run to run. The columns tried are counted by whole runs (request 2026-05).
 ghost use mathlib.Core.Path.{_≡_};
 ghost use Prim.Native.Nat.{_+_, _-_, _≤_, _<_};
 ghost use mathlib.Core.List.{_++_};
@@ -7,9 +8,15 @@ ghost use lib.ListN.{length, take, drop};
 ghost use Rattle.system.specs.Limits.{columnsOf, columnLimit};
 ghost use Rattle.loads.specs.Load.{within};
 ghost use Rattle.partition.specs.Cell.{lowest, noColumn};
-ghost use Rattle.table.specs.Search.{seen, candidate, nextUnder, risesAt, jumpsFrom, RunInside, SearchInside};
+ghost use Rattle.table.specs.Search.{seen, candidate, foundAt, nextUnder, risesAt, jumpsFrom, RunInside, SearchInside, NoneInFirst};
 use system::NO_COLUMN;
 use system::TYPE_LIMIT;
+
+// What a search answers: the column that it found, 65,535 where there is none, and how many columns it tried.
+pub struct Found {
+    pub column: u16,
+    pub tried: usize,
+}
 
 // The lowest column from `from` to below `end` at which the row before says yes, and whose difference from the searched column fits.
 // The row before starts at `before`; `single` is the entry of row 1 at the searched column.
@@ -65,31 +72,72 @@ fn jumps_of(ceilings: [u16; TYPE_LIMIT], tops: [u16; TYPE_LIMIT]) -> [usize; TYP
     jumps
 }
 
+// How many columns have a load with no count above this one.
+pub fn columns_under(load: [u16; TYPE_LIMIT]) -> usize
+    requires { ⌜ columnsOf load ≤ columnLimit ⌝ }
+    ensures { λ r. ⌜ r ≡ columnsOf load ⌝ }
+{
+    let mut columns: usize = 1;
+    for t in 0..TYPE_LIMIT {
+        columns = columns * (wide(load[t]) + 1);
+    }
+    columns
+}
+
+// The search past the first run, in which nothing was found.
+fn search_on(
+    table: &[u16],
+    before: usize,
+    single: usize,
+    ceilings: [u16; TYPE_LIMIT],
+    load: [u16; TYPE_LIMIT],
+) -> Found
+    requires { ⌜ SearchInside (now table) before single ceilings load × NoneInFirst (now table) before single load ⌝ }
+    ensures { λ r. ⌜ r ≡ foundAt ceilings load (lowest (candidate (now (table .entry)) before single ceilings load) noColumn (columnsOf ceilings) 0) ⌝ }
+{
+    let jumps = jumps_of(ceilings, load);
+    let last = wide(load[0]);
+    let mut counts: [u16; TYPE_LIMIT] = [0; TYPE_LIMIT];
+    let mut base: usize = 0;
+    let mut tried = last + 1;
+    loop {
+        let t = step(&mut counts, load, 1);
+        if t == 6 {
+            return Found {
+                column: NO_COLUMN,
+                tried: tried,
+            };
+        }
+        base += last + jumps[t];
+        let found = run(table, before, single, base, base + last + 1);
+        if found != NO_COLUMN {
+            return Found {
+                column: found,
+                tried: tried + (wide(found) + 1 - base),
+            };
+        }
+        tried += last + 1;
+    }
+}
+
 // The lowest column that precedes the searched one, whose load is `load`, by the rows that are filled; 65,535 where there is none.
-// For fixed counts of types 2 to 6 the columns to visit are one run, and `step` goes from run to run.
+// Most searches end in the first run, so that what later runs need is made only for them.
 pub fn search(
     table: &[u16],
     before: usize,
     single: usize,
     ceilings: [u16; TYPE_LIMIT],
     load: [u16; TYPE_LIMIT],
-) -> u16
+) -> Found
     requires { ⌜ SearchInside (now table) before single ceilings load ⌝ }
-    ensures { λ r. ⌜ r ≡ lowest (candidate (now (table .entry)) before single ceilings load) noColumn (columnsOf ceilings) 0 ⌝ }
+    ensures { λ r. ⌜ r ≡ foundAt ceilings load (lowest (candidate (now (table .entry)) before single ceilings load) noColumn (columnsOf ceilings) 0) ⌝ }
 {
-    let jumps = jumps_of(ceilings, load);
-    let last = wide(load[0]);
-    let mut counts: [u16; TYPE_LIMIT] = [0; TYPE_LIMIT];
-    let mut base: usize = 0;
-    loop {
-        let found = run(table, before, single, base, base + last + 1);
-        if found != NO_COLUMN {
-            return found;
-        }
-        let t = step(&mut counts, load, 1);
-        if t == 6 {
-            return NO_COLUMN;
-        }
-        base += last + jumps[t];
+    let found = run(table, before, single, 0, wide(load[0]) + 1);
+    if found != NO_COLUMN {
+        return Found {
+            column: found,
+            tried: wide(found) + 1,
+        };
     }
+    search_on(table, before, single, ceilings, load)
 }

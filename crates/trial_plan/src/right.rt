@@ -195,5 +195,5 @@ pub fn right_fill(y: System, table: [u16; 512], entries: usize) -> bool {
         wrapping_sub_usize(entries, 1),
     );
     let cells = recovery::right_cells(y, long) & tables::same_from(long, table, entries);
-    (filled == 0) & cells & (refused == 111) & tables::same_from(short, table, 0)
+    (1000 < filled) & cells & (refused == 111) & tables::same_from(short, table, 0)
 }

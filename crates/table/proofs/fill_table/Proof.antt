@@ -76,7 +76,9 @@ returns-3 c =
     file-fills (start .args .file .now) _ (start .args .table .now) _
     (fill-done (readFile (start .args .file .now)) (r .result) (r .ensures) (start .args .table .now) (is-accepted (h .before .before .before .before .before)) (passed (h .before))
     (c .before .before .fill .last .0)
-    (c .before .before .fill .ensures))
+    (c .before .before .fill .ensures .0)
+    (c .before .before .fill .result)
+    (c .before .before .fill .ensures .1))
 
 pub fill-table-spec : {M : Type 1} → statement M
 fill-table-spec =

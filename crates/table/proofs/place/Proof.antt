@@ -16,6 +16,10 @@ use Rattle.table.proofs.Placed.{rows-used, rows-on-engines}
 use Rattle.table.proofs.place.Statement.{statement}
 use Rattle.table.proofs.place.Tie as tie
 
+-- an array of the code has its length
+sixteen-at : (c : tie.Start) → length (c .args .engines .numbers) ≡ engineLimit
+sixteen-at c = search needs
+
 fill-requires : tie.Need-fill-requires
 fill-requires c κs =
     let start = c .before .before in
@@ -35,7 +39,7 @@ placed-by-requires c κs =
     let y = start .args .y in
     let rows = start .args .engines .count in
     let table = start .args .table .now in
-    (shows-last y rows (c .columns-of .result) table (c .before .before .before .before .fill .last .0) (c .columns-of .ensures) (c .before .before .before .before .fill .ensures) (shows-filled y rows table (start .pre .limits) (start .pre .few) (start .pre .room)), start .pre .under)
+    (shows-last y rows (c .columns-of .result) table (c .before .before .before .before .fill .last .0) (c .columns-of .ensures) (c .before .before .before .before .fill .ensures .0) (shows-filled y rows table (start .pre .limits) (start .pre .few) (start .pre .room)), start .pre .under)
 
 on-engines-requires : tie.Need-on-engines-requires
 on-engines-requires c κs =
@@ -58,9 +62,9 @@ returns c =
     let y = start .args .y in
     let engines = start .args .engines in
     let found = c .before .before .placed-by in
-    let sixteen : length (engines .numbers) ≡ engineLimit = search needs in
+    let sixteen = sixteen-at start in
     let count : length (listed engines) ≡ engines .count = length-take-le (engines .count) (engines .numbers) (omega (arith, sixteen, start .pre .engines .few)) in (
-      c .before .before .before .before .before .before .before .fill .ensures ∙ rw count,
+      c .before .before .before .before .before .before .before .fill .ensures .0 ∙ rw count,
       rows-on-engines y (listed engines) (start .args .counts) (found .result) (c .on-engines .result) (found .ensures ∙ rw count) (c .on-engines .ensures),
     )
 

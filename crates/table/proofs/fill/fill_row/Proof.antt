@@ -1,4 +1,4 @@
--- The loop's invariant: the table is filled up to the row's next entry, and the load is that of the next column.
+-- The loop's invariant: the table is filled up to the row's next entry, the load is that of the next column, and the pairs tried are those of the columns before it.
 use Prim.Native.Nat.{ℕ, _+_, _-_, _*_, _≤_, _<_}
 use mathlib.Core.Path.{_≡_, sym, ap, _∙_}
 use native.Mathlib.Nat.{mul-le-mul}
@@ -7,22 +7,30 @@ use borrow.Author.Needs.{needs}
 use lib.ListN.{length, replicate, length-map}
 use Rattle.system.specs.declared.TaskType.{TaskType}
 use Rattle.system.specs.Values.{ceilingsOf}
+use Rattle.system.specs.Limits.{columns, columnLimit}
 use Rattle.system.proofs.Laws.{limits-of}
 use Rattle.loads.specs.Column.{loadOf}
 use Rattle.loads.proofs.Column.{length-loadOf, loadOf-zero}
+use Rattle.partition.specs.ForSystem.{cellFor}
+use Rattle.table.specs.declared.search.Found.{Found}
 use Rattle.table.specs.Table.{entryOf}
+use Rattle.table.specs.Search.{cellTried}
 use Rattle.table.proofs.Begun.{begun}
 use Rattle.table.proofs.Stepping.{nextUnder-loadOf}
-use Rattle.table.proofs.FilledRow.{row-starts, entry-inside, rows-stay, cell-stored, length-row, row-ends}
+use Rattle.table.proofs.FilledRow.{row-starts, entry-inside, rows-stay, cell-stored, length-row, row-ends, rowTriedTo, none-tried, cell-more, cell-few}
 use Rattle.table.proofs.fill.fill_row.Statement.{statement}
 use Rattle.table.proofs.fill.fill_row.Tie as tie
 
 abbrev Inv-loop : tie.InvT-loop
-Inv-loop table₀ y columns row ceilings start load₀ column₀ table load column =
-    (column ≤ columns) × (table ≡ begun (entryOf y) (row * columns + column) table₀) × (load ≡ loadOf (ceilingsOf y) column)
+Inv-loop table₀ y columns row ceilings start load₀ tried₀ column₀ table load tried column =
+    (column ≤ columns)
+    × (table ≡ begun (entryOf y) (row * columns + column) table₀)
+    × (load ≡ loadOf (ceilingsOf y) column)
+    × (tried ≡ rowTriedTo y row column)
+    × (tried ≤ column * columnLimit)
 
 abbrev μ-loop : tie.MeasureT-loop
-μ-loop table₀ y columns row ceilings start load₀ column₀ table load column = columns - column
+μ-loop table₀ y columns row ceilings start load₀ tried₀ column₀ table load tried column = columns - column
 
 -- rows and columns are few, and there are six ceilings
 small-start : (c : tie.Start Inv-loop μ-loop) → c .args .row * c .args .columns ≤ 16 * 1024
@@ -54,7 +62,7 @@ mul-start : tie.Need-mul-start Inv-loop μ-loop
 mul-start c = omega (arith, small-start (c .before .before))
 
 loop-holds : tie.Need-loop-holds Inv-loop μ-loop
-loop-holds c = (omega arith, row-starts (c .before .before .pre), sym (loadOf-zero (ceilingsOf (c .before .before .args .y)) ∙ ap (λ (k : ℕ). replicate k 0) (six-ceilings (c .before .before))))
+loop-holds c = (omega arith, row-starts (c .before .before .pre), sym (loadOf-zero (ceilingsOf (c .before .before .args .y)) ∙ ap (λ (k : ℕ). replicate k 0) (six-ceilings (c .before .before))), sym (none-tried (c .before .before .args .y) (c .before .before .args .row)), omega arith)
 
 cell-requires : tie.Need-cell-requires Inv-loop μ-loop
 cell-requires c κs =
@@ -75,9 +83,31 @@ mul-table c = omega (arith, entry-at c)
 slice-write-table : tie.Need-slice-write-table Inv-loop μ-loop
 slice-write-table c = entry-at c .0
 
+-- the cell and the pairs tried for it
+told : (c : tie.After-cell Inv-loop μ-loop) →
+    let at = c .before .before .before in
+    let a = at .before .before .before .args in
+    (c .cell .result .column ≡ cellFor (a .y) (a .row) (at .loop .column)) × (c .cell .result .tried ≡ cellTried (a .y) (a .row) (at .loop .column) .tried)
+told c = (ap (λ (f : Found). f .column) (c .cell .ensures), ap (λ (f : Found). f .tried) (c .cell .ensures))
+
+-- with them the pairs are few
+tried-few : (c : tie.After-cell Inv-loop μ-loop) →
+    let at = c .before .before .before in
+    (at .loop .tried + c .cell .result .tried ≤ (at .loop .column + 1) * columnLimit) × (at .loop .column + 1 ≤ columnLimit)
+tried-few c =
+    let at = c .before .before .before in
+    let start = at .before .before .before in
+    let h = c .before .before .loop-test .taken in
+    let inside : at .loop .column < columns (start .args .y) = omega (arith, start .pre .wide) in
+    let few = limits-of (start .args .y) (start .pre .limits) .columns in
+    (omega (arith, told c .1, cell-few (start .args .y) (start .pre .limits) (start .args .row) (at .loop .column) inside, at .loop .inv .4), omega (arith, few))
+
+add-tried : tie.Need-add-tried Inv-loop μ-loop
+add-tried c = omega (arith, tried-few (c .before))
+
 step-requires : tie.Need-step-requires Inv-loop μ-loop
 step-requires c κs =
-    let at = c .before .before .before .before in
+    let at = c .before .before .before .before .before in
     (omega arith, rw (at .loop .inv .2) (length-loadOf (ceilingsOf (at .before .before .before .args .y)) (at .loop .column) ∙ six-ceilings (at .before .before .before)))
 
 add-column : tie.Need-add-column Inv-loop μ-loop
@@ -88,12 +118,15 @@ loop-less c = omega arith
 
 loop-again : tie.Need-loop-again Inv-loop μ-loop
 loop-again c =
-    let at = c .before .before .before .before .before in
+    let celled = c .before .before .before in
+    let at = celled .before .before .before in
     let a = at .before .before .before .args in
-    let h = c .before .before .before .before .loop-test .taken in (
+    let h = celled .before .before .loop-test .taken in (
       omega arith,
-      rw (at .loop .inv .1, c .before .before .cell .ensures) (cell-stored (at .before .before .before .pre) (at .loop .column) h),
+      rw (at .loop .inv .1, told celled .0) (cell-stored (at .before .before .before .pre) (at .loop .column) h),
       c .step .ensures .0 ∙ rw (at .before .ceilings-of .ensures, at .loop .inv .2) (nextUnder-loadOf (ceilingsOf (a .y)) (at .loop .column)),
+      rw (at .loop .inv .3, told celled .1) (cell-more (a .y) (a .row) (at .loop .column)),
+      tried-few celled .0,
     )
 
 same-length : tie.Need-same-length Inv-loop μ-loop
@@ -104,9 +137,13 @@ same-length c =
 returns : tie.Need-returns Inv-loop μ-loop
 returns c =
     let here = c .before .loop in
-    let pre = c .before .before .before .before .pre in
-    let all : here .column ≡ c .before .before .before .before .args .columns = omega arith in
-    here .inv .1 ∙ rw all (row-ends pre)
+    let start = c .before .before .before .before in
+    let all : here .column ≡ start .args .columns = omega arith in
+    let few = limits-of (start .args .y) (start .pre .limits) .columns in (
+      here .inv .1 ∙ rw all (row-ends (start .pre)),
+      here .inv .3 ∙ ap (rowTriedTo (start .args .y) (start .args .row)) (all ∙ start .pre .wide),
+      omega (arith, here .inv .4, all, start .pre .wide, few),
+    )
 
 pub fill-row-spec : {M : Type 1} → statement M
 fill-row-spec =
@@ -121,6 +158,7 @@ fill-row-spec =
     add-table
     mul-table
     slice-write-table
+    add-tried
     step-requires
     add-column
     loop-less

@@ -1,0 +1,62 @@
+-- The loop's invariant: `t` is at most 6.
+use Prim.Native.Nat.{_-_, _≤_}
+use borrow.Author.Needs.{needs}
+use Rattle.trial_pairs.proofs.count.put_load.Statement.{statement}
+use Rattle.trial_pairs.proofs.count.put_load.Tie as tie
+
+abbrev Inv-loop : tie.InvT-loop
+Inv-loop counts₀ c load t₀ counts t = t ≤ 6
+
+abbrev μ-loop : tie.MeasureT-loop
+μ-loop counts₀ c load t₀ counts t = 6 - t
+
+loop-holds : tie.Need-loop-holds Inv-loop μ-loop
+loop-holds c = search needs
+
+mul-counts : tie.Need-mul-counts Inv-loop μ-loop
+mul-counts c = search needs
+
+array-read-counts : tie.Need-array-read-counts Inv-loop μ-loop
+array-read-counts c = search needs
+
+mul-counts-2 : tie.Need-mul-counts-2 Inv-loop μ-loop
+mul-counts-2 c = search needs
+
+add-counts : tie.Need-add-counts Inv-loop μ-loop
+add-counts c = search needs
+
+mul-counts-3 : tie.Need-mul-counts-3 Inv-loop μ-loop
+mul-counts-3 c = search needs
+
+element-write-counts : tie.Need-element-write-counts Inv-loop μ-loop
+element-write-counts c = search needs
+
+add-t : tie.Need-add-t Inv-loop μ-loop
+add-t c = search needs
+
+loop-less : tie.Need-loop-less Inv-loop μ-loop
+loop-less c = search needs
+
+loop-again : tie.Need-loop-again Inv-loop μ-loop
+loop-again c = search needs
+
+returns : tie.Need-returns Inv-loop μ-loop
+returns c = search needs
+
+pub put-load-spec : {M : Type 1} → statement M
+put-load-spec =
+    tie.close
+    (tie.spec
+    Inv-loop
+    μ-loop
+    loop-holds
+    mul-counts
+    array-read-counts
+    mul-counts-2
+    add-counts
+    mul-counts-3
+    element-write-counts
+    add-t
+    loop-less
+    loop-again
+    returns)

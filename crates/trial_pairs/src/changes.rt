@@ -1,0 +1,71 @@
+// A file with a byte changed and cut to a size: refused 1 to 10 and 31, without a number, whether the table is long enough or not. As it is,
+// it is accepted with its number, and refused 11 over no table.
+use crate::fills::LONG;
+use crate::fills::answer_over;
+use brute::files;
+use brute::say;
+use brute::systems;
+use system::Most;
+
+// Where the byte stands, the byte, and the size.
+struct Change(usize, u8, usize);
+
+// Bytes 0 to 12 are the platform, 13 to 25 type 1, 26 to 30 its q, 31 to 95 types 2 to 6, 96 to 108 a seventh type.
+const CHANGES: [Change; 19] = [
+    Change(0, 1, 96),
+    Change(0, 1, 1),
+    Change(0, 1, 25),
+    Change(13, 5, 96),
+    Change(0, 2, 96),
+    Change(13, 1, 96),
+    Change(2, 11, 96),
+    Change(15, 9, 96),
+    Change(3, 0, 96),
+    Change(3, 17, 96),
+    Change(4, 2, 96),
+    Change(0, 1, 109),
+    Change(5, 1, 96),
+    Change(16, 255, 96),
+    Change(0, 1, 0),
+    Change(0, 1, 13),
+    Change(24, 4, 96),
+    Change(30, 0, 96),
+    Change(30, 0, 109),
+];
+
+// The file of six types of n 1 that cost nothing, the first with q 1, and a seventh type.
+fn seven_types() -> [u8; 256] {
+    let y = systems::with_most_at(systems::six_of(16, [1; 6]), 0, Most::AtMost(1));
+    let f = files::file_of(y);
+    let mut bytes = f.bytes;
+    bytes[96] = 2;
+    bytes[98] = 10;
+    bytes
+}
+
+// The answers over a long table, and over none.
+fn say_answers(bytes: &[u8; 256], size: usize) {
+    let file = files::first_of(bytes, size);
+    say::say_also(answer_over(file, b"", 7, LONG));
+    say::say_also(answer_over(file, b"", 7, 0));
+}
+
+fn say_change(c: Change) {
+    let mut bytes = seven_types();
+    let at = c.0;
+    if at < 256 {
+        bytes[at] = c.1;
+    }
+    say_answers(&bytes, c.2);
+}
+
+// A line of both answers for each change.
+pub fn say_changes() {
+    say::say(b"changed:");
+    let changes = CHANGES;
+    for i in 0..19 {
+        let c = changes[i];
+        say_change(c);
+    }
+    say::say(b"\n");
+}
