@@ -144,12 +144,12 @@ unfolding holdsNone
 zeros-none [] h = refl
 zeros-none (a ∷ x) h = and-both (eqb a 0) (holdsNone x) (eq-eqb a 0 (h 0)) (zeros-none x (λ j. h (suc j)))
 
-length-standing : (ls : List EngineLoad) → ((i : ℕ) → length (getD ls i idleEngine .counts) ≡ typeLimit) → length (standingOf ls) ≡ typeLimit
+pub length-standing : (ls : List EngineLoad) → ((i : ℕ) → length (getD ls i idleEngine .counts) ≡ typeLimit) → length (standingOf ls) ≡ typeLimit
 unfolding sumOf
 length-standing [] h = refl
 length-standing (l ∷ ls) h = length-plus (l .counts) (standingOf ls) (h 0 ∙ sym (length-standing ls (λ i. h (suc i)))) ∙ h 0
 
-standing-out : (ls : List EngineLoad) (t : ℕ) → ((i : ℕ) → length (getD ls i idleEngine .counts) ≡ typeLimit) → totalNo t ls ≡ getD (standingOf ls) (t - 1) 0
+pub standing-out : (ls : List EngineLoad) (t : ℕ) → ((i : ℕ) → length (getD ls i idleEngine .counts) ≡ typeLimit) → totalNo t ls ≡ getD (standingOf ls) (t - 1) 0
 unfolding sumOf totalNo
 standing-out [] t h = sym (getD-padded [] typeLimit (t - 1) 0)
 standing-out (l ∷ ls) t h =

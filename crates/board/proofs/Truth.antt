@@ -131,12 +131,12 @@ zero-engine y l h =
     let idle : l ≡ idleEngine = λ i. record { time = time i; memory = memory i; counts = counts i } in
     idle ∙ sym (engineWith-idle y)
 
-record TrueEngine (y : System) (l : EngineLoad) : Type 0 where
-  same : l ≡ engineWith y (l .counts)
-  six : eqb (length (l .counts)) typeLimit ≡ true
-  fit : fitsEngine y (l .counts) ≡ true
+pub record TrueEngine (y : System) (l : EngineLoad) : Type 0 where
+  pub same : l ≡ engineWith y (l .counts)
+  pub six : eqb (length (l .counts)) typeLimit ≡ true
+  pub fit : fitsEngine y (l .counts) ≡ true
 
-true-engine : (y : System) (l : EngineLoad) → trueEngine y l ≡ true → TrueEngine y l
+pub true-engine : (y : System) (l : EngineLoad) → trueEngine y l ≡ true → TrueEngine y l
 true-engine y l h =
     let p =
     four-true (eqb (length (l .counts)) typeLimit) (eqb (l .time) (timeOf (y .types) (l .counts)))

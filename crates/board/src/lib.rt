@@ -14,7 +14,9 @@ pub use calls::open_board;
 pub use calls::repack;
 pub use calls::retire;
 pub use calls::seat;
+pub use state::total;
 pub use state::true_board;
+pub use state::true_loads;
 
 // A board: the system, and each engine's load with its stored time and memory. Engine e is at index e - 1.
 pub struct Board {

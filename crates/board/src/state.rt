@@ -34,7 +34,7 @@ fn zero_engine(l: EngineLoad) -> bool
 }
 
 // The first m engines are true, the others 0.
-fn true_loads(y: System, loads: [EngineLoad; ENGINE_LIMIT]) -> bool
+pub fn true_loads(y: System, loads: [EngineLoad; ENGINE_LIMIT]) -> bool
     ensures { λ r. ⌜ r ≡ trueLoads y (y .engines) loads ⌝ }
 {
     let mut good = true;
@@ -69,7 +69,7 @@ fn added(l: EngineLoad, sum: [u32; TYPE_LIMIT]) -> [u32; TYPE_LIMIT]
 }
 
 // What stands: the sum over the engines.
-fn total(loads: [EngineLoad; ENGINE_LIMIT]) -> [u32; TYPE_LIMIT]
+pub fn total(loads: [EngineLoad; ENGINE_LIMIT]) -> [u32; TYPE_LIMIT]
     ensures { λ r. ⌜ r ≡ standingOf loads ⌝ }
 {
     let mut sum: [u32; TYPE_LIMIT] = [0; TYPE_LIMIT];

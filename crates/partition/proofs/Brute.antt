@@ -98,12 +98,12 @@ someGood-iff-feasible test es ν = (there, back)
 -- intermediate: the same list
 
 module _ {A : Type 0} (same : A → A → Bool) where
-  sameList-refl : ((x : A) → same x x ≡ true) → (l : List A) → sameList same l l ≡ true
+  pub sameList-refl : ((x : A) → same x x ≡ true) → (l : List A) → sameList same l l ≡ true
   unfolding sameList
   sameList-refl h [] = refl
   sameList-refl h (x ∷ l) = and-both (same x x) (sameList same l l) (h x) (sameList-refl h l)
 
-  sameList-true : ((x y : A) → same x y ≡ true → x ≡ y) → (l r : List A) → sameList same l r ≡ true → l ≡ r
+  pub sameList-true : ((x y : A) → same x y ≡ true → x ≡ y) → (l r : List A) → sameList same l r ≡ true → l ≡ r
   unfolding sameList
   sameList-true h [] [] e = refl
   sameList-true h [] (y ∷ r) e = absurd (false≢true e)

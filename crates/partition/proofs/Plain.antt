@@ -126,7 +126,7 @@ not-and : (a b : Bool) → (not a || not b) ≡ not (a && b)
 not-and true b = refl
 not-and false b = refl
 
-hosts-some : (χ : Assignment) (e : ℕ) → hosts χ e ≡ not (holdsNone (loadOn e χ))
+pub hosts-some : (χ : Assignment) (e : ℕ) → hosts χ e ≡ not (holdsNone (loadOn e χ))
 unfolding anyOf holdsNone
 hosts-some [] e = refl
 hosts-some (places ∷ χ) e = rw (among-counted places e, hosts-some χ e) (not-and (eqb (countOn e places) 0) (holdsNone (loadOn e χ)))

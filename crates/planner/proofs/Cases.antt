@@ -44,13 +44,13 @@ lent-passed y table room e =
 -- ---- the tests in plain words
 
 module _ (y : System) (limits : Limits y) where
-  long-out : (table : List ℕ) → longEnough y table ≡ true → LongEnough y table
+  pub long-out : (table : List ℕ) → longEnough y table ≡ true → LongEnough y table
   long-out table h = rw (columns-out y (limits .six)) (leb-true (entries y (y .engines)) (length table) h)
 
-  long-back : (table : List ℕ) → LongEnough y table → longEnough y table ≡ true
+  pub long-back : (table : List ℕ) → LongEnough y table → longEnough y table ≡ true
   long-back table h = le-leb (entries y (y .engines)) (length table) (rw (columns-out y (limits .six)) at h)
 
-  short-out : (table : List ℕ) → longEnough y table ≡ false → length table < (y .engines + 1) * columnsOut y
+  pub short-out : (table : List ℕ) → longEnough y table ≡ false → length table < (y .engines + 1) * columnsOut y
   short-out table h = rw (columns-out y (limits .six)) (leb-false (entries y (y .engines)) (length table) h)
 
   -- the ceilings are a load within the ceilings

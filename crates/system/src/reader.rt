@@ -46,7 +46,7 @@ pub enum Head {
 pub const HEAD_SIZE: usize = 3;
 
 // The byte at i, 0 past the end.
-fn byte_at(s: &[u8], i: usize) -> u8
+pub fn byte_at(s: &[u8], i: usize) -> u8
     ensures { λ r. ⌜ r ≡ getD (now (s .entry)) i 0 ⌝ }
 {
     if i < s.len() {
@@ -56,14 +56,14 @@ fn byte_at(s: &[u8], i: usize) -> u8
 }
 
 // Unsigned numbers of two and of four bytes, most significant byte first.
-fn two_bytes(s: &[u8], i: usize) -> u16
+pub fn two_bytes(s: &[u8], i: usize) -> u16
     requires { ⌜ i < 64 ⌝ }
     ensures { λ r. ⌜ r ≡ word2 (now (s .entry)) i ⌝ }
 {
     (byte_at(s, i) as u16) * 256 + (byte_at(s, i + 1) as u16)
 }
 
-fn four_bytes(s: &[u8], i: usize) -> u32
+pub fn four_bytes(s: &[u8], i: usize) -> u32
     requires { ⌜ i < 32 ⌝ }
     ensures { λ r. ⌜ r ≡ word4 (now (s .entry)) i ⌝ }
 {
@@ -71,7 +71,7 @@ fn four_bytes(s: &[u8], i: usize) -> u32
 }
 
 // What is left of a file from a cursor on, as a part of it.
-fn rest_at(file: &[u8], c: Cursor) -> &[u8]
+pub fn rest_at(file: &[u8], c: Cursor) -> &[u8]
     ensures { λ r. ⌜ now r ≡ drop (c .at) (now (file .entry)) ⌝ }
 {
     let at = c.at;
