@@ -15,21 +15,25 @@ use Rattle.loads.specs.declared.EngineLoad.{EngineLoad}
 use Rattle.partition.specs.Plain.{recordNo}
 use Rattle.planner.specs.declared.Plan.{Plan}
 use Rattle.planner.specs.Plan.{recordsOf}
-use Rattle.listing.specs.Listing.{space, typesWord, decimal, parted, engineLine, recordLines, planLines, listingOf, planListing}
+use Rattle.listing.specs.Listing.{space, typesWord, decimal, parted, engineLine, recordLines, planLines, refusalLine, listingOf, planListing}
 use Rattle.listing.specs.Demands.{TellsRefusal, eachTo, engineText, recordText, TellsRecords, TellsPlan, WritePromises}
 use Rattle.listing.proofs.Laws.{counts-suc, engineLine-parts, lines-suc}
 use Rattle.listing.proofs.Numbers.{in-decimal}
 
 -- a refusal
 
--- whichever its number, from whichever list
-pub refused-told : (s : Source) (n used k : ℕ) (loads : List EngineLoad) → TellsRefusal n (listingOf (refused s n) used k loads)
-unfolding listingOf parted
-refused-told s n used k loads = record {
+pub number-told : (n : ℕ) → TellsRefusal n (refusalLine n)
+unfolding parted
+number-told n = record {
   digits = decimal n;
   inDecimal = in-decimal n;
   bytes = ap (λ (l : List ℕ). 114 ∷ 101 ∷ 102 ∷ 117 ∷ 115 ∷ 101 ∷ 100 ∷ 32 ∷ (l ++ (10 ∷ []))) (append-nil (decimal n));
 }
+
+-- whichever its number, from whichever list
+pub refused-told : (s : Source) (n used k : ℕ) (loads : List EngineLoad) → TellsRefusal n (listingOf (refused s n) used k loads)
+unfolding listingOf
+refused-told s n used k loads = number-told n
 
 -- a text tells one number
 pub told-once : {n k : ℕ} {text : List ℕ} → TellsRefusal n text → TellsRefusal k text → n ≡ k

@@ -30,7 +30,7 @@ long-for-all file y table opens size =
     omega arith
 
 -- where 11 and 15 pass, the verdict does not know the table
-verdict-alone : (x : Reading) (table : List ℕ) → ((y : System) → x ≡ opened y → (longEnough y table ≡ true) × (y .engines ≤ engineLimit)) → verdictOf x table engineLimit ≡ readingVerdict x
+pub verdict-alone : (x : Reading) (table : List ℕ) → ((y : System) → x ≡ opened y → (longEnough y table ≡ true) × (y .engines ≤ engineLimit)) → verdictOf x table engineLimit ≡ readingVerdict x
 unfolding verdictOf readingVerdict
 verdict-alone (unread n) table h = refl
 verdict-alone (opened y) table h = rw (h y refl .0, le-leb (y .engines) engineLimit (h y refl .1))

@@ -19,7 +19,7 @@ use Rattle.partition.specs.OwnWords.{overInstances, timeOn, memoryOn, sharedMem
 use Rattle.partition.specs.Plain.{ceilingNo, columnsOut, LongEnough, EngineOf, placesNo, Partition, Impossible, usedTo, recordNo}
 use Rattle.planner.specs.declared.Plan.{Plan}
 use Rattle.planner.specs.Plan.{planTable}
-use Rattle.listing.specs.Listing.{planListing, fileListing}
+use Rattle.listing.specs.Listing.{refusalLine, planListing, fileListing}
 
 -- the bytes of `0` to `9`
 unfoldable pub onlyDigits : List ℕ → Bool
@@ -103,6 +103,16 @@ pub record ListingDemand2 (file table text : List ℕ) : Type 0 where
 pub record ListingRefuses (file table text : List ℕ) : Type 0 where
   pub unreadable : (n : ℕ) → readFile file ≡ unread n → TellsRefusal n text
   pub shortTable : (y : System) → readFile file ≡ opened y → TellsRefusal 11 text ↔ (length table < (y .engines + 1) * columnsOut y)
+
+-- the number of a refusal, from whichever list
+abbrev pub numberOf : Refusal → ℕ
+numberOf (Input n) = n
+numberOf (State n) = n
+
+-- what the call `write_refusal` promises of its result and the buffer: the line of its number
+pub record RefusalPromises (why : Refusal) (old new : List ℕ) (r : ℕ) : Type 0 where
+  pub written : Written (refusalLine (numberOf why)) old new r
+  pub tells : TellsRefusal (numberOf why) (refusalLine (numberOf why))
 
 -- what the call `write_listing` promises of its result and the buffer: a refusal from either list with its number, and else the plan's records.
 -- There is a record for each used engine, and in it a count for each type: a plan has 16 records with 6 counts each

@@ -10,7 +10,7 @@ ghost use Rattle.system.specs.Outcome.{refusalOf};
 ghost use Rattle.planner.specs.Plan.{recordsOf};
 ghost use Rattle.listing.specs.Listing.{enginesWord, utilWord, memWord, typesWord, refusedWord, space, decimal, parted, recordLine, recordLines, planLines, listingOf};
 ghost use Rattle.listing.specs.Room.{numberRoom, spacedRoom, lineRoom, engineRoom, enginesRoom, listingRoom};
-ghost use Rattle.listing.specs.Demands.{WritePromises, ListingPromises};
+ghost use Rattle.listing.specs.Demands.{RefusalPromises, WritePromises, ListingPromises};
 ghost use Rattle.listing.specs.Text.{TextPromises, ReadPromises};
 use buffer::put_byte;
 use buffer::put_bytes;
@@ -217,6 +217,13 @@ fn put_refusal(out: &mut [u8], why: Refusal) -> usize
         Refusal::Input(n) => put_entry(out, 0, REFUSED, 7, n as u64, b'\n'),
         Refusal::State(n) => put_entry(out, 0, REFUSED, 7, n as u64, b'\n'),
     }
+}
+
+// Writes the line of a refusal, from whichever list, at the start of the buffer, and answers its length.
+pub fn write_refusal(out: &mut [u8; 4096], why: Refusal) -> usize
+    ensures { λ r. ⌜ RefusalPromises why (now (out .entry)) (now (out .exit)) r ⌝ }
+{
+    put_refusal(out, why)
 }
 
 // Writes the listing of a plan at the start of the buffer, and answers its length. Every listing fits.

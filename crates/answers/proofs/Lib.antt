@@ -1,0 +1,5 @@
+-- The laws of crate `answers`: lines, what is said of a sheet, where it may be cut, and the sheet that is written.
+pub mod Lines
+pub mod Checked
+pub mod Cut
+pub mod Written
