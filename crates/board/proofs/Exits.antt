@@ -32,6 +32,8 @@ use Rattle.board.specs.Calls.{
   checkNewcomer,
   checkRetire,
   checkRepack,
+  checkRestore,
+  checkWithdraw,
   withNewcomer,
   takes,
   firstEngine,
@@ -102,6 +104,20 @@ repack-passed b table h =
     let p = both-passed _ _ h in
     (check-passed (trueBoard b) fromState 20 (p .0), check-passed (longEnough (b .system) table) fromInput 11 (p .1))
 
+pub withdraw-passed : (b : Board) (e : ℕ) → passes ≡ checkWithdraw b e → OnEngine b e
+unfolding checkWithdraw
+withdraw-passed b e h =
+    let p = both-passed _ _ h in
+    let q = both-passed _ _ (p .1) in
+    record { isTrue = check-passed (trueBoard b) fromState 20 (p .0); known = check-passed (knownEngine (b .system) e) fromInput 14 (q .0) }
+
+pub restore-passed : (b : Board) (e : ℕ) → passes ≡ checkRestore b e → OnEngine b e
+unfolding checkRestore
+restore-passed b e h =
+    let p = both-passed _ _ h in
+    let q = both-passed _ _ (p .1) in
+    record { isTrue = check-passed (trueBoard b) fromState 20 (p .0); known = check-passed (knownEngine (b .system) e) fromInput 14 (q .0) }
+
 -- main: admit's work, by the place that the search came to
 
 engine-same : (d e : ℕ) → Engine d ≡ Engine e → d ≡ e
@@ -141,7 +157,7 @@ module _ (b : Board) (x : List ℕ) (found : Placement) (e : found ≡ placement
   found-placed = ap (λ (p : Placement). p .placed) e ∙ placed-flag (placeable (b .system) (enginesOf b) x) _ _ refl refl
 
   module _ (table : List ℕ) (r : Turn) (after : List ℕ) (f : after ≡ filled (b .system) (enginesOf b) table) where
-    pub reseated-placed : found .placed ≡ true → r .answer ≡ Accepted → r .board ≡ record { system = b .system; loads = found .loads } → Does (reseated b x table) r after
+    pub reseated-placed : found .placed ≡ true → r .answer ≡ Accepted → r .board ≡ record { system = b .system; loads = found .loads; marks = b .marks } → Does (reseated b x table) r after
     unfolding reseated placement
     reseated-placed h a s =
         let can : placeable (b .system) (enginesOf b) x ≡ true = sym found-placed ∙ h in
@@ -149,7 +165,7 @@ module _ (b : Board) (x : List ℕ) (found : Placement) (e : found ≡ placement
         rw can
         (record {
           answer = ap outcomeOf a;
-          board = s ∙ ap (λ (ls : List EngineLoad). record { system = b .system; loads = ls }) same;
+          board = s ∙ ap (λ (ls : List EngineLoad). record { system = b .system; loads = ls; marks = b .marks }) same;
           table = f;
         })
 

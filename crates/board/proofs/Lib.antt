@@ -2,6 +2,7 @@
 pub mod Places
 pub mod Plain
 pub mod Truth
+pub mod Served
 pub mod TrueMeans
 pub mod Demand1
 pub mod Views
@@ -12,3 +13,4 @@ pub mod Steps
 pub mod Ready
 pub mod Exits
 pub mod Promises
+pub mod Before

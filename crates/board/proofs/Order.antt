@@ -1,16 +1,16 @@
--- The calls refuse in document 01's order: a check's number is said exactly where its row says so, since no later check and no work says it.
-use Prim.Native.Nat.{ℕ, _+_, _-_, _*_, _≤_, _<_}
-use mathlib.Core.Path.{_≡_, refl, ap}
+-- The calls refuse in the order of document 01 and of request 2026-07: a check's number is said exactly where its row says so, since no later check and no work says it.
+use Prim.Native.Nat.{ℕ, zero, suc, _+_, _-_, _*_, _≤_, _<_}
+use mathlib.Core.Path.{_≡_, refl, sym, ap, subst, _∙_}
 use mathlib.Core.List.{List, []}
-use mathlib.Core.Bool.{Bool, true, false, not, cond, false≢true}
+use mathlib.Core.Bool.{Bool, true, false, not, cond, true≢false, false≢true}
 use mathlib.Core.Logic.{_↔_}
 use native.Mathlib.Omega.{arith}
-use borrow.Author.Tests.{leb-true, leb-false, le-leb, ltb-true, lt-ltb, eqb-false, not-true}
+use borrow.Author.Tests.{leb-true, leb-false, le-leb, ltb-true, lt-ltb, eqb-true, eqb-false, eq-eqb, not-true}
 use lib.ListN.{length, getD}
 use lib.Dec.{leb, eqb}
 use Rattle.system.specs.Values.{ceilingsOf}
 use Rattle.system.specs.Outcome.{Outcome, Source, accepted, refused, fromInput, fromState, Checked, passes, fails, check, andThen}
-use Rattle.loads.specs.Load.{oneLess}
+use Rattle.loads.specs.Load.{holdsNone, oneLess}
 use Rattle.loads.proofs.Order.{and-parts, and-both}
 use Rattle.partition.specs.ForSystem.{placeable}
 use Rattle.partition.specs.Plain.{columnsOut, LongEnough}
@@ -19,13 +19,14 @@ use Rattle.table.specs.Table.{longEnough}
 use Rattle.board.specs.declared.Board.{Board}
 use Rattle.board.specs.declared.Place.{Place}
 use Rattle.board.specs.declared.Place.the-variants.{Engine, Nowhere}
-use Rattle.board.specs.Boards.{enginesOf, withLoad, loadAt, standing}
+use Rattle.board.specs.Boards.{enginesOf, withLoad, withMark, marked, loadAt, standing}
 use Rattle.board.specs.Truth.{trueBoard}
-use Rattle.board.specs.Calls.{Result, result, checked, knownType, knownEngine, underCeiling, heldAt, withNewcomer, firstEngine, checkNewcomer, checkRetire, checkRepack, admitted, admitOf, reseated, seatOf, retireOf, repackOf}
-use Rattle.board.specs.Words.{IsType, IsEngine, HoldsType, BelowCeiling, IsTrue}
-use Rattle.board.specs.Meaning.{NewcomerInOrder, RetireInOrder, RepackInOrder}
-use Rattle.board.proofs.Plain.{record-same}
-use Rattle.board.proofs.TrueMeans.{stands-said, true-means}
+use Rattle.board.specs.Calls.{Result, result, checked, knownType, knownEngine, underCeiling, heldAt, movable, withNewcomer, firstEngine, checkNewcomer, checkRetire, checkRepack, checkRestore, checkWithdraw, admitted, admitOf, reseated, seatOf, retireOf, repackOf, withdrawOf, restoreOf}
+use Rattle.board.specs.Words.{countAt, sumSix, IsType, IsEngine, markNo, HoldsType, BelowCeiling, IsTrue}
+use Rattle.board.specs.Meaning.{NewcomerInOrder, RetireInOrder, RepackInOrder, WithdrawInOrder, RestoreInOrder}
+use Rattle.board.proofs.Plain.{record-same, sumSix-same, none-six}
+use Rattle.board.proofs.TrueMeans.{stands-said, six-load, true-means}
+use Rattle.board.proofs.Demand1.{unsearched}
 use Rattle.board.proofs.Means.{long-out}
 
 -- intermediate: numbers that are not said
@@ -50,9 +51,9 @@ unfolding avoids
 avoids-then n passes later h k = k
 avoids-then n (fails s m) later h k = h
 
--- the work of a call says a number from 23 on, if any
+-- the work of a call says 23 or 24, if any number
 abbrev Late : Result → Type 0
-Late work = (n : ℕ) → 1 ≤ n → n < 23 → number (work .outcome) ≡ n → ⊥
+Late work = (n : ℕ) → 1 ≤ n → unsearched n ≡ true → number (work .outcome) ≡ n → ⊥
 
 unsaid : (n : ℕ) (c : Checked) (b : Board) (table : List ℕ) (work : Result) → avoids n c ≡ true → (number (work .outcome) ≡ n → ⊥) → number (checked c b table work .outcome) ≡ n → ⊥
 unfolding avoids number
@@ -61,7 +62,7 @@ unsaid n (fails s m) b table work h k = eqb-false m n (not-true (eqb m n) h)
 
 -- main: a check's number is said exactly where what it tests does not hold
 
-module _ (s : Source) (n : ℕ) (low : 1 ≤ n) (high : n < 23) (b : Board) (table : List ℕ) (work : Result) (late : Late work) {P : Type 0} where
+module _ (s : Source) (n : ℕ) (low : 1 ≤ n) (high : unsearched n ≡ true) (b : Board) (table : List ℕ) (work : Result) (late : Late work) {P : Type 0} where
   said-exactly : (met : Bool) (later : Checked) → (met ≡ true → P) → (P → met ≡ true) → avoids n later ≡ true
       → (checked (andThen (check met s n) later) b table work .outcome ≡ refused s n) ↔ (P → ⊥)
   unfolding number
@@ -102,6 +103,26 @@ module _ (b : Board) where
   held-met : (t e : ℕ) → HoldsType b t e → heldAt b t e ≡ true
   held-met t e h = le-leb 1 (getD (loadAt b e) (t - 1) 0) (omega (arith, h .some, record-same (b .loads) (e - 1) .counts t))
 
+  -- the mark of an engine
+  in-service : (e : ℕ) → movable b e true ≡ true → markNo b e ≡ false
+  in-service e h = not-true (marked b e) h
+
+  service-met : (e : ℕ) → markNo b e ≡ false → movable b e true ≡ true
+  service-met e h = rw h
+
+  -- an engine without an instance
+  module _ (w : IsTrue b) (e : ℕ) where
+    same-counts : eqb (sumSix (countAt b e)) 0 ≡ holdsNone (loadAt b e)
+    same-counts =
+        ap (λ (n : ℕ). eqb n 0) (sumSix-same (countAt b e) (λ (t : ℕ). getD (loadAt b e) (t - 1) 0) (λ t low. record-same (b .loads) (e - 1) .counts t))
+        ∙ none-six (loadAt b e) (six-load b w e)
+
+    is-empty : holdsNone (loadAt b e) ≡ true → sumSix (countAt b e) ≡ 0
+    is-empty h = eqb-true (sumSix (countAt b e)) 0 (same-counts ∙ h)
+
+    empty-met : sumSix (countAt b e) ≡ 0 → holdsNone (loadAt b e) ≡ true
+    empty-met h = sym same-counts ∙ eq-eqb (sumSix (countAt b e)) 0 h
+
   module _ (w : IsTrue b) where
     true-met : trueBoard b ≡ true
     true-met = true-means b .tests .1 w
@@ -124,13 +145,13 @@ module _ (b : Board) (t : ℕ) (table : List ℕ) (work : Result) (late : Late w
   newcomer-in-order : NewcomerInOrder b t table (checked (checkNewcomer b t (length table)) b table work .outcome)
   unfolding checkNewcomer
   newcomer-in-order = record {
-    boardFirst = said-exactly fromState 20 (omega arith) (omega arith) b table work late (trueBoard b) _ (true-means b .tests .0) (true-means b .tests .1)
+    boardFirst = said-exactly fromState 20 (omega arith) refl b table work late (trueBoard b) _ (true-means b .tests .0) (true-means b .tests .1)
         (avoids-then 20 _ _ (avoids-check 20 (knownType (b .system) t) fromInput 13 refl) (avoids-then 20 _ _ (avoids-check 20 (longEnough (b .system) table) fromInput 11 refl) (avoids-check 20 (underCeiling b t) fromState 21 refl)));
-    thenType = λ w. rw (true-met b w) (said-exactly fromInput 13 (omega arith) (omega arith) b table work late (knownType (b .system) t) _ (is-type b t) (type-met b t)
+    thenType = λ w. rw (true-met b w) (said-exactly fromInput 13 (omega arith) refl b table work late (knownType (b .system) t) _ (is-type b t) (type-met b t)
         (avoids-then 13 _ _ (avoids-check 13 (longEnough (b .system) table) fromInput 11 refl) (avoids-check 13 (underCeiling b t) fromState 21 refl)));
-    thenTable = λ w k. not-below ((b .system .engines + 1) * columnsOut (b .system)) (length table) (rw (true-met b w, type-met b t k) (said-exactly fromInput 11 (omega arith) (omega arith) b table work late (longEnough (b .system) table) _ (is-long b w table) (long-met b w table)
+    thenTable = λ w k. not-below ((b .system .engines + 1) * columnsOut (b .system)) (length table) (rw (true-met b w, type-met b t k) (said-exactly fromInput 11 (omega arith) refl b table work late (longEnough (b .system) table) _ (is-long b w table) (long-met b w table)
         (avoids-check 11 (underCeiling b t) fromState 21 refl)));
-    thenCeiling = λ w k long. rw (true-met b w, type-met b t k, long-met b w table long) (said-last fromState 21 (omega arith) (omega arith) b table work late (underCeiling b t) (is-below b w t k) (below-met b w t));
+    thenCeiling = λ w k long. rw (true-met b w, type-met b t k, long-met b w table long) (said-last fromState 21 (omega arith) refl b table work late (underCeiling b t) (is-below b w t k) (below-met b w t));
   }
 
 -- what the work says is accepted, 23 or 24
@@ -141,8 +162,8 @@ admitted-late b t table (Engine e) n low high h = omega arith
 admitted-late b t table Nowhere n low high h = by-case (placeable (b .system) (enginesOf b) (withNewcomer b t)) h
   where
     by-case : (q : Bool) → cond q 23 24 ≡ n → ⊥
-    by-case true s = omega arith
-    by-case false s = omega arith
+    by-case true s = false≢true (subst (λ (k : ℕ). unsearched k ≡ true) (sym s) high)
+    by-case false s = false≢true (subst (λ (k : ℕ). unsearched k ≡ true) (sym s) high)
 
 reseated-late : (b : Board) (x table : List ℕ) → Late (reseated b x table)
 unfolding reseated number
@@ -150,7 +171,7 @@ reseated-late b x table n low high h = by-case (placeable (b .system) (enginesOf
   where
     by-case : (q : Bool) (after : Board) (left : List ℕ) (kept : Board) (full : List ℕ) → number (cond q (result (accepted []) after left) (result (refused fromState 24) kept full) .outcome) ≡ n → ⊥
     by-case true after left kept full s = omega arith
-    by-case false after left kept full s = omega arith
+    by-case false after left kept full s = false≢true (subst (λ (k : ℕ). unsearched k ≡ true) (sym s) high)
 
 pub admit-in-order : (b : Board) (t : ℕ) (table : List ℕ) → NewcomerInOrder b t table (admitOf b t table .outcome)
 unfolding admitOf
@@ -166,13 +187,13 @@ module _ (b : Board) (t e : ℕ) (table : List ℕ) (work : Result) (late : Late
   leaver-in-order : RetireInOrder b t e (checked (checkRetire b t e) b table work .outcome)
   unfolding checkRetire
   leaver-in-order = record {
-    boardFirst = said-exactly fromState 20 (omega arith) (omega arith) b table work late (trueBoard b) _ (true-means b .tests .0) (true-means b .tests .1)
+    boardFirst = said-exactly fromState 20 (omega arith) refl b table work late (trueBoard b) _ (true-means b .tests .0) (true-means b .tests .1)
         (avoids-then 20 _ _ (avoids-check 20 (knownType (b .system) t) fromInput 13 refl) (avoids-then 20 _ _ (avoids-check 20 (knownEngine (b .system) e) fromInput 14 refl) (avoids-check 20 (heldAt b t e) fromState 22 refl)));
-    thenType = λ w. rw (true-met b w) (said-exactly fromInput 13 (omega arith) (omega arith) b table work late (knownType (b .system) t) _ (is-type b t) (type-met b t)
+    thenType = λ w. rw (true-met b w) (said-exactly fromInput 13 (omega arith) refl b table work late (knownType (b .system) t) _ (is-type b t) (type-met b t)
         (avoids-then 13 _ _ (avoids-check 13 (knownEngine (b .system) e) fromInput 14 refl) (avoids-check 13 (heldAt b t e) fromState 22 refl)));
-    thenEngine = λ w k. rw (true-met b w, type-met b t k) (said-exactly fromInput 14 (omega arith) (omega arith) b table work late (knownEngine (b .system) e) _ (is-engine b e) (engine-met b e)
+    thenEngine = λ w k. rw (true-met b w, type-met b t k) (said-exactly fromInput 14 (omega arith) refl b table work late (knownEngine (b .system) e) _ (is-engine b e) (engine-met b e)
         (avoids-check 14 (heldAt b t e) fromState 22 refl));
-    thenHeld = λ w k d. rw (true-met b w, type-met b t k, engine-met b e d) (said-last fromState 22 (omega arith) (omega arith) b table work late (heldAt b t e) (is-held b t e k d) (held-met b t e));
+    thenHeld = λ w k d. rw (true-met b w, type-met b t k, engine-met b e d) (said-last fromState 22 (omega arith) refl b table work late (heldAt b t e) (is-held b t e k d) (held-met b t e));
   }
 
 pub retire-in-order : (b : Board) (t e : ℕ) (table : List ℕ) → RetireInOrder b t e (retireOf b t e table .outcome)
@@ -184,7 +205,56 @@ retire-in-order b t e table = leaver-in-order b t e table (result (accepted []) 
 pub repack-in-order : (b : Board) (table : List ℕ) → RepackInOrder b table (repackOf b table .outcome)
 unfolding repackOf checkRepack
 repack-in-order b table = record {
-  boardFirst = said-exactly fromState 20 (omega arith) (omega arith) b table _ (reseated-late b (standing b) table) (trueBoard b) _ (true-means b .tests .0) (true-means b .tests .1)
+  boardFirst = said-exactly fromState 20 (omega arith) refl b table _ (reseated-late b (standing b) table) (trueBoard b) _ (true-means b .tests .0) (true-means b .tests .1)
       (avoids-check 20 (longEnough (b .system) table) fromInput 11 refl);
-  thenTable = λ w. not-below ((b .system .engines + 1) * columnsOut (b .system)) (length table) (rw (true-met b w) (said-last fromInput 11 (omega arith) (omega arith) b table _ (reseated-late b (standing b) table) (longEnough (b .system) table) (is-long b w table) (long-met b w table)));
+  thenTable = λ w. not-below ((b .system .engines + 1) * columnsOut (b .system)) (length table) (rw (true-met b w) (said-last fromInput 11 (omega arith) refl b table _ (reseated-late b (standing b) table) (longEnough (b .system) table) (is-long b w table) (long-met b w table)));
 }
+
+-- main: withdraw and restore
+
+-- what is not so, said the other way
+is-set : {A : Type 0} (q : Bool) → A ↔ (q ≡ false → ⊥) → A ↔ (q ≡ true)
+is-set true e = ((λ a. refl), (λ h. e .1 true≢false))
+is-set false e = ((λ a. absurd (e .0 a refl)), (λ h. absurd (false≢true h)))
+
+is-clear : {A : Type 0} (q : Bool) → A ↔ (q ≡ true → ⊥) → A ↔ (q ≡ false)
+is-clear true e = ((λ a. absurd (e .0 a refl)), (λ h. absurd (true≢false h)))
+is-clear false e = ((λ a. refl), (λ h. e .1 false≢true))
+
+is-some : {A : Type 0} (n : ℕ) → A ↔ (n ≡ 0 → ⊥) → A ↔ (1 ≤ n)
+is-some zero e = ((λ a. absurd (e .0 a refl)), (λ h. absurd (omega arith)))
+is-some (suc n) e = ((λ a. omega arith), (λ h. e .1 (λ z. omega arith)))
+
+pub withdraw-in-order : (b : Board) (e : ℕ) (table : List ℕ) → WithdrawInOrder b e (withdrawOf b e table .outcome)
+unfolding withdrawOf checkWithdraw number
+withdraw-in-order b e table = record {
+  boardFirst = said-exactly fromState 20 (omega arith) refl b table work late (trueBoard b) _ (true-means b .tests .0) (true-means b .tests .1)
+      (avoids-then 20 _ _ (avoids-check 20 (knownEngine (b .system) e) fromInput 14 refl) (avoids-then 20 _ _ (avoids-check 20 (movable b e true) fromState 36 refl) (avoids-check 20 (holdsNone (loadAt b e)) fromState 35 refl)));
+  thenEngine = λ w. rw (true-met b w) (said-exactly fromInput 14 (omega arith) refl b table work late (knownEngine (b .system) e) _ (is-engine b e) (engine-met b e)
+      (avoids-then 14 _ _ (avoids-check 14 (movable b e true) fromState 36 refl) (avoids-check 14 (holdsNone (loadAt b e)) fromState 35 refl)));
+  thenState = λ w d. is-set (markNo b e) (rw (true-met b w, engine-met b e d) (said-exactly fromState 36 (omega arith) refl b table work late (movable b e true) _ (in-service b e) (service-met b e)
+      (avoids-check 36 (holdsNone (loadAt b e)) fromState 35 refl)));
+  thenEmpty = λ w d m. is-some (sumSix (countAt b e)) (rw (true-met b w, engine-met b e d, service-met b e m) (said-last fromState 35 (omega arith) refl b table work late (holdsNone (loadAt b e)) (is-empty b w e) (empty-met b w e)));
+}
+  where
+    work : Result
+    work = result (accepted []) (withMark b e true) table
+
+    late : Late work
+    late n low high h = omega arith
+
+pub restore-in-order : (b : Board) (e : ℕ) (table : List ℕ) → RestoreInOrder b e (restoreOf b e table .outcome)
+unfolding restoreOf checkRestore number
+restore-in-order b e table = record {
+  boardFirst = said-exactly fromState 20 (omega arith) refl b table work late (trueBoard b) _ (true-means b .tests .0) (true-means b .tests .1)
+      (avoids-then 20 _ _ (avoids-check 20 (knownEngine (b .system) e) fromInput 14 refl) (avoids-check 20 (movable b e false) fromState 36 refl));
+  thenEngine = λ w. rw (true-met b w) (said-exactly fromInput 14 (omega arith) refl b table work late (knownEngine (b .system) e) _ (is-engine b e) (engine-met b e)
+      (avoids-check 14 (movable b e false) fromState 36 refl));
+  thenState = λ w d. is-clear (markNo b e) (rw (true-met b w, engine-met b e d) (said-last fromState 36 (omega arith) refl b table work late (movable b e false) (λ h. h) (λ h. h)));
+}
+  where
+    work : Result
+    work = result (accepted []) (withMark b e false) table
+
+    late : Late work
+    late n low high h = omega arith

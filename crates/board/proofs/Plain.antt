@@ -1,10 +1,9 @@
--- The plain words of a board mean what the code's words say: the sums over six types, fit, counts and totals, the engines that are used, and a row of the recovery on its engine.
-use Prim.Native.Nat.{ℕ, zero, suc, _+_, _-_, _*_, _≤_, _<_}
+-- The plain words of a board mean what the code's words say: the sums over six types, fit, counts and totals, and the engines that are used.
+use Prim.Native.Nat.{ℕ, zero, suc, _+_, _-_, _*_, _≤_}
 use mathlib.Core.Path.{_≡_, refl, sym, ap, ap₂, subst, _∙_}
 use mathlib.Core.List.{List, [], _∷_, map}
 use mathlib.Core.Bool.{Bool, true, false, cond, _&&_}
-use mathlib.Core.Logic.{⊎-elim}
-use native.Mathlib.Nat.{add-zero, zero-add, suc-add, eq-or-lt-of-le}
+use native.Mathlib.Nat.{add-zero, zero-add, suc-add}
 use native.Mathlib.Omega.{arith}
 use borrow.Author.Tests.{eqb-true, eqb-false, eq-eqb, ne-eqb}
 use lib.ListN.{length, getD}
@@ -18,8 +17,8 @@ use Rattle.loads.specs.declared.EngineLoad.{EngineLoad}
 use Rattle.loads.specs.Load.{sumOver, timeAt, timeOf, memoryAt, memoryOf, apart, fitsEngine, holdsNone, engineWith, idleEngine, oneMore, oneLess}
 use Rattle.loads.proofs.Laws.{own-all, apart-entries, fits-of, fits-time, fits-memory, fits-apart}
 use Rattle.loads.proofs.Change.{getD-plus, getD-oneMore, getD-oneLess}
-use Rattle.partition.specs.Assignment.{every, numbersFrom, enginesTo}
-use Rattle.partition.specs.Shares.{sumOf, usedLoads, rowOn}
+use Rattle.partition.specs.Assignment.{every}
+use Rattle.partition.specs.Shares.{sumOf, usedLoads}
 use Rattle.partition.specs.Plain.{typeNo}
 use Rattle.partition.proofs.Lists.{every-parts, getD-padded}
 use Rattle.partition.proofs.Cells.{length-sumOf}
@@ -50,7 +49,7 @@ unfolding sumOver
 sums-out each y x ls lx =
     ap₂ (sumOver each) (six-parts (y .types) noTask ls) (six-parts x 0 lx) ∙ rw (add-zero (each (typeNo y 6) (getD x 5 0)))
 
-sumSix-same : (f g : ℕ → ℕ) → ((t : ℕ) → 1 ≤ t → f t ≡ g t) → sumSix f ≡ sumSix g
+pub sumSix-same : (f g : ℕ → ℕ) → ((t : ℕ) → 1 ≤ t → f t ≡ g t) → sumSix f ≡ sumSix g
 sumSix-same f g h =
     omega (arith, h 1 (omega arith), h 2 (omega arith), h 3 (omega arith), h 4 (omega arith), h 5 (omega arith), h 6 (omega arith))
 
@@ -148,7 +147,7 @@ and-end : (b : Bool) → b ≡ (b && true)
 and-end true = refl
 and-end false = refl
 
-none-six : (x : List ℕ) → length x ≡ 6 → eqb (sumSix (λ (t : ℕ). getD x (t - 1) 0)) 0 ≡ holdsNone x
+pub none-six : (x : List ℕ) → length x ≡ 6 → eqb (sumSix (λ (t : ℕ). getD x (t - 1) 0)) 0 ≡ holdsNone x
 unfolding holdsNone
 none-six x l =
     let g : ℕ → ℕ = λ (i : ℕ). getD x i 0 in
@@ -181,23 +180,3 @@ module _ (t : ℕ) (low : 1 ≤ t) (x : List ℕ) where
 
   pub less-out : 1 ≤ getD x (t - 1) 0 → (u : ℕ) → 1 ≤ u → getD x (u - 1) 0 ≡ getD (oneLess (t - 1) x) (u - 1) 0 + cond (eqb u t) 1 0
   less-out some u k = sym (getD-oneLess (t - 1) (u - 1) x some) ∙ ap (λ (q : Bool). getD (oneLess (t - 1) x) (u - 1) 0 + cond q 1 0) (same-number t u low k)
-
--- main: a row on its engine
-
-row-from : {A : Type 0} (none : A) (a n : ℕ) (rows : List A) (e : ℕ) → a ≤ e → e < a + n → rowOn none (numbersFrom a n) rows e ≡ getD rows (e - a) none
-unfolding rowOn numbersFrom
-row-from none a zero rows e low high = absurd (omega arith)
-row-from none a (suc n) [] e low high = refl
-row-from {A = A} none a (suc n) (x ∷ rows) e low high = ⊎-elim here (λ q. later q (row-from none (suc a) n rows e q (omega arith))) (eq-or-lt-of-le low)
-  where
-    here : a ≡ e → cond (eqb a e) x (rowOn none (numbersFrom (suc a) n) rows e) ≡ getD (x ∷ rows) (e - a) none
-    here q = let z : e - a ≡ 0 = omega arith in rw (eq-eqb a e q, z)
-
-    later : a < e → rowOn none (numbersFrom (suc a) n) rows e ≡ getD rows (e - suc a) none → cond (eqb a e) x (rowOn none (numbersFrom (suc a) n) rows e) ≡ getD (x ∷ rows) (e - a) none
-    later q rest =
-        let z : e - a ≡ suc (e - suc a) = omega arith in
-        rw (ne-eqb a e (λ s. absurd (omega arith)), z) rest
-
--- on the engines 1 to m, engine e has the e-th row
-pub row-out : {A : Type 0} (none : A) (m : ℕ) (rows : List A) (e : ℕ) → 1 ≤ e → e ≤ m → rowOn none (enginesTo m) rows e ≡ getD rows (e - 1) none
-row-out none m rows e low high = row-from none 1 m rows e low (omega arith)

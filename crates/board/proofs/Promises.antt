@@ -11,12 +11,12 @@ use Rattle.board.specs.declared.Board.{Board}
 use Rattle.board.specs.declared.Turn.{Turn}
 use Rattle.board.specs.Boards.{emptyBoard, openedBoard}
 use Rattle.board.specs.Words.{IsTrue, IsFresh}
-use Rattle.board.specs.Calls.{admitOf, seatOf, retireOf, repackOf, gave, Does}
-use Rattle.board.specs.Meaning.{OpenMeans, AdmitPromises, SeatPromises, RetirePromises, RepackPromises}
-use Rattle.board.proofs.Demand1.{admit-demand1, seat-demand1, retire-demand1, repack-demand1}
+use Rattle.board.specs.Calls.{admitOf, seatOf, retireOf, repackOf, withdrawOf, restoreOf, gave, Does}
+use Rattle.board.specs.Meaning.{OpenMeans, AdmitPromises, SeatPromises, RetirePromises, RepackPromises, WithdrawPromises, RestorePromises}
+use Rattle.board.proofs.Demand1.{admit-demand1, seat-demand1, retire-demand1, repack-demand1, withdraw-demand1, restore-demand1}
 use Rattle.board.proofs.TrueMeans.{fresh-is, fresh-true}
-use Rattle.board.proofs.Means.{admit-means, seat-means, retire-means, repack-means}
-use Rattle.board.proofs.Order.{admit-in-order, seat-in-order, retire-in-order, repack-in-order}
+use Rattle.board.proofs.Means.{admit-means, seat-means, retire-means, repack-means, withdraw-means, restore-means}
+use Rattle.board.proofs.Order.{admit-in-order, seat-in-order, retire-in-order, repack-in-order, withdraw-in-order, restore-in-order}
 use Rattle.board.proofs.Exits.{of-given}
 
 -- opening
@@ -45,6 +45,12 @@ retire-holds b t e = record { demand1 = retire-demand1 b t e []; order = retire-
 repack-holds : (b : Board) (table : List ℕ) → RepackPromises b table (repackOf b table)
 repack-holds b table = record { demand1 = repack-demand1 b table; order = repack-in-order b table; means = λ w long. repack-means b w table long }
 
+withdraw-holds : (b : Board) (e : ℕ) → WithdrawPromises b e (withdrawOf b e [])
+withdraw-holds b e = record { demand1 = withdraw-demand1 b e []; order = withdraw-in-order b e []; means = λ w. withdraw-means b w e [] }
+
+restore-holds : (b : Board) (e : ℕ) → RestorePromises b e (restoreOf b e [])
+restore-holds b e = record { demand1 = restore-demand1 b e []; order = restore-in-order b e []; means = λ w. restore-means b w e [] }
+
 -- main: of what they gave
 
 module _ (b : Board) (t : ℕ) (table : List ℕ) (r : Turn) (after : List ℕ) where
@@ -59,3 +65,9 @@ retire-promises b t e r d = (d, of-given (RetirePromises b t e) (retireOf b t e 
 
 pub repack-promises : (b : Board) (table : List ℕ) (r : Turn) (after : List ℕ) → Does (repackOf b table) r after → Does (repackOf b table) r after × RepackPromises b table (gave r after)
 repack-promises b table r after d = (d, of-given (RepackPromises b table) (repackOf b table) r after d (repack-holds b table))
+
+pub withdraw-promises : (b : Board) (e : ℕ) (r : Turn) → Does (withdrawOf b e []) r [] → Does (withdrawOf b e []) r [] × WithdrawPromises b e (gave r [])
+withdraw-promises b e r d = (d, of-given (WithdrawPromises b e) (withdrawOf b e []) r [] d (withdraw-holds b e))
+
+pub restore-promises : (b : Board) (e : ℕ) (r : Turn) → Does (restoreOf b e []) r [] → Does (restoreOf b e []) r [] × RestorePromises b e (gave r [])
+restore-promises b e r d = (d, of-given (RestorePromises b e) (restoreOf b e []) r [] d (restore-holds b e))

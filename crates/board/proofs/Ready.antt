@@ -89,7 +89,7 @@ module _ (b : Board) (h : trueBoard b ≡ true) where
     inside = omega (arith, engine-range .0, engine-range .1, truth-of b h .valid .rows)
 
     load-row : loadAt b e ≡ getD rows (e - 1) (lib.ListN.replicate typeLimit 0)
-    load-row = ap (λ (d : Board). loadAt d e) (truth-of b h .same) ∙ loadAt-on (b .system) rows e
+    load-row = ap (λ (d : Board). loadAt d e) (truth-of b h .same) ∙ loadAt-on (b .system) (truth-of b h .marks) rows e
 
     pub load-small : (j : ℕ) → getD (loadAt b e) j 0 ≤ getD (standing b) j 0
     load-small j =

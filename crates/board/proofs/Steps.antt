@@ -1,13 +1,14 @@
 -- A loop over the types or over the engines: what is left of a definition after those before i, by the next one, and nothing at the end.
 use Prim.Native.Nat.{ℕ, zero, suc, _+_, _-_, _≤_, _<_}
-use mathlib.Core.Path.{_≡_, refl, ap, _∙_}
-use mathlib.Core.List.{List, [], _∷_}
-use mathlib.Core.Bool.{Bool, true, false, _&&_, and-assoc}
+use mathlib.Core.Path.{_≡_, refl, sym, ap, _∙_}
+use mathlib.Core.List.{List, [], _∷_, _++_, append-nil}
+use mathlib.Core.Bool.{Bool, true, false, cond, not, _&&_, and-assoc}
+use native.Mathlib.Nat.{le-refl}
 use native.Mathlib.Numerals.{add-one}
 use native.Mathlib.Omega.{arith}
 use borrow.Author.Tests.{lt-ltb, le-ltb}
-use lib.ListN.{length, getD, set, drop, replicate, drop-of-length-le}
-use lib.Seq.{drop-cons}
+use lib.ListN.{length, getD, set, take, drop, replicate, length-set, drop-of-length-le}
+use lib.Seq.{take-suc, take-set-le, getD-set-same, drop-cons}
 use lib.Dec.{leb}
 use Rattle.system.specs.declared.TaskType.{TaskType}
 use Rattle.system.specs.declared.System.{System}
@@ -15,7 +16,9 @@ use Rattle.system.specs.Values.{noTask}
 use Rattle.loads.specs.declared.EngineLoad.{EngineLoad}
 use Rattle.loads.specs.Load.{plus, within, emptyLoad}
 use Rattle.loads.proofs.Steps.{ceilings}
+use Rattle.partition.specs.Assignment.{every, passing, numbersFrom, enginesTo}
 use Rattle.partition.specs.Shares.{sumOf}
+use Rattle.partition.proofs.Lists.{enginesTo-last, passing-++}
 use Rattle.board.specs.declared.Place.the-variants.{Engine, Nowhere}
 use Rattle.board.specs.Boards.{standingOf}
 use Rattle.board.specs.Truth.{trueEngine, zeroEngine, trueLoads, engineTrue}
@@ -102,3 +105,46 @@ module _ (p : ℕ → Bool) (es : List ℕ) (i : ℕ) (h : i < length es) where
 pub first-end : (p : ℕ → Bool) (es : List ℕ) (i : ℕ) → length es ≤ i → firstOf p (drop i es) ≡ Nowhere
 unfolding firstOf
 first-end p es i h = rw (drop-of-length-le es {i = i})
+
+-- the engines in service, of 1 to i
+
+abbrev pub free : List Bool → ℕ → Bool
+free marks e = not (getD marks (e - 1) false)
+
+module _ (marks : List Bool) (i : ℕ) where
+  last-free : passing (free marks) (enginesTo (i + 1)) ≡ passing (free marks) (enginesTo i) ++ cond (getD marks i false) [] ((i + 1) ∷ [])
+  unfolding passing
+  last-free =
+      ap (λ (m : ℕ). passing (free marks) (enginesTo m)) (add-one i)
+      ∙ ap (passing (free marks)) (enginesTo-last i)
+      ∙ passing-++ (free marks) (enginesTo i) (suc i ∷ [])
+      ∙ ap (λ (l : List ℕ). passing (free marks) (enginesTo i) ++ l) (ap (λ (j : ℕ). cond (not (getD marks j false)) (suc i ∷ []) []) back ∙ ap (λ (e : ℕ). cond (not (getD marks i false)) (e ∷ []) []) (sym (add-one i)) ∙ go (getD marks i false))
+    where
+      back : suc i - 1 ≡ i
+      back = omega arith
+
+      go : (q : Bool) → cond (not q) ((i + 1) ∷ []) [] ≡ cond q [] ((i + 1) ∷ [])
+      go true = refl
+      go false = refl
+
+  pub engines-skip : getD marks i false ≡ true → passing (free marks) (enginesTo (i + 1)) ≡ passing (free marks) (enginesTo i)
+  engines-skip q = last-free ∙ rw q (append-nil (passing (free marks) (enginesTo i)))
+
+  pub engines-turn : (numbers : List ℕ) (count : ℕ) → getD marks i false ≡ false → count < length numbers → take count numbers ≡ passing (free marks) (enginesTo i)
+      → take (count + 1) (set numbers count (i + 1)) ≡ passing (free marks) (enginesTo (i + 1))
+  engines-turn numbers count q h e =
+      ap (λ (n : ℕ). take n (set numbers count (i + 1))) (add-one count)
+      ∙ take-suc (set numbers count (i + 1)) count 0 (rw (length-set numbers count (i + 1)) h)
+      ∙ rw (take-set-le count numbers count (i + 1) (le-refl count), getD-set-same numbers count (i + 1) 0 h, e) (sym (last-free ∙ rw q))
+
+-- the marks of the engines i + 1 to 16
+
+pub marks-turn : (p : ℕ → Bool) (i : ℕ) → i < 16 → every p (numbersFrom (i + 1) (16 - i)) ≡ (p (i + 1) && every p (numbersFrom (i + 1 + 1) (16 - (i + 1))))
+unfolding every numbersFrom
+marks-turn p i h =
+    let left : 16 - i ≡ suc (16 - (i + 1)) = omega arith in
+    ap (λ (n : ℕ). every p (numbersFrom (i + 1) n)) left ∙ ap (λ (a : ℕ). p (i + 1) && every p (numbersFrom a (16 - (i + 1)))) (sym (add-one (i + 1)))
+
+pub marks-end : (p : ℕ → Bool) (i : ℕ) → 16 ≤ i → every p (numbersFrom (i + 1) (16 - i)) ≡ true
+unfolding every numbersFrom
+marks-end p i h = let none : 16 - i ≡ 0 = omega arith in ap (λ (n : ℕ). every p (numbersFrom (i + 1) n)) none

@@ -1,12 +1,14 @@
--- The test of refusal 20 says what the row of 20 says, and a true board is a good assignment of what stands: both from the board of valid loads. A fresh board is one.
+-- The test of refusal 20 says what the row of 20 says, and a true board is a good assignment of what stands to the engines in service: both from the board of valid loads
+-- and marks. A fresh board is one.
 use Prim.Native.Nat.{ℕ, zero, suc, _+_, _-_, _≤_, _<_, zero-le}
 use mathlib.Core.Path.{_≡_, refl, sym, ap, subst, _∙_}
 use mathlib.Core.List.{List, [], _∷_, _++_, map}
-use mathlib.Core.Bool.{Bool, true, false}
+use mathlib.Core.Bool.{Bool, true, false, cond, _&&_}
+use mathlib.Core.Logic.{_⊎_, inl, inr}
 use native.Mathlib.Omega.{arith}
-use borrow.Author.Tests.{ltb-true, ltb-false, eqb-true, eqb-false, eq-eqb}
-use lib.Dec.{ltb, eqb}
-use lib.ListN.{length, getD, replicate, replicate-append-replicate, List·getD-eq-default}
+use borrow.Author.Tests.{leb-true, leb-false, ltb-true, ltb-false, eqb-true, eqb-false, eq-eqb}
+use lib.Dec.{leb, ltb, eqb}
+use lib.ListN.{length, getD, replicate, length-replicate, replicate-append-replicate, List·getD-eq-default}
 use Rattle.system.specs.declared.System.{System}
 use Rattle.system.specs.Values.{ceilingsOf}
 use Rattle.system.specs.Limits.{keepsLimits, engineLimit, typeLimit}
@@ -16,35 +18,35 @@ use Rattle.loads.specs.Load.{timeOf, memoryOf, holdsNone, emptyLoad, engineWith
 use Rattle.loads.proofs.Order.{and-both, length-plus}
 use Rattle.loads.proofs.Laws.{engineWith-idle}
 use Rattle.loads.proofs.Change.{getD-plus, within-getD, within-of}
-use Rattle.partition.specs.Assignment.{every}
+use Rattle.partition.specs.Assignment.{among, every, enginesTo}
 use Rattle.partition.specs.Shares.{sumOf}
-use Rattle.partition.specs.Plain.{recordNo, Stands}
-use Rattle.partition.proofs.Lists.{every-++, every-replicate, getD-inside, getD-padded, among-enginesTo}
+use Rattle.partition.specs.Plain.{EngineOf, recordNo, Stands}
+use Rattle.partition.proofs.Lists.{not-both, every-++, every-replicate, every-among, every-enginesTo, getD-inside, getD-padded, distinct-enginesTo, among-enginesTo}
 use Rattle.partition.proofs.Recovery.{sumOf-padded}
 use Rattle.partition.proofs.ForSystem.{length-ceilings}
-use Rattle.partition.proofs.Standing.{Valid, total, loadIn, length-total, length-loadIn, loadIn-fits, count-le-sum, valid-empty, valid-placed}
+use Rattle.partition.proofs.Standing.{Valid, total, loadIn, length-total, length-loadIn, loadIn-fits, count-le-sum, valid-empty, valid-placed, served-placed}
 use Rattle.partition.proofs.Plain.{ceiling-out, limits-out, stands-out}
 use Rattle.board.specs.declared.Board.{Board}
-use Rattle.board.specs.Boards.{emptyBoard, enginesOf, standingOf, standing}
-use Rattle.board.specs.Truth.{trueEngine, zeroEngine, trueLoads, trueBoard}
+use Rattle.board.specs.Boards.{emptyBoard, marked, enginesOf, loadAt, standingOf, standing}
+use Rattle.board.specs.Truth.{trueEngine, zeroEngine, trueLoads, markTrue, trueMarks, trueBoard}
 use Rattle.board.specs.Words.{countNo, countAt, memoryNo, totalNo, standsNo, IsEngine, EngineIn, SumsOut, FitsOut, HoldsNothing, IsTrue, IsFresh}
 use Rattle.board.specs.Meaning.{TrueMeans}
-use Rattle.board.proofs.Places.{engines-distinct, engines-known}
+use Rattle.board.proofs.Places.{engines-distinct, engines-known, engines-in}
 use Rattle.board.proofs.Plain.{time-same, own-same, shared-same, fits-same, time-out, own-out, shared-out, fits-out, out-fits, RecordSame, record-same, total-out}
-use Rattle.board.proofs.Truth.{padded, boardOn, engine-on, length-on, truth-of}
+use Rattle.board.proofs.Truth.{padded, paddedMarks, boardOn, Served, engine-on, marked-on, length-on, length-marks, truth-of}
 
 -- main: the board of valid loads in plain words
 
-module _ (y : System) (xs : List (List ℕ)) (keeps : keepsLimits y ≡ true) (v : Valid y xs) where
+module _ (y : System) (ms : List Bool) (xs : List (List ℕ)) (keeps : keepsLimits y ≡ true) (v : Valid y xs) (served : Served y ms xs) where
   abbrev b : Board
-  b = boardOn y xs
+  b = boardOn y ms xs
 
   limits : Limits y
   limits = limits-of y keeps
 
   -- the record of engine e
   record-on : (e : ℕ) → getD (b .loads) (e - 1) idleEngine ≡ engineWith y (loadIn xs (e - 1))
-  record-on e = engine-on y xs (e - 1)
+  record-on e = engine-on y ms xs (e - 1)
 
   length-row : (i : ℕ) → length (loadIn xs i) ≡ typeLimit
   length-row i = go (ltb i (length xs)) refl
@@ -83,11 +85,11 @@ module _ (y : System) (xs : List (List ℕ)) (keeps : keepsLimits y ≡ true) (v
         sharedCode = λ r. memory-on e ∙ shared-out y (limits .six) x lx r ∙ shared-same y (λ (t : ℕ). getD x (t - 1) 0) (countAt b e) back;
       }
 
-  -- nothing is past m
-  idle-on : (e : ℕ) → y .engines < e → HoldsNothing (recordNo (b .loads) e)
-  idle-on e h =
+  -- an engine whose row is empty holds nothing: one past m, and one that is marked
+  pub idle-on : (e : ℕ) → loadIn xs (e - 1) ≡ emptyLoad → HoldsNothing (recordNo (b .loads) e)
+  idle-on e none =
       let same = record-same (b .loads) (e - 1) in
-      let idle : getD (b .loads) (e - 1) idleEngine ≡ idleEngine = record-on e ∙ ap (engineWith y) (List·getD-eq-default xs emptyLoad (omega (arith, v .rows))) ∙ engineWith-idle y in
+      let idle : getD (b .loads) (e - 1) idleEngine ≡ idleEngine = record-on e ∙ ap (engineWith y) none ∙ engineWith-idle y in
       record {
         time = same .time ∙ ap (λ (l : EngineLoad). l .time) idle;
         memory = same .memory ∙ ap (λ (l : EngineLoad). l .memory) idle;
@@ -115,31 +117,52 @@ module _ (y : System) (xs : List (List ℕ)) (keeps : keepsLimits y ≡ true) (v
 
   pub true-on : IsTrue b
   true-on = record {
-    sixteen = length-on y xs keeps v;
+    sixteen = length-on y ms xs keeps v;
+    sixteenMarks = length-marks y ms keeps (served .count);
     six = λ e low high.
-        ap (λ (l : EngineLoad). length (l .counts)) (getD-inside (b .loads) (e - 1) (record { time = 0; memory = 0; counts = [] }) idleEngine (omega (arith, length-on y xs keeps v)) ∙ record-on e)
+        ap (λ (l : EngineLoad). length (l .counts)) (getD-inside (b .loads) (e - 1) (record { time = 0; memory = 0; counts = [] }) idleEngine (omega (arith, length-on y ms xs keeps v)) ∙ record-on e)
         ∙ length-row (e - 1);
     limits = limits-out y .0 keeps;
-    pastEngines = idle-on;
+    pastEngines = λ e h. idle-on e (List·getD-eq-default xs emptyLoad (omega (arith, v .rows)));
     pastTypes = past-on;
+    pastMarks = λ e h. marked-on y ms xs e ∙ List·getD-eq-default ms false (omega (arith, served .count));
     ceilings = λ t low. omega (arith, stands-on t, within-getD (total xs) (ceilingsOf y) (t - 1) (v .ceiling), ceiling-out y t);
     sums = λ e h. sums-on e;
     fit = λ e h.
         fits-same y (λ (t : ℕ). getD (loadIn xs (e - 1)) (t - 1) 0) (countAt b e) (λ t k. sym (count-out e t))
         (fits-out y (limits .six) (loadIn xs (e - 1)) (length-row (e - 1)) (loadIn-fits v (e - 1) (inside e h)));
+    withdrawn = λ e low q. idle-on e (served .idle (e - 1) (sym (marked-on y ms xs e) ∙ q));
   }
 
-  -- and it is a partition of what stands
+  -- outside the engines in service nothing stands
+  pub idle-outside : (i : ℕ) → i < y .engines → (among (enginesOf b) (suc i) ≡ true) ⊎ (loadIn xs i ≡ emptyLoad)
+  idle-outside i h = go (getD ms i false) refl
+    where
+      go : (q : Bool) → getD ms i false ≡ q → (among (enginesOf b) (suc i) ≡ true) ⊎ (loadIn xs i ≡ emptyLoad)
+      go true q = inr (served .idle i q)
+      go false q =
+          let back : suc i - 1 ≡ i = omega arith in
+          inl (engines-in b (suc i) .1 (record { isEngine = (omega arith, omega arith); inService = marked-on y ms xs (suc i) ∙ ap (λ (j : ℕ). getD ms j false) back ∙ q }))
+
+  -- and it is a partition of what stands: among the engines in service, and so among the engines 1 to m
   pub parted-on : Stands y (EngineIn b) (standsNo b) (b .loads)
   parted-on =
-      stands-out y (limits .rule) (enginesOf b) (engines-distinct b) (engines-known b) (EngineIn b) (among-enginesTo (y .engines)) (total xs) (length-total v) (standsNo b)
+      stands-out y (limits .rule) (enginesOf b) (engines-distinct b) (engines-known b) (EngineIn b) (engines-in b) (total xs) (length-total v) (standsNo b)
+      (λ t low. sym (stands-on t))
+      (b .loads)
+      (served-placed v (enginesOf b) (engines-known b) idle-outside (engineLimit - y .engines))
+
+  pub parted-whole : Stands y (EngineOf y) (standsNo b) (b .loads)
+  parted-whole =
+      stands-out y (limits .rule) (enginesTo (y .engines)) (distinct-enginesTo (y .engines)) (every-among (enginesTo (y .engines))) (EngineOf y) (among-enginesTo (y .engines)) (total xs) (length-total v)
+      (standsNo b)
       (λ t low. sym (stands-on t))
       (b .loads)
       (valid-placed v (engineLimit - y .engines))
 
 -- intermediate: the test from the row's words
 
-zeros-none : (x : List ℕ) → ((j : ℕ) → getD x j 0 ≡ 0) → holdsNone x ≡ true
+pub zeros-none : (x : List ℕ) → ((j : ℕ) → getD x j 0 ≡ 0) → holdsNone x ≡ true
 unfolding holdsNone
 zeros-none [] h = refl
 zeros-none (a ∷ x) h = and-both (eqb a 0) (holdsNone x) (eq-eqb a 0 (h 0)) (zeros-none x (λ j. h (suc j)))
@@ -230,10 +253,27 @@ module _ (b : Board) (w : IsTrue b) where
       (λ j. let back : suc j - 1 ≡ j = omega arith in subst (λ (k : ℕ). getD (standing b) k 0 ≤ getD (ceilingsOf (b .system)) k 0) back
       (omega (arith, standing-out (b .loads) (suc j) six-at, w .ceilings (suc j) (omega arith), ceiling-out (b .system) (suc j))))
 
+  mark-test : (e : ℕ) → 1 ≤ e → (q : Bool) → marked b e ≡ q → cond q (leb e (b .system .engines) && holdsNone (loadAt b e)) true ≡ true
+  mark-test e low false q = refl
+  mark-test e low true q =
+      and-both (leb e (b .system .engines)) (holdsNone (loadAt b e)) (known (leb e (b .system .engines)) refl)
+      (zeros-none (loadAt b e) (λ j. let back : suc j - 1 ≡ j = omega arith in
+      subst (λ (k : ℕ). getD (loadAt b e) k 0 ≡ 0) back (sym (record-same (b .loads) (e - 1) .counts (suc j)) ∙ w .withdrawn e low q .counts (suc j))))
+    where
+      known : (p : Bool) → leb e (b .system .engines) ≡ p → p ≡ true
+      known true h = refl
+      known false h = absurd (not-both q (w .pastMarks e (leb-false e (b .system .engines) h)))
+
+  marks-test : trueMarks b ≡ true
+  unfolding trueMarks
+  marks-test =
+      and-both (eqb (length (b .marks)) engineLimit) (every (markTrue b) (enginesTo engineLimit)) (eq-eqb (length (b .marks)) engineLimit (w .sixteenMarks))
+      (every-enginesTo (markTrue b) engineLimit .1 (λ e low high. mark-test e low (marked b e) refl))
+
   test-of : trueBoard b ≡ true
   unfolding trueBoard at
   test-of =
-      rw (limits-out (b .system) .1 (w .limits), eq-eqb (length (b .loads)) engineLimit (w .sixteen), loads-test (b .system .engines) (b .loads) engine-test zero-test) within-test
+      rw (limits-out (b .system) .1 (w .limits), eq-eqb (length (b .loads)) engineLimit (w .sixteen), loads-test (b .system .engines) (b .loads) engine-test zero-test, within-test) marks-test
 
 -- main
 
@@ -242,35 +282,49 @@ pub stands-said : (b : Board) → IsTrue b → (t : ℕ) → standsNo b t ≡ ge
 unfolding at
 stands-said b w t = standing-out (b .loads) t (six-at b w)
 
+-- every engine has six counts
+pub six-load : (b : Board) → IsTrue b → (e : ℕ) → length (loadAt b e) ≡ typeLimit
+unfolding at
+six-load b w e = six-at b w (e - 1)
+
 pub true-means : (b : Board) → TrueMeans b
 true-means b = record { tests = (words, test-of b); placed = λ w. parted (test-of b w) }
   where
     words : trueBoard b ≡ true → IsTrue b
-    words h = let f = truth-of b h in subst IsTrue (sym (f .same)) (true-on (b .system) (f .rows) (f .keeps) (f .valid))
+    words h = let f = truth-of b h in subst IsTrue (sym (f .same)) (true-on (b .system) (f .marks) (f .rows) (f .keeps) (f .valid) (f .served))
 
     parted : trueBoard b ≡ true → Stands (b .system) (EngineIn b) (standsNo b) (b .loads)
     parted h =
         let f = truth-of b h in
-        subst (λ (a : Board). Stands (b .system) (EngineIn b) (standsNo a) (a .loads)) (sym (f .same)) (parted-on (b .system) (f .rows) (f .keeps) (f .valid))
+        subst (λ (a : Board). Stands (b .system) (EngineIn a) (standsNo a) (a .loads)) (sym (f .same)) (parted-on (b .system) (f .marks) (f .rows) (f .keeps) (f .valid) (f .served))
 
 -- main: a fresh board
 
-pub fresh-on : (y : System) → Limits y → emptyBoard y ≡ boardOn y (replicate (y .engines) emptyLoad)
-fresh-on y limits =
-    ap (λ (ls : List EngineLoad). record { system = y; loads = ls })
-    (ap (replicate engineLimit) (sym (engineWith-idle y))
-    ∙ ap (map (engineWith y)) (ap (λ (n : ℕ). replicate n emptyLoad) all ∙ sym (replicate-append-replicate (y .engines) (engineLimit - y .engines) emptyLoad)))
+pub fresh-on : (y : System) → Limits y → emptyBoard y ≡ boardOn y (replicate (y .engines) false) (replicate (y .engines) emptyLoad)
+fresh-on y limits = λ i. record { system = y; loads = idle i; marks = unmarked i }
   where
     all : engineLimit ≡ y .engines + (engineLimit - y .engines)
     all = omega (arith, limits .engines)
 
+    idle : replicate engineLimit idleEngine ≡ map (engineWith y) (padded y (replicate (y .engines) emptyLoad))
+    idle =
+        ap (replicate engineLimit) (sym (engineWith-idle y))
+        ∙ ap (map (engineWith y)) (ap (λ (n : ℕ). replicate n emptyLoad) all ∙ sym (replicate-append-replicate (y .engines) (engineLimit - y .engines) emptyLoad))
+
+    unmarked : replicate engineLimit false ≡ paddedMarks y (replicate (y .engines) false)
+    unmarked = ap (λ (n : ℕ). replicate n false) all ∙ sym (replicate-append-replicate (y .engines) (engineLimit - y .engines) false)
+
+-- where no mark is set, anything may stand anywhere
+pub served-clear : (y : System) (xs : List (List ℕ)) → Served y (replicate (y .engines) false) xs
+served-clear y xs = record { count = length-replicate (y .engines) false; idle = λ i q. absurd (not-both q (getD-padded [] (y .engines) i false)) }
+
 pub fresh-true : (y : System) → keepsLimits y ≡ true → IsTrue (emptyBoard y)
 fresh-true y keeps =
     let limits = limits-of y keeps in
-    subst IsTrue (sym (fresh-on y limits)) (true-on y (replicate (y .engines) emptyLoad) keeps (valid-empty y limits))
+    subst IsTrue (sym (fresh-on y limits)) (true-on y (replicate (y .engines) false) (replicate (y .engines) emptyLoad) keeps (valid-empty y limits) (served-clear y (replicate (y .engines) emptyLoad)))
 
 pub fresh-is : (y : System) → IsFresh y (emptyBoard y)
-fresh-is y = record { system = refl; sixteen = refl; nothing = λ e. nothing-at (e - 1) }
+fresh-is y = record { system = refl; sixteen = refl; nothing = λ e. nothing-at (e - 1); sixteenMarks = refl; noMark = λ e. getD-padded [] engineLimit (e - 1) false }
   where
     idle : (n i : ℕ) → getD (replicate n idleEngine) i idleEngine ≡ idleEngine
     idle zero i = refl

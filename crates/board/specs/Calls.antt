@@ -1,7 +1,7 @@
--- The four calls on a board: document 01's "Board", with the orders under "From the state". Each is one definition of the answer, the board after it and the table after it.
+-- The six calls on a board: document 01's "Board", with the orders under "From the state", and the two of request 2026-07. Each is one definition of the answer, the board after it and the table after it.
 use Prim.Native.Nat.{ℕ, _-_}
 use mathlib.Core.List.{List, [], _∷_}
-use mathlib.Core.Bool.{Bool, cond, _&&_}
+use mathlib.Core.Bool.{Bool, true, false, cond, not, _&&_}
 use mathlib.Core.Path.{_≡_}
 use lib.ListN.{length, getD}
 use lib.Dec.{leb, ltb}
@@ -10,14 +10,14 @@ use Rattle.system.specs.Values.{ceilingsOf}
 use Rattle.system.specs.Limits.{engineLimit}
 use Rattle.system.specs.Layout.{readFile, readOutcome}
 use Rattle.system.specs.Outcome.{Outcome, accepted, refused, fromInput, fromState, outcomeOf, Checked, passes, fails, check, andThen}
-use Rattle.loads.specs.Load.{fitsEngine, oneMore, oneLess}
+use Rattle.loads.specs.Load.{fitsEngine, holdsNone, oneMore, oneLess}
 use Rattle.partition.specs.ForSystem.{placeable, recoveredFor}
 use Rattle.table.specs.Table.{roomCheck, filled}
 use Rattle.board.specs.declared.Board.{Board}
 use Rattle.board.specs.declared.Turn.{Turn}
 use Rattle.board.specs.declared.Place.{Place}
 use Rattle.board.specs.declared.Place.the-variants.{Engine, Nowhere}
-use Rattle.board.specs.Boards.{openedBoard, boardOf, withLoad, enginesOf, loadAt, standing}
+use Rattle.board.specs.Boards.{openedBoard, boardOf, withLoad, withMark, marked, enginesOf, loadAt, standing}
 use Rattle.board.specs.Truth.{trueBoard}
 
 -- the answer of a call, the board after it, and what the lent table then holds
@@ -63,6 +63,17 @@ heldAt b t e = leb 1 (getD (loadAt b e) (t - 1) 0)
 abbrev pub heldCheck : Board → ℕ → ℕ → Checked
 heldCheck b t e = check (heldAt b t e) fromState 22
 
+-- 36: engine e is not yet in the state wanted, out of service where `out` says so
+abbrev pub movable : Board → ℕ → Bool → Bool
+movable b e out = cond out (not (marked b e)) (marked b e)
+
+abbrev pub stateCheck : Board → ℕ → Bool → Checked
+stateCheck b e out = check (movable b e out) fromState 36
+
+-- 35: engine e holds no instance
+abbrev pub emptyCheck : Board → ℕ → Checked
+emptyCheck b e = check (holdsNone (loadAt b e)) fromState 35
+
 -- admit and seat: 20, 13, 11, 21, for a table of `room` entries
 unfoldable pub checkNewcomer : Board → ℕ → ℕ → Checked
 checkNewcomer b t room = andThen (boardCheck b) (andThen (typeCheck (b .system) t) (andThen (roomCheck (b .system) room) (ceilingCheck b t)))
@@ -74,6 +85,14 @@ checkRetire b t e = andThen (boardCheck b) (andThen (typeCheck (b .system) t) (a
 -- repack: 20, 11
 unfoldable pub checkRepack : Board → ℕ → Checked
 checkRepack b room = andThen (boardCheck b) (roomCheck (b .system) room)
+
+-- restore: 20, 14, 36
+unfoldable pub checkRestore : Board → ℕ → Checked
+checkRestore b e = andThen (boardCheck b) (andThen (engineCheck (b .system) e) (stateCheck b e false))
+
+-- withdraw: 20, 14, 36, 35
+unfoldable pub checkWithdraw : Board → ℕ → Checked
+checkWithdraw b e = andThen (boardCheck b) (andThen (engineCheck (b .system) e) (andThen (stateCheck b e true) (emptyCheck b e)))
 
 -- a refusal that leaves board and table as they were, or else the work
 abbrev pub checked : Checked → Board → List ℕ → Result → Result
@@ -95,7 +114,7 @@ unfoldable pub firstOf : (ℕ → Bool) → List ℕ → Place
 firstOf p [] = Nowhere
 firstOf p (e ∷ es) = cond (p e) (Engine e) (firstOf p es)
 
--- the lowest-numbered engine that takes the newcomer: their numbers rise
+-- the lowest-numbered engine in service that takes the newcomer: their numbers rise
 abbrev pub firstEngine : Board → ℕ → Place
 firstEngine b t = firstOf (takes b t) (enginesOf b)
 
@@ -118,7 +137,7 @@ admitOf b t table = checked (checkNewcomer b t (length table)) b table (admitted
 unfoldable pub reseated : Board → List ℕ → List ℕ → Result
 reseated b x table =
     cond (placeable (b .system) (enginesOf b) x)
-    (result (accepted []) (boardOf (b .system) (recoveredFor engineLimit (b .system) (enginesOf b) x)) (filled (b .system) (enginesOf b) table))
+    (result (accepted []) (boardOf (b .system) (b .marks) (recoveredFor engineLimit (b .system) (enginesOf b) x)) (filled (b .system) (enginesOf b) table))
     (result (refused fromState 24) b (filled (b .system) (enginesOf b) table))
 
 unfoldable pub seatOf : Board → ℕ → List ℕ → Result
@@ -133,6 +152,16 @@ retireOf b t e table =
 -- the board becomes the recovery of what stands. A true board is a good assignment of it, so 24 does not arise: a law says so
 unfoldable pub repackOf : Board → List ℕ → Result
 repackOf b table = checked (checkRepack b (length table)) b table (reseated b (standing b) table)
+
+-- Withdraw, restore: neither takes a table
+
+-- engine e, which holds nothing, goes out of service
+unfoldable pub withdrawOf : Board → ℕ → List ℕ → Result
+withdrawOf b e table = checked (checkWithdraw b e) b table (result (accepted []) (withMark b e true) table)
+
+-- engine e is put back
+unfoldable pub restoreOf : Board → ℕ → List ℕ → Result
+restoreOf b e table = checked (checkRestore b e) b table (result (accepted []) (withMark b e false) table)
 
 -- What a call gives
 

@@ -10,15 +10,15 @@ use Rattle.system.specs.declared.System.{System}
 use Rattle.system.specs.Layout.{readFile, opened, unread}
 use Rattle.system.specs.Outcome.{Outcome, Source, accepted, refused, fromInput, fromState, isAccepted}
 use Rattle.partition.specs.Assignment.{enginesTo}
-use Rattle.partition.specs.Plain.{columnsOut, LongEnough, Stands}
+use Rattle.partition.specs.Plain.{columnsOut, LongEnough, recordNo, Stands}
 use Rattle.table.specs.Table.{filled}
 use Rattle.table.specs.Meaning.{FilledMeans}
 use Rattle.board.specs.declared.Board.{Board}
 use Rattle.board.specs.Truth.{trueBoard}
 use Rattle.board.specs.Calls.{Result}
-use Rattle.board.specs.Words.{standsNo, plusOne, IsType, IsEngine, EngineIn, HoldsType, BelowCeiling, TakesType, Room, NoRoom, OneMoreOn, Frees, IsTrue, Packed, IsFresh}
+use Rattle.board.specs.Words.{countAt, standsNo, plusOne, sumSix, HoldsNothing, IsType, IsEngine, markNo, EngineIn, servingAll, HoldsType, BelowCeiling, TakesType, Room, NoRoom, OneMoreOn, MarkOn, Frees, IsTrue, Packed, IsFresh}
 
--- the test of refusal 20 says so exactly, and a true board is a good assignment of what stands on it
+-- the test of refusal 20 says so exactly, and a true board is a good assignment of what stands on it to the engines in service
 pub record TrueMeans (b : Board) : Type 0 where
   pub tests : (trueBoard b ≡ true) ↔ IsTrue b
   pub placed : IsTrue b → Stands (b .system) (EngineIn b) (standsNo b) (b .loads)
@@ -45,7 +45,7 @@ pub record AdmitMeans (b : Board) (t : ℕ) (table : List ℕ) (r : Result) : Ty
   pub stands : isAccepted (r .outcome) ≡ true → (u : ℕ) → 1 ≤ u → standsNo (r .board) u ≡ plusOne t (standsNo b) u
   pub isTrue : isAccepted (r .outcome) ≡ true → IsTrue (r .board)
   pub asLent : isAccepted (r .outcome) ≡ true → r .table ≡ table
-  pub leftFilled : BelowCeiling b t → isAccepted (r .outcome) ≡ false → FilledMeans (b .system) (b .system .engines) table (r .table)
+  pub leftFilled : BelowCeiling b t → isAccepted (r .outcome) ≡ false → FilledMeans (b .system) (servingAll b) table (r .table)
 
 -- seat: succeeds exactly when there is room, and packs all with the newcomer on the fewest engines
 pub record SeatMeans (b : Board) (t : ℕ) (table : List ℕ) (r : Result) : Type 0 where
@@ -53,7 +53,7 @@ pub record SeatMeans (b : Board) (t : ℕ) (table : List ℕ) (r : Result) : Typ
   pub noRoom : BelowCeiling b t → (r .outcome ≡ refused fromState 24) ↔ NoRoom b t
   pub answer : isAccepted (r .outcome) ≡ true → r .outcome ≡ accepted []
   pub packs : isAccepted (r .outcome) ≡ true → Packed b (plusOne t (standsNo b)) (r .board)
-  pub leftFilled : BelowCeiling b t → FilledMeans (b .system) (b .system .engines) table (r .table)
+  pub leftFilled : BelowCeiling b t → FilledMeans (b .system) (servingAll b) table (r .table)
 
 -- retire: succeeds exactly when that engine holds that type, and one instance leaves it and frees its memory
 pub record RetireMeans (b : Board) (t e : ℕ) (r : Result) : Type 0 where
@@ -68,7 +68,21 @@ pub record RetireMeans (b : Board) (t e : ℕ) (r : Result) : Type 0 where
 pub record RepackMeans (b : Board) (table : List ℕ) (r : Result) : Type 0 where
   pub repacks : r .outcome ≡ accepted []
   pub packs : Packed b (standsNo b) (r .board)
-  pub leftFilled : FilledMeans (b .system) (b .system .engines) table (r .table)
+  pub leftFilled : FilledMeans (b .system) (servingAll b) table (r .table)
+
+-- withdraw: succeeds exactly when that engine is in service and holds nothing, and its mark is set
+pub record WithdrawMeans (b : Board) (e : ℕ) (r : Result) : Type 0 where
+  pub withdraws : (isAccepted (r .outcome) ≡ true) ↔ (EngineIn b e × HoldsNothing (recordNo (b .loads) e))
+  pub answer : isAccepted (r .outcome) ≡ true → r .outcome ≡ accepted []
+  pub marks : isAccepted (r .outcome) ≡ true → MarkOn b e true (r .board)
+  pub isTrue : isAccepted (r .outcome) ≡ true → IsTrue (r .board)
+
+-- restore: succeeds exactly when that engine is withdrawn, and its mark is taken away
+pub record RestoreMeans (b : Board) (e : ℕ) (r : Result) : Type 0 where
+  pub restores : (isAccepted (r .outcome) ≡ true) ↔ (IsEngine b e × (markNo b e ≡ true))
+  pub answer : isAccepted (r .outcome) ≡ true → r .outcome ≡ accepted []
+  pub marks : isAccepted (r .outcome) ≡ true → MarkOn b e false (r .board)
+  pub isTrue : isAccepted (r .outcome) ≡ true → IsTrue (r .board)
 
 -- The orders of refusal, for every board and table: each number with its list is said exactly where its row says so and all that stand before it pass
 
@@ -91,13 +105,25 @@ pub record RepackInOrder (b : Board) (table : List ℕ) (o : Outcome) : Type 0 w
   pub boardFirst : (o ≡ refused fromState 20) ↔ (IsTrue b → ⊥)
   pub thenTable : IsTrue b → (o ≡ refused fromInput 11) ↔ (length table < (b .system .engines + 1) * columnsOut (b .system))
 
+-- request 2026-07: "35, when the engine to withdraw still holds an instance; 36, when it is already in the state wanted; both from the state, after 14, in the order 36, 35"
+pub record WithdrawInOrder (b : Board) (e : ℕ) (o : Outcome) : Type 0 where
+  pub boardFirst : (o ≡ refused fromState 20) ↔ (IsTrue b → ⊥)
+  pub thenEngine : IsTrue b → (o ≡ refused fromInput 14) ↔ (IsEngine b e → ⊥)
+  pub thenState : IsTrue b → IsEngine b e → (o ≡ refused fromState 36) ↔ (markNo b e ≡ true)
+  pub thenEmpty : IsTrue b → IsEngine b e → markNo b e ≡ false → (o ≡ refused fromState 35) ↔ (1 ≤ sumSix (countAt b e))
+
+pub record RestoreInOrder (b : Board) (e : ℕ) (o : Outcome) : Type 0 where
+  pub boardFirst : (o ≡ refused fromState 20) ↔ (IsTrue b → ⊥)
+  pub thenEngine : IsTrue b → (o ≡ refused fromInput 14) ↔ (IsEngine b e → ⊥)
+  pub thenState : IsTrue b → IsEngine b e → (o ≡ refused fromState 36) ↔ (markNo b e ≡ false)
+
 -- Demand 1, for every board, true or not: a refused call hands back the board it was given, and the table as lent, except that 23 and 24 leave it filled.
 -- `left` is what the table holds after an accepted call: what it held before, or the table filled
 pub record Demand1 (b : Board) (table left : List ℕ) (r : Result) : Type 0 where
   pub board : isAccepted (r .outcome) ≡ false → r .board ≡ b
   pub asLent : (s : Source) (n : ℕ) → r .outcome ≡ refused s n → (n ≡ 23 → ⊥) → (n ≡ 24 → ⊥) → r .table ≡ table
-  pub filledOn23 : (s : Source) → r .outcome ≡ refused s 23 → r .table ≡ filled (b .system) (enginesTo (b .system .engines)) table
-  pub filledOn24 : (s : Source) → r .outcome ≡ refused s 24 → r .table ≡ filled (b .system) (enginesTo (b .system .engines)) table
+  pub filledOn23 : (s : Source) → r .outcome ≡ refused s 23 → r .table ≡ filled (b .system) (enginesTo (servingAll b)) table
+  pub filledOn24 : (s : Source) → r .outcome ≡ refused s 24 → r .table ≡ filled (b .system) (enginesTo (servingAll b)) table
   pub onAccept : isAccepted (r .outcome) ≡ true → r .table ≡ left
 
 -- What the contracts cite
@@ -108,7 +134,7 @@ pub record AdmitPromises (b : Board) (t : ℕ) (table : List ℕ) (r : Result) :
   pub means : IsTrue b → LongEnough (b .system) table → AdmitMeans b t table r
 
 pub record SeatPromises (b : Board) (t : ℕ) (table : List ℕ) (r : Result) : Type 0 where
-  pub demand1 : Demand1 b table (filled (b .system) (enginesTo (b .system .engines)) table) r
+  pub demand1 : Demand1 b table (filled (b .system) (enginesTo (servingAll b)) table) r
   pub order : NewcomerInOrder b t table (r .outcome)
   pub means : IsTrue b → LongEnough (b .system) table → SeatMeans b t table r
 
@@ -118,6 +144,16 @@ pub record RetirePromises (b : Board) (t e : ℕ) (r : Result) : Type 0 where
   pub means : IsTrue b → RetireMeans b t e r
 
 pub record RepackPromises (b : Board) (table : List ℕ) (r : Result) : Type 0 where
-  pub demand1 : Demand1 b table (filled (b .system) (enginesTo (b .system .engines)) table) r
+  pub demand1 : Demand1 b table (filled (b .system) (enginesTo (servingAll b)) table) r
   pub order : RepackInOrder b table (r .outcome)
   pub means : IsTrue b → LongEnough (b .system) table → RepackMeans b table r
+
+pub record WithdrawPromises (b : Board) (e : ℕ) (r : Result) : Type 0 where
+  pub demand1 : Demand1 b [] [] r
+  pub order : WithdrawInOrder b e (r .outcome)
+  pub means : IsTrue b → WithdrawMeans b e r
+
+pub record RestorePromises (b : Board) (e : ℕ) (r : Result) : Type 0 where
+  pub demand1 : Demand1 b [] [] r
+  pub order : RestoreInOrder b e (r .outcome)
+  pub means : IsTrue b → RestoreMeans b e r

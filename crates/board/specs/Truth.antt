@@ -3,14 +3,15 @@ use Prim.Native.Nat.{ℕ, zero, suc}
 use mathlib.Core.List.{List, [], _∷_}
 use mathlib.Core.Bool.{Bool, true, cond, _&&_}
 use lib.ListN.{length}
-use lib.Dec.{ltb, eqb}
+use lib.Dec.{leb, ltb, eqb}
 use Rattle.system.specs.declared.System.{System}
 use Rattle.system.specs.Values.{ceilingsOf}
 use Rattle.system.specs.Limits.{keepsLimits, engineLimit, typeLimit}
 use Rattle.loads.specs.declared.EngineLoad.{EngineLoad}
 use Rattle.loads.specs.Load.{timeOf, memoryOf, fitsEngine, holdsNone, within}
+use Rattle.partition.specs.Assignment.{every, enginesTo}
 use Rattle.board.specs.declared.Board.{Board}
-use Rattle.board.specs.Boards.{standing}
+use Rattle.board.specs.Boards.{marked, loadAt, standing}
 
 -- an engine's stored sums are those of its load, which fits; six counts is what an array of the code always has
 abbrev pub trueEngine : System → EngineLoad → Bool
@@ -34,6 +35,14 @@ trueLoads y (suc m) (l ∷ ls) = trueEngine y l && trueLoads y m ls
 abbrev pub engineTrue : System → ℕ → EngineLoad → Bool
 engineTrue y i l = cond (ltb i (y .engines)) (trueEngine y l) (zeroEngine l)
 
+-- where engine e is marked, it is one of the engines 1 to m and holds nothing
+abbrev pub markTrue : Board → ℕ → Bool
+markTrue b e = cond (marked b e) (leb e (b .system .engines) && holdsNone (loadAt b e)) true
+
+-- of each of the sixteen engines, which is as many marks as an array of the code always has
+unfoldable pub trueMarks : Board → Bool
+trueMarks b = eqb (length (b .marks)) engineLimit && every (markTrue b) (enginesTo engineLimit)
+
 -- the board is true, else it is refused 20. A count of a type past k is above that type's ceiling, which is 0
 unfoldable pub trueBoard : Board → Bool
 trueBoard b =
@@ -41,3 +50,4 @@ trueBoard b =
     && eqb (length (b .loads)) engineLimit
     && trueLoads (b .system) (b .system .engines) (b .loads)
     && within (standing b) (ceilingsOf (b .system))
+    && trueMarks b

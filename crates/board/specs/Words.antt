@@ -1,8 +1,8 @@
 -- The plain words in which the meaning of the calls and demand 3 speak of a board: counts, totals, sums, fit, room, and the engines that are used.
 -- As with partition/specs/Plain, no contract of a function cites them, and they go through no word that one cites; laws say that the code's words mean the same.
-use Prim.Native.Nat.{ℕ, _+_, _-_, _*_, _≤_, _<_}
+use Prim.Native.Nat.{ℕ, zero, suc, _+_, _-_, _*_, _≤_, _<_}
 use mathlib.Core.List.{List, [], _∷_}
-use mathlib.Core.Bool.{cond, _&&_}
+use mathlib.Core.Bool.{Bool, true, false, cond, _&&_}
 use mathlib.Core.Path.{_≡_}
 use lib.ListN.{length, getD}
 use lib.Dec.{eqb}
@@ -11,7 +11,7 @@ use Rattle.system.specs.declared.System.{System}
 use Rattle.loads.specs.declared.EngineLoad.{EngineLoad}
 use Rattle.partition.specs.Assignment.{Assignment, enginesTo}
 use Rattle.partition.specs.ForSystem.{rowsFor}
-use Rattle.partition.specs.Plain.{typeNo, ceilingNo, LimitsOut, EngineOf, Partition, Impossible, recordNo, StandsOnFewest}
+use Rattle.partition.specs.Plain.{typeNo, ceilingNo, LimitsOut, Partition, Impossible, recordNo, StandsOnFewest}
 use Rattle.board.specs.declared.Board.{Board}
 
 -- Counts, type numbers and engine numbers from 1
@@ -87,9 +87,25 @@ IsType b t = (1 ≤ t) × (t ≤ b .system .typecount)
 abbrev pub IsEngine : Board → ℕ → Type 0
 IsEngine b e = (1 ≤ e) × (e ≤ b .system .engines)
 
--- the engines that instances may be on: 1 to m
-abbrev pub EngineIn : Board → ℕ → Type 0
-EngineIn b e = EngineOf (b .system) e
+-- Engines out of service: request 2026-07
+
+-- engine e has a mark
+abbrev pub markNo : Board → ℕ → Bool
+markNo b e = getD (b .marks) (e - 1) false
+
+-- "the engines in service", which instances may be on: those of 1 to m without a mark
+pub record EngineIn (b : Board) (e : ℕ) : Type 0 where
+  pub isEngine : IsEngine b e
+  pub inService : markNo b e ≡ false
+
+-- how many of the engines 1 to e are in service. An engine in service is the so-many-th of them, "rising"
+unfoldable pub servingTo : Board → ℕ → ℕ
+servingTo b zero = 0
+servingTo b (suc e) = servingTo b e + cond (markNo b (suc e)) 0 1
+
+-- how many there are: the rows that a table has past row 0
+abbrev pub servingAll : Board → ℕ
+servingAll b = servingTo b (b .system .engines)
 
 -- The words of demand 3
 
@@ -119,7 +135,14 @@ NoRoom b t = Impossible (b .system) (EngineIn b) (plusOne t (standsNo b))
 -- the board after has one instance of type t more on engine e than b, and is otherwise the same
 pub record OneMoreOn (b : Board) (t e : ℕ) (after : Board) : Type 0 where
   pub system : after .system ≡ b .system
+  pub marks : after .marks ≡ b .marks
   pub counts : (d u : ℕ) → 1 ≤ d → 1 ≤ u → countAt after d u ≡ countAt b d u + cond (eqb d e && eqb u t) 1 0
+
+-- the board after has the mark of engine e set, or taken away, and is otherwise the same
+pub record MarkOn (b : Board) (e : ℕ) (mark : Bool) (after : Board) : Type 0 where
+  pub system : after .system ≡ b .system
+  pub loads : after .loads ≡ b .loads
+  pub marks : (d : ℕ) → 1 ≤ d → markNo after d ≡ cond (eqb d e) mark (markNo b d)
 
 -- the stored memory of engine e
 abbrev pub memoryNo : Board → ℕ → ℕ
@@ -133,20 +156,24 @@ pub record Frees (b : Board) (t e : ℕ) (after : Board) : Type 0 where
 
 -- The truth of a board
 
--- the row of refusal 20: a board is true where none of it is so. That there are sixteen engines with six counts each is what arrays of the code always have
+-- the row of refusal 20: a board is true where none of it is so. That there are sixteen engines with six counts and a mark each is what arrays of the code always have
 pub record IsTrue (b : Board) : Type 0 where
   pub sixteen : length (b .loads) ≡ 16
+  pub sixteenMarks : length (b .marks) ≡ 16
   pub six : (e : ℕ) → 1 ≤ e → e ≤ 16 → length (recordNo (b .loads) e .counts) ≡ 6
   -- "its system breaks a limit", "the system's own u, s and n too", d and q
   pub limits : LimitsOut (b .system)
   -- "an entry for an engine past m or a type past k is not 0"
   pub pastEngines : (e : ℕ) → b .system .engines < e → HoldsNothing (recordNo (b .loads) e)
   pub pastTypes : (e t : ℕ) → b .system .typecount < t → countAt b e t ≡ 0
+  pub pastMarks : (e : ℕ) → b .system .engines < e → markNo b e ≡ false
   -- "a type's standing total passes its ceiling"
   pub ceilings : (t : ℕ) → 1 ≤ t → standsNo b t ≤ ceilingNo (b .system) t
   -- "stored sums differ from the load, or a load doesn't fit"
   pub sums : (e : ℕ) → IsEngine b e → SumsOut (b .system) (recordNo (b .loads) e)
   pub fit : (e : ℕ) → IsEngine b e → FitsOut (b .system) (countAt b e)
+  -- "A withdrawn engine holds nothing, which refusal 20 now tests as well"
+  pub withdrawn : (e : ℕ) → 1 ≤ e → markNo b e ≡ true → HoldsNothing (recordNo (b .loads) e)
 
 -- The recovery on a board
 
@@ -154,21 +181,25 @@ pub record IsTrue (b : Board) : Type 0 where
 abbrev pub loadOut : (ℕ → ℕ) → List ℕ
 loadOut count = count 1 ∷ count 2 ∷ count 3 ∷ count 4 ∷ count 5 ∷ count 6 ∷ []
 
--- engine i holds row i of document 01's recovery of count(t) instances of each type; "Engines past i hold nothing"
-abbrev pub IsRecovery : System → (ℕ → ℕ) → Board → Type 0
-IsRecovery y count after =
-    (e t : ℕ) → 1 ≤ e → 1 ≤ t → countAt after e t ≡ getD (getD (rowsFor y (enginesTo (y .engines)) (loadOut count)) (e - 1) []) (t - 1) 0
+-- the i-th engine in service holds row i of document 01's recovery of count(t) instances of each type, which has a row for each of them; "Engines past i hold nothing",
+-- and that a withdrawn engine and one past m hold nothing is a part of the board's truth
+abbrev pub IsRecovery : Board → (ℕ → ℕ) → Board → Type 0
+IsRecovery b count after =
+    (e t : ℕ) → EngineIn b e → 1 ≤ t → countAt after e t ≡ getD (getD (rowsFor (b .system) (enginesTo (servingAll b)) (loadOut count)) (servingTo b e - 1) []) (t - 1) 0
 
 -- the board after is a true board of count(t) instances of each type on the fewest engines, by the recovery
 pub record Packed (b : Board) (count : ℕ → ℕ) (after : Board) : Type 0 where
   pub isTrue : IsTrue after
   pub system : after .system ≡ b .system
+  pub marks : after .marks ≡ b .marks
   pub stands : (t : ℕ) → 1 ≤ t → standsNo after t ≡ count t
   pub fewest : StandsOnFewest (b .system) (EngineIn b) count (after .loads) (usedRecords (after .loads))
-  pub recovery : IsRecovery (b .system) count after
+  pub recovery : IsRecovery b count after
 
--- a fresh board of the system y: it carries that system, with its m engines, and nothing stands on any
+-- a fresh board of the system y: it carries that system, with its m engines, nothing stands on any, and no mark is set
 pub record IsFresh (y : System) (b : Board) : Type 0 where
   pub system : b .system ≡ y
   pub sixteen : length (b .loads) ≡ 16
   pub nothing : (e : ℕ) → HoldsNothing (recordNo (b .loads) e)
+  pub sixteenMarks : length (b .marks) ≡ 16
+  pub noMark : (e : ℕ) → markNo b e ≡ false

@@ -1,8 +1,8 @@
-// Opening a board, and the four calls: admit, seat, retire, repack. Each checks first and works second.
+// Opening a board, and the six calls: admit, seat, retire, repack, withdraw, restore. Each checks first and works second.
 ghost use mathlib.Core.List.{[]};
 ghost use Rattle.system.specs.Outcome.{outcomeOf};
-ghost use Rattle.board.specs.Calls.{admitOf, seatOf, retireOf, repackOf, gave, Opens, Does};
-ghost use Rattle.board.specs.Meaning.{OpenMeans, AdmitPromises, SeatPromises, RetirePromises, RepackPromises};
+ghost use Rattle.board.specs.Calls.{admitOf, seatOf, retireOf, repackOf, withdrawOf, restoreOf, gave, Opens, Does};
+ghost use Rattle.board.specs.Meaning.{OpenMeans, AdmitPromises, SeatPromises, RetirePromises, RepackPromises, WithdrawPromises, RestorePromises};
 use crate::Board;
 use crate::Place;
 use crate::Turn;
@@ -25,7 +25,7 @@ pub fn open_board(file: &[u8]) -> Turn
     }
 }
 
-// Admit: the newcomer goes to the lowest-numbered engine that takes it; the table is filled only if there is none.
+// Admit: the newcomer goes to the lowest-numbered engine in service that takes it; the table is filled only if there is none.
 pub fn admit(b: Board, t: usize, table: &mut [u16]) -> Turn
     ensures { λ r. ⌜ Does (admitOf b t (now (table .entry))) r (now (table .exit)) ⌝ }
     ensures { λ r. ⌜ AdmitPromises b t (now (table .entry)) (gave r (now (table .exit))) ⌝ }
@@ -76,4 +76,28 @@ pub fn repack(b: Board, table: &mut [u16]) -> Turn
     }
     let counts = state::standing_counts(b);
     work::reseat(b, counts, table)
+}
+
+// Withdraw: engine e, which holds nothing, goes out of service.
+pub fn withdraw(b: Board, e: usize) -> Turn
+    ensures { λ r. ⌜ Does (withdrawOf b e []) r [] ⌝ }
+    ensures { λ r. ⌜ WithdrawPromises b e (gave r []) ⌝ }
+{
+    let check = checks::check_withdraw(b, e);
+    if let Check::Fails(why) = check {
+        return work::refuse(b, why);
+    }
+    work::move_engine(b, e, true)
+}
+
+// Restore: engine e is put back into service.
+pub fn restore(b: Board, e: usize) -> Turn
+    ensures { λ r. ⌜ Does (restoreOf b e []) r [] ⌝ }
+    ensures { λ r. ⌜ RestorePromises b e (gave r []) ⌝ }
+{
+    let check = checks::check_restore(b, e);
+    if let Check::Fails(why) = check {
+        return work::refuse(b, why);
+    }
+    work::move_engine(b, e, false)
 }

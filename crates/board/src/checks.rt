@@ -1,9 +1,10 @@
-// What a call is refused with before any work: one function for each number, and document 01's orders under "From the state" that string them.
+// What a call is refused with before any work: one function for each number, and the orders that string them: document 01's under "From the
+// state", and those of request 2026-07.
 ghost use mathlib.Core.Path.{_≡_};
 ghost use mathlib.Core.Bool.{true};
 ghost use Rattle.system.specs.Outcome.{checkedOf};
 ghost use Rattle.board.specs.Truth.{trueBoard};
-ghost use Rattle.board.specs.Calls.{knownType, boardCheck, typeCheck, engineCheck, ceilingCheck, heldCheck, checkNewcomer, checkRetire, checkRepack};
+ghost use Rattle.board.specs.Calls.{knownType, boardCheck, typeCheck, engineCheck, ceilingCheck, heldCheck, stateCheck, emptyCheck, checkNewcomer, checkRetire, checkRepack, checkRestore, checkWithdraw};
 ghost use Rattle.board.specs.Inner.{OnEngine};
 use crate::Board;
 use crate::state;
@@ -70,6 +71,30 @@ fn held_check(b: Board, t: usize, e: usize) -> Check
     Check::Fails(Refusal::State(22))
 }
 
+// 36: engine e is already in the state wanted, out of service or not.
+fn state_check(b: Board, e: usize, out: bool) -> Check
+    requires { ⌜ OnEngine b e ⌝ }
+    ensures { λ r. ⌜ checkedOf r ≡ stateCheck b e out ⌝ }
+{
+    let marked = state::marked(b, e);
+    if (out & !marked) | (!out & marked) {
+        return Check::Passes;
+    }
+    Check::Fails(Refusal::State(36))
+}
+
+// 35: engine e still holds an instance.
+fn empty_check(b: Board, e: usize) -> Check
+    requires { ⌜ OnEngine b e ⌝ }
+    ensures { λ r. ⌜ checkedOf r ≡ emptyCheck b e ⌝ }
+{
+    let counts = state::load_at(b, e);
+    if loads::holds_none(counts) {
+        return Check::Passes;
+    }
+    Check::Fails(Refusal::State(35))
+}
+
 // Admit and seat: 20, 13, 11, 21, for a table of `room` entries.
 pub fn check_newcomer(b: Board, t: usize, room: usize) -> Check
     ensures { λ r. ⌜ checkedOf r ≡ checkNewcomer b t room ⌝ }
@@ -119,4 +144,38 @@ pub fn check_repack(b: Board, room: usize) -> Check
         return Check::Fails(why);
     }
     table::table_check(b.system, room)
+}
+
+// Restore: 20, 14, 36.
+pub fn check_restore(b: Board, e: usize) -> Check
+    ensures { λ r. ⌜ checkedOf r ≡ checkRestore b e ⌝ }
+{
+    let board = board_check(b);
+    if let Check::Fails(why) = board {
+        return Check::Fails(why);
+    }
+    let engine = engine_check(b.system, e);
+    if let Check::Fails(why) = engine {
+        return Check::Fails(why);
+    }
+    state_check(b, e, false)
+}
+
+// Withdraw: 20, 14, 36, 35.
+pub fn check_withdraw(b: Board, e: usize) -> Check
+    ensures { λ r. ⌜ checkedOf r ≡ checkWithdraw b e ⌝ }
+{
+    let board = board_check(b);
+    if let Check::Fails(why) = board {
+        return Check::Fails(why);
+    }
+    let engine = engine_check(b.system, e);
+    if let Check::Fails(why) = engine {
+        return Check::Fails(why);
+    }
+    let state = state_check(b, e, true);
+    if let Check::Fails(why) = state {
+        return Check::Fails(why);
+    }
+    empty_check(b, e)
 }

@@ -1,4 +1,4 @@
-// The live board: the truth test of a board handed in, opening one, and the four calls.
+// The live board: the truth test of a board handed in, opening one, and the six calls.
 use loads::EngineLoad;
 use system::Answer;
 use system::ENGINE_LIMIT;
@@ -12,16 +12,20 @@ mod work;
 pub use calls::admit;
 pub use calls::open_board;
 pub use calls::repack;
+pub use calls::restore;
 pub use calls::retire;
 pub use calls::seat;
+pub use calls::withdraw;
 pub use state::total;
 pub use state::true_board;
 pub use state::true_loads;
 
-// A board: the system, and each engine's load with its stored time and memory. Engine e is at index e - 1.
+// A board: the system, each engine's load with its stored time and memory, and whether it is marked, that is, out of service. Engine e is
+// at index e - 1.
 pub struct Board {
     pub system: System,
     pub loads: [EngineLoad; ENGINE_LIMIT],
+    pub marks: [bool; ENGINE_LIMIT],
 }
 
 // What a call answers, with the board after it: the one handed in where the call is refused.

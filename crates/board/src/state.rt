@@ -7,8 +7,8 @@ ghost use lib.ListN.{getD};
 ghost use Rattle.system.specs.Limits.{engineLimit};
 ghost use Rattle.system.specs.declared.TaskType.{TaskType};
 ghost use Rattle.loads.specs.Load.{plus, within};
-ghost use Rattle.board.specs.Boards.{loadAt, standingOf, standing};
-ghost use Rattle.board.specs.Truth.{trueEngine, zeroEngine, trueLoads, trueBoard, engineTrue};
+ghost use Rattle.board.specs.Boards.{marked, loadAt, standingOf, standing};
+ghost use Rattle.board.specs.Truth.{trueEngine, zeroEngine, trueLoads, markTrue, trueMarks, trueBoard, engineTrue};
 use crate::Board;
 use loads::EngineLoad;
 use system::ENGINE_LIMIT;
@@ -53,6 +53,39 @@ fn true_at(y: System, i: usize, l: EngineLoad) -> bool
         return true_engine(y, l);
     }
     zero_engine(l)
+}
+
+// Engine e is marked.
+pub(crate) fn marked(b: Board, e: usize) -> bool
+    requires { ⌜ (1 ≤ e) × (e ≤ engineLimit) ⌝ }
+    ensures { λ r. ⌜ r ≡ marked b e ⌝ }
+{
+    let i = e - 1;
+    let marks = b.marks;
+    marks[i]
+}
+
+// Where engine e is marked, it is one of the engines 1 to m and holds nothing.
+fn mark_true(b: Board, e: usize) -> bool
+    requires { ⌜ (1 ≤ e) × (e ≤ engineLimit) ⌝ }
+    ensures { λ r. ⌜ r ≡ markTrue b e ⌝ }
+{
+    if marked(b, e) {
+        let counts = load_at(b, e);
+        return (e <= b.system.engines) & loads::holds_none(counts);
+    }
+    true
+}
+
+// Of each of the sixteen engines.
+fn true_marks(b: Board) -> bool
+    ensures { λ r. ⌜ r ≡ trueMarks b ⌝ }
+{
+    let mut good = true;
+    for i in 0..ENGINE_LIMIT {
+        good = good & mark_true(b, i + 1);
+    }
+    good
 }
 
 // A load added to a sum of at most 15 others.
@@ -127,7 +160,7 @@ pub(crate) fn load_at(b: Board, e: usize) -> [u16; TYPE_LIMIT]
     l.counts
 }
 
-// Whether the board is true: document 01's row of refusal 20.
+// Whether the board is true: document 01's row of refusal 20, and the marks of request 2026-07.
 pub fn true_board(b: Board) -> bool
     ensures { λ r. ⌜ r ≡ trueBoard b ⌝ }
 {
@@ -135,5 +168,5 @@ pub fn true_board(b: Board) -> bool
     let types = y.types;
     let loads = b.loads;
     let sum = total(loads);
-    system::keeps_limits(y) & true_loads(y, loads) & under_ceilings(sum, types)
+    system::keeps_limits(y) & true_loads(y, loads) & under_ceilings(sum, types) & true_marks(b)
 }

@@ -8,7 +8,7 @@ ghost use Rattle.system.specs.Values.{ceilingsOf};
 ghost use Rattle.loads.specs.Load.{fitsEngine, within, oneMore, oneLess};
 ghost use Rattle.table.specs.Table.{longEnough};
 ghost use Rattle.table.specs.Recovery.{listed};
-ghost use Rattle.board.specs.Boards.{emptyBoard, withLoad, enginesOf, loadAt};
+ghost use Rattle.board.specs.Boards.{emptyBoard, withLoad, withMark, enginesOf, loadAt};
 ghost use Rattle.board.specs.Truth.{trueBoard};
 ghost use Rattle.board.specs.Calls.{knownType, takes, withNewcomer, firstEngine, crowded, reseated, Does};
 ghost use Rattle.board.specs.Inner.{CheckedNewcomer, OnEngine};
@@ -23,22 +23,35 @@ use system::System;
 use system::TYPE_LIMIT;
 use table::Engines;
 
-// A board on which nothing stands.
+// A board on which nothing stands and no engine is marked.
 pub fn empty_board(y: System) -> Board
     ensures { λ r. ⌜ r ≡ emptyBoard y ⌝ }
 {
     Board {
         system: y,
         loads: [loads::idle_engine(); ENGINE_LIMIT],
+        marks: [false; ENGINE_LIMIT],
     }
 }
 
-// The engines that instances may be on, rising.
+// The engines that instances may be on: those in service, rising.
 fn engines_of(b: Board) -> Engines
     requires { ⌜ trueBoard b ≡ true ⌝ }
     ensures { λ r. ⌜ (r .count ≡ length (enginesOf b)) × (listed r ≡ enginesOf b) ⌝ }
 {
-    table::engines_to(b.system.engines)
+    let marks = b.marks;
+    let mut numbers = [0usize; ENGINE_LIMIT];
+    let mut count: usize = 0;
+    for i in 0..b.system.engines {
+        if !marks[i] {
+            numbers[count] = i + 1;
+            count += 1;
+        }
+    }
+    Engines {
+        count: count,
+        numbers: numbers,
+    }
 }
 
 // A refusal hands back the board as it was given.
@@ -151,11 +164,13 @@ pub fn reseat(b: Board, counts: [u16; TYPE_LIMIT], table: &mut [u16]) -> Turn
         return refuse(b, Refusal::State(24));
     }
     let loads = found.loads;
+    let marks = b.marks;
     Turn {
         answer: Answer::Accepted,
         board: Board {
             system: y,
             loads: loads,
+            marks: marks,
         },
     }
 }
@@ -173,4 +188,18 @@ pub fn no_engine(b: Board, t: usize, table: &mut [u16]) -> Turn
         return refuse(b, Refusal::State(23));
     }
     refuse(b, Refusal::State(24))
+}
+
+// Engine e goes out of service, or is put back.
+pub fn move_engine(b: Board, e: usize, out: bool) -> Turn
+    requires { ⌜ (1 ≤ e) × (e ≤ engineLimit) ⌝ }
+    ensures { λ r. ⌜ (r .answer ≡ Answer.Accepted) × (r .board ≡ withMark b e out) ⌝ }
+{
+    let i = e - 1;
+    let mut next = b;
+    next.marks[i] = out;
+    Turn {
+        answer: Answer::Accepted,
+        board: next,
+    }
 }

@@ -269,3 +269,12 @@ pub fn same_loads(a: [EngineLoad; ENGINE_LIMIT], b: [EngineLoad; ENGINE_LIMIT]) 
     }
     same
 }
+
+// The same engines are marked.
+pub fn same_marks(a: [bool; ENGINE_LIMIT], b: [bool; ENGINE_LIMIT]) -> bool {
+    let mut same = true;
+    for e in 0..ENGINE_LIMIT {
+        same = same & (a[e] == b[e]);
+    }
+    same
+}

@@ -4,19 +4,19 @@ use Rattle.system.specs.Limits.{columnsOf, typesKeep, keepsLimits}
 use Rattle.system.specs.Layout.{ruleOf, platformFrom, typeFrom, dataFrom, mostFrom, ruledHead, headOf, bodyOf, ruledField, fieldOf, endOf, fieldsFrom, readFile}
 use Rattle.loads.specs.Load.{sumOver, apart, fitsEngine, holdsNone, within, plus, less}
 use Rattle.loads.specs.Column.{columnFrom, loadOf}
-use Rattle.partition.specs.Assignment.{countOn, among, every, anyOf, good, numbersFrom, eachBefore, placesOf, assignmentsOf, someGood}
+use Rattle.partition.specs.Assignment.{countOn, among, every, anyOf, passing, good, numbersFrom, eachBefore, placesOf, assignmentsOf, someGood}
 use Rattle.partition.specs.Shares.{sumOf, rowOn}
 use Rattle.partition.specs.Cell.{lowest, precedes, cell, lowestRow, recover, recovery}
 use Rattle.table.specs.Pairs.{those, upToOne, forEach, pairsTried}
 use Rattle.table.specs.Table.{upTo, filledTo}
 use Rattle.planner.specs.Plan.{verdictOf}
-use Rattle.board.specs.Truth.{trueLoads, trueBoard}
-use Rattle.board.specs.Calls.{checkNewcomer, firstOf, admitted, admitOf, reseated, seatOf, checkRetire, retireOf, checkRepack, repackOf}
-use Rattle.ledger.specs.Ledger.{passing, countedOn, admitEntry, seatEntry, retireEntry, step, ledgerAfter, ledgerAnswers}
+use Rattle.board.specs.Truth.{trueLoads, trueMarks, trueBoard}
+use Rattle.board.specs.Calls.{checkNewcomer, firstOf, admitted, admitOf, reseated, seatOf, checkRetire, retireOf, checkRepack, repackOf, checkRestore, checkWithdraw, withdrawOf, restoreOf}
+use Rattle.ledger.specs.Ledger.{countedOn, admitEntry, seatEntry, retireEntry, repackEntry, withdrawEntry, restoreEntry, step, ledgerAfter, ledgerAnswers}
 use Rattle.ledger.specs.Demand3.{boardAfter, played}
 use Rattle.cases.specs.Cases.{AllHold}
 use Rattle.cases.specs.Ours.{ours}
 
 pub ours-shown : AllHold ours
-unfolding columnsOf typesKeep keepsLimits ruleOf platformFrom typeFrom dataFrom mostFrom ruledHead headOf bodyOf ruledField fieldOf endOf fieldsFrom readFile sumOver apart fitsEngine holdsNone within plus less columnFrom loadOf countOn among every anyOf good numbersFrom eachBefore placesOf assignmentsOf someGood lowest precedes cell lowestRow recover recovery those upToOne forEach pairsTried upTo filledTo verdictOf trueLoads trueBoard firstOf checkNewcomer admitted admitOf reseated seatOf checkRetire retireOf checkRepack repackOf sumOf rowOn passing countedOn admitEntry seatEntry retireEntry step ledgerAfter ledgerAnswers boardAfter played ours
+unfolding columnsOf typesKeep keepsLimits ruleOf platformFrom typeFrom dataFrom mostFrom ruledHead headOf bodyOf ruledField fieldOf endOf fieldsFrom readFile sumOver apart fitsEngine holdsNone within plus less columnFrom loadOf countOn among every anyOf good numbersFrom eachBefore placesOf assignmentsOf someGood lowest precedes cell lowestRow recover recovery those upToOne forEach pairsTried upTo filledTo verdictOf trueLoads trueMarks trueBoard firstOf checkNewcomer admitted admitOf reseated seatOf checkRetire retireOf checkRepack repackOf checkRestore checkWithdraw withdrawOf restoreOf sumOf rowOn passing countedOn admitEntry seatEntry retireEntry repackEntry withdrawEntry restoreEntry step ledgerAfter ledgerAnswers boardAfter played ours
 ours-shown = refl

@@ -1,4 +1,4 @@
--- Worked examples of our own beside W1 to W12: a recovery with three different loads, what a cell holds that says no, systems with d, systems with q, and the pairs that a fill tries.
+-- Worked examples of our own beside W1 to W12: a recovery with three different loads, what a cell holds that says no, systems with d, systems with q, the pairs that a fill tries, and engines out of service.
 use Prim.Native.Nat.{ℕ}
 use mathlib.Core.List.{List, [], _∷_, _++_, map}
 use lib.ListN.{take, replicate}
@@ -8,7 +8,7 @@ use Rattle.loads.specs.declared.EngineLoad.{EngineLoad}
 use Rattle.table.specs.Pairs.{triedAt, pairsOf}
 use Rattle.planner.specs.Plan.{verdictOf, planOutcome, planLoads}
 use Rattle.board.specs.Boards.{openedBoard}
-use Rattle.ledger.specs.Ledger.{Call, admit, seat, retire, repack, freshLedger, ledgerAfter}
+use Rattle.ledger.specs.Ledger.{Call, admit, seat, retire, repack, withdraw, restore, freshLedger, ledgerAfter}
 use Rattle.ledger.specs.Demand3.{Request, Made, boardAfter, answersOf, played}
 use Rattle.cases.specs.Cases.{platform, taskType, fileB, systemOf, systemA, entryAt, planAnswer, planLines, answers, boardLines, entered, counted, Case, case, number, numbers, lines, outcome, outcomes, done, on}
 
@@ -43,6 +43,22 @@ fitted = (9 ∷ 8 ∷ 1 ∷ 2 ∷ 0 ∷ []) ∷ (9 ∷ 6 ∷ 1 ∷ 0 ∷ 1 ∷ [
 
 abbrev pub recoveredC : List (List ℕ)
 recoveredC = (5 ∷ 2 ∷ 1 ∷ 0 ∷ 0 ∷ []) ∷ (9 ∷ 8 ∷ 1 ∷ 2 ∷ 0 ∷ []) ∷ (8 ∷ 8 ∷ 0 ∷ 0 ∷ 2 ∷ []) ∷ (0 ∷ 0 ∷ 0 ∷ 0 ∷ 0 ∷ []) ∷ []
+
+-- engine 2 is withdrawn, and then the same calls: its rows go to engines 1, 3 and 4
+abbrev pub withoutTwo : List Call
+withoutTwo = withdraw 2 ∷ fiveC ++ (seat 3 ∷ [])
+
+abbrev pub passedOver : List (List ℕ)
+passedOver = (5 ∷ 2 ∷ 1 ∷ 0 ∷ 0 ∷ []) ∷ (0 ∷ 0 ∷ 0 ∷ 0 ∷ 0 ∷ []) ∷ (9 ∷ 8 ∷ 1 ∷ 2 ∷ 0 ∷ []) ∷ (8 ∷ 8 ∷ 0 ∷ 0 ∷ 2 ∷ []) ∷ []
+
+-- system B, rule 0, m 3: an engine holds one. Engine 2 is withdrawn, two are admitted, and there is no room for a third until engine 2 is put back
+abbrev pub callsB : List Call
+callsB = withdraw 2 ∷ admit 1 ∷ admit 1 ∷ admit 1 ∷ seat 1 ∷ withdraw 2 ∷ withdraw 1 ∷ restore 3 ∷ restore 4 ∷ restore 2 ∷ admit 1 ∷ []
+
+abbrev pub answersB : List Outcome
+answersB =
+    done ∷ on 1 ∷ on 3 ∷ refused fromState 24 ∷ refused fromState 24
+    ∷ refused fromState 36 ∷ refused fromState 35 ∷ refused fromState 36 ∷ refused fromInput 14 ∷ done ∷ on 2 ∷ []
 
 -- system B of document 01, m 4, with the field of d after its type, d below 256: U 10, S 8, u 2, s 5, n 4
 abbrev pub fileD : ℕ → ℕ → List ℕ
@@ -115,4 +131,13 @@ ours =
     ∷ case 12 (numbers (pairsOf systemA 1 ∷ pairsOf systemA 2 ∷ [])) (numbers (46 ∷ 65 ∷ []))
     -- where no instance fits, every column under one is tried: 1 + 2 + 3 + 4 + 5 in each of four rows
     ∷ case 13 (number (pairsOf (systemOf (platform 4 0 1 8 ++ taskType 2 5 4)) 4)) (number 60)
+    -- engines out of service (request 2026-07), on the board and in the ledger: a recovery and an admit pass over them, there is no room on those left, and 36, 35, 14
+    ∷ case 14 (outcomes (answersOf (madeC withoutTwo))) (outcomes (done ∷ on 1 ∷ on 1 ∷ on 3 ∷ on 3 ∷ on 1 ∷ done ∷ []))
+    ∷ case 14 (lines (linesC withoutTwo)) (lines passedOver)
+    ∷ case 14 (lines (countedC withoutTwo)) (lines ((1 ∷ 0 ∷ 0 ∷ []) ∷ (0 ∷ 0 ∷ 0 ∷ []) ∷ (1 ∷ 2 ∷ 0 ∷ []) ∷ (0 ∷ 0 ∷ 2 ∷ []) ∷ []))
+    ∷ case 15 (outcomes (answers (fileB 3 0) callsB)) (outcomes answersB)
+    ∷ case 15 (outcomes (entered (fileB 3 0) callsB)) (outcomes answersB)
+    -- none in service: no room for anyone, and a repack of nothing
+    ∷ case 16 (outcomes (answers (fileF 1 noQ 0) (withdraw 1 ∷ admit 1 ∷ seat 1 ∷ repack ∷ []))) (outcomes (done ∷ refused fromState 24 ∷ refused fromState 24 ∷ done ∷ []))
+    ∷ case 16 (outcomes (entered (fileF 1 noQ 0) (withdraw 1 ∷ admit 1 ∷ seat 1 ∷ repack ∷ []))) (outcomes (done ∷ refused fromState 24 ∷ refused fromState 24 ∷ done ∷ []))
     ∷ []

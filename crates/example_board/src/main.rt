@@ -3,8 +3,10 @@
 use board::Board;
 use board::admit;
 use board::open_board;
+use board::restore;
 use board::retire;
 use board::seat;
+use board::withdraw;
 use libc::STDOUT_FILENO;
 use loads::EngineLoad;
 use system::Answer;
@@ -12,8 +14,8 @@ use system::Refusal;
 use table::entries_needed;
 use table::fill_table;
 
-// Opens a board, makes ten calls, and says what each answered. Each call takes the board that the call before it handed back, also
-// where that call was refused.
+// Opens a board, makes its calls, and says what each answered. Each call takes the board that the call before it handed back, also where
+// that call was refused.
 fn main() {
     // A system file: the platform (m 2, rule 0, U 10, S 8), type 1 (u 4, s 3, n 3), type 2 (u 3, s 2, n 2).
     let file =
@@ -43,6 +45,28 @@ fn main() {
     let b = admitted(b, 1, &mut table);
     let b = seated(b, 1, &mut table);
     say_board(b);
+    let b = with_failure(b);
+    say_board(b);
+}
+
+// Engine 2 fails: its instances move to engine 1 as far as there is room, and the engine is put back when it is mended. The table is another
+// one than before, which changes no answer.
+fn with_failure(b: Board) -> Board {
+    let mut table = [0u16; 36];
+    // One of type 1 is no longer wanted, which leaves room on engine 1.
+    let b = retired(b, 1, 1);
+    // An engine that still holds an instance is not withdrawn: refused 35.
+    let b = withdrawn(b, 2);
+    let b = retired(b, 1, 2);
+    let b = retired(b, 2, 2);
+    let b = retired(b, 2, 2);
+    let b = withdrawn(b, 2);
+    let b = admitted(b, 2, &mut table);
+    let b = admitted(b, 2, &mut table);
+    // Engine 1 is full, and engine 2 out of service: no room, refused 24, until it is back.
+    let b = admitted(b, 1, &mut table);
+    let b = restored(b, 2);
+    admitted(b, 1, &mut table)
 }
 
 // Admits one instance of type t, says what was answered, and hands on the board.
@@ -76,6 +100,26 @@ fn retired(b: Board, t: usize, e: usize) -> Board {
     turn.board
 }
 
+// Takes engine e, which must hold nothing, out of service: no call puts an instance on it until it is restored.
+fn withdrawn(b: Board, e: usize) -> Board {
+    let turn = withdraw(b, e);
+    let answer = turn.answer;
+    say_named(b"withdraw engine", e);
+    say(b":");
+    say_answer(answer);
+    turn.board
+}
+
+// Puts engine e back into service.
+fn restored(b: Board, e: usize) -> Board {
+    let turn = restore(b, e);
+    let answer = turn.answer;
+    say_named(b"restore engine", e);
+    say(b":");
+    say_answer(answer);
+    turn.board
+}
+
 // The end of a call's line: what was answered. An admit that is accepted answers with its engine's number.
 fn say_answer(a: Answer) {
     match a {
@@ -94,7 +138,7 @@ fn say_number(what: &[u8], a: Answer) {
     }
 }
 
-// A refusal comes from the input (1 to 15) or from the state of the board (20 to 24).
+// A refusal comes from the input (1 to 15) or from the state of the board (20 to 24, 35 and 36).
 fn say_refusal(why: Refusal) {
     match why {
         Refusal::Input(n) => say_named(b" refused", n as usize),

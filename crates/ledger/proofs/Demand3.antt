@@ -1,9 +1,9 @@
--- Demand 3: by induction on the list of calls. The invariant: board and ledger hold the same valid loads on the engines 1 to m.
+-- Demand 3: by induction on the list of calls. The invariant: board and ledger hold the same valid loads and marks on the engines 1 to m.
 -- What the code gave is what the definitions give, since each contract promises that; so the demand holds of it too.
 use Prim.Native.Nat.{ℕ, _+_, _-_, _≤_}
 use mathlib.Core.Path.{_≡_, refl, sym, ap, subst, _∙_}
 use mathlib.Core.List.{List, [], _∷_, _++_, map, head-eq-of-cons-eq, tail-eq-of-cons-eq, nil≢cons}
-use mathlib.Core.Bool.{true}
+use mathlib.Core.Bool.{Bool, true, false}
 use native.Mathlib.Omega.{arith}
 use lib.ListN.{getD, replicate}
 use Rattle.system.specs.declared.System.{System}
@@ -19,16 +19,16 @@ use Rattle.board.specs.declared.Board.{Board}
 use Rattle.board.specs.declared.Turn.{Turn}
 use Rattle.board.specs.Boards.{emptyBoard, openedBoard}
 use Rattle.board.specs.Calls.{Result, gave, Opens, Does}
-use Rattle.board.specs.Words.{countAt, standsNo, IsTrue, IsFresh}
-use Rattle.board.proofs.Truth.{boardOn}
-use Rattle.board.proofs.TrueMeans.{count-out, stands-on, true-on, parted-on, fresh-on, fresh-is}
-use Rattle.ledger.specs.Ledger.{Ledger, ledgerWith, countsAt, freshLedger, ledgerAfter, ledgerAnswers}
+use Rattle.board.specs.Words.{countAt, standsNo, markNo, EngineIn, IsTrue, IsFresh}
+use Rattle.board.proofs.Truth.{boardOn, Served, marked-on}
+use Rattle.board.proofs.TrueMeans.{count-out, stands-on, true-on, parted-on, parted-whole, fresh-on, served-clear, fresh-is}
+use Rattle.ledger.specs.Ledger.{Ledger, ledgerWith, countsAt, isMarked, freshLedger, ledgerAfter, ledgerAnswers}
 use Rattle.ledger.specs.Demand3.{Request, Made, boardAfter, requestsOf, callsOf, answersOf, addsType, retiresType, acceptedOf, lendsTable, LongTables, CallKept, Demand3, answerOn, played, Ran, madeBy, Promised, none, next}
 use Rattle.ledger.proofs.Step.{Step, step-of, kept-of}
 
 -- intermediate: the requests of what was played
 
-asked-played : (b : Board) (rs : List Request) → requestsOf (played b rs) ≡ rs
+pub asked-played : (b : Board) (rs : List Request) → requestsOf (played b rs) ≡ rs
 unfolding played
 asked-played b [] = refl
 asked-played b (r ∷ rs) = ap (λ (l : List Request). r ∷ l) (asked-played (answerOn b r .board) rs)
@@ -43,32 +43,36 @@ module _ (y : System) (keeps : keepsLimits y ≡ true) where
   long-rest : (r : Request) (rs : List Request) → LongTables y (r ∷ rs) → LongTables y rs
   long-rest r rs long before after q e = long (r ∷ before) after q (ap (λ (l : List Request). r ∷ l) e)
 
-  one : (xs : List (List ℕ)) → Valid y xs → (r : Request) → Long r → Step y xs (r .call) (r .table)
-  one xs v r long = step-of y xs keeps v (r .call) (r .table) long
+  one : (ms : List Bool) (xs : List (List ℕ)) → Valid y xs → Served y ms xs → (r : Request) → Long r → Step y ms xs (r .call) (r .table)
+  one ms xs v served r long = step-of y ms xs keeps v served (r .call) (r .table) long
 
-  -- main: a list of calls on the board and in the ledger of the loads xs
+  -- main: a list of calls on the board and in the ledger of the marks ms and the loads xs
 
-  record Run (xs : List (List ℕ)) (rs : List Request) : Type 0 where
+  record Run (ms : List Bool) (xs : List (List ℕ)) (rs : List Request) : Type 0 where
     rows : List (List ℕ)
+    marks : List Bool
     valid : Valid y rows
-    board : boardAfter (boardOn y xs) (played (boardOn y xs) rs) ≡ boardOn y rows
-    ledger : ledgerAfter (ledgerWith y xs) (callsOf rs) ≡ ledgerWith y rows
-    answers : answersOf (played (boardOn y xs) rs) ≡ ledgerAnswers (ledgerWith y xs) (callsOf rs)
+    served : Served y marks rows
+    board : boardAfter (boardOn y ms xs) (played (boardOn y ms xs) rs) ≡ boardOn y marks rows
+    ledger : ledgerAfter (ledgerWith y ms xs) (callsOf rs) ≡ ledgerWith y marks rows
+    answers : answersOf (played (boardOn y ms xs) rs) ≡ ledgerAnswers (ledgerWith y ms xs) (callsOf rs)
     stand : (t : ℕ) → 1 ≤ t
-        → getD (total rows) (t - 1) 0 + acceptedOf (retiresType t) (played (boardOn y xs) rs)
-        ≡ getD (total xs) (t - 1) 0 + acceptedOf (addsType t) (played (boardOn y xs) rs)
+        → getD (total rows) (t - 1) 0 + acceptedOf (retiresType t) (played (boardOn y ms xs) rs)
+        ≡ getD (total xs) (t - 1) 0 + acceptedOf (addsType t) (played (boardOn y ms xs) rs)
 
-  run : (rs : List Request) (xs : List (List ℕ)) → Valid y xs → LongTables y rs → Run xs rs
+  run : (rs : List Request) (ms : List Bool) (xs : List (List ℕ)) → Valid y xs → Served y ms xs → LongTables y rs → Run ms xs rs
   unfolding boardAfter played ledgerAfter ledgerAnswers acceptedOf
-  run [] xs v long = record { rows = xs; valid = v; board = refl; ledger = refl; answers = refl; stand = λ t h. refl }
-  run (r ∷ rs) xs v long = together (one xs v r (long-first r rs long)) (λ zs w. run rs zs w (long-rest r rs long))
+  run [] ms xs v k long = record { rows = xs; marks = ms; valid = v; served = k; board = refl; ledger = refl; answers = refl; stand = λ t h. refl }
+  run (r ∷ rs) ms xs v k long = together (one ms xs v k r (long-first r rs long)) (λ ns zs w l. run rs ns zs w l (long-rest r rs long))
     where
-      together : Step y xs (r .call) (r .table) → ((zs : List (List ℕ)) → Valid y zs → Run zs rs) → Run xs (r ∷ rs)
+      together : Step y ms xs (r .call) (r .table) → ((ns : List Bool) (zs : List (List ℕ)) → Valid y zs → Served y ns zs → Run ns zs rs) → Run ms xs (r ∷ rs)
       together s rest =
-          let n = rest (s .rows) (s .valid) in
+          let n = rest (s .marks) (s .rows) (s .valid) (s .served) in
           record {
             rows = n .rows;
+            marks = n .marks;
             valid = n .valid;
+            served = n .served;
             board = ap (λ (a : Board). boardAfter a (played a rs)) (s .board) ∙ n .board;
             ledger = ap (λ (a : Ledger). ledgerAfter a (callsOf rs)) (s .ledger) ∙ n .ledger;
             answers =
@@ -87,18 +91,18 @@ module _ (y : System) (keeps : keepsLimits y ≡ true) where
   abbrev Kept : Board → Made → Type 0
   Kept b m = CallKept b (m .asked .call) (m .asked .table) (m .gives)
 
-  calls-kept : (rs : List Request) (xs : List (List ℕ)) → Valid y xs → LongTables y rs → (before after : List Made) (m : Made) → played (boardOn y xs) rs ≡ before ++ m ∷ after
-      → Kept (boardAfter (boardOn y xs) before) m
+  calls-kept : (rs : List Request) (ms : List Bool) (xs : List (List ℕ)) → Valid y xs → Served y ms xs → LongTables y rs → (before after : List Made) (m : Made) → played (boardOn y ms xs) rs ≡ before ++ m ∷ after
+      → Kept (boardAfter (boardOn y ms xs) before) m
   unfolding played boardAfter
-  calls-kept [] xs v long [] after m e = absurd (nil≢cons e)
-  calls-kept [] xs v long (p ∷ before) after m e = absurd (nil≢cons e)
-  calls-kept (r ∷ rs) xs v long [] after m e =
-      subst (Kept (boardOn y xs)) (head-eq-of-cons-eq e) (kept-of y xs keeps v (r .call) (r .table) (long-first r rs long))
-  calls-kept (r ∷ rs) xs v long (p ∷ before) after m e =
-      let s = one xs v r (long-first r rs long) in
+  calls-kept [] ms xs v k long [] after m e = absurd (nil≢cons e)
+  calls-kept [] ms xs v k long (p ∷ before) after m e = absurd (nil≢cons e)
+  calls-kept (r ∷ rs) ms xs v k long [] after m e =
+      subst (Kept (boardOn y ms xs)) (head-eq-of-cons-eq e) (kept-of y ms xs keeps v k (r .call) (r .table) (long-first r rs long))
+  calls-kept (r ∷ rs) ms xs v k long (p ∷ before) after m e =
+      let s = one ms xs v k r (long-first r rs long) in
       subst (λ (a : Board). Kept (boardAfter a before) m)
       (sym (s .board) ∙ ap (λ (z : Made). z .gives .board) (head-eq-of-cons-eq e))
-      (calls-kept rs (s .rows) (s .valid) (long-rest r rs long) before after m (ap (λ (a : Board). played a rs) (sym (s .board)) ∙ tail-eq-of-cons-eq e))
+      (calls-kept rs (s .marks) (s .rows) (s .valid) (s .served) (long-rest r rs long) before after m (ap (λ (a : Board). played a rs) (sym (s .board)) ∙ tail-eq-of-cons-eq e))
 
 -- main: demand 3 of the definitions
 
@@ -112,30 +116,39 @@ module _ (y : System) (keeps : keepsLimits y ≡ true) (rs : List Request) (long
   abbrev idle : List (List ℕ)
   idle = replicate (y .engines) emptyLoad
 
-  abbrev made : List Made
-  made = played (boardOn y idle) rs
+  abbrev clear : List Bool
+  clear = replicate (y .engines) false
 
-  r : Run y keeps idle rs
-  r = run y keeps rs idle (valid-empty y limits) long
+  abbrev made : List Made
+  made = played (boardOn y clear idle) rs
+
+  r : Run y keeps clear idle rs
+  r = run y keeps rs clear idle (valid-empty y limits) (served-clear y idle) long
 
   -- of the fresh board as the board of no loads
-  from-idle : IsFresh y (boardOn y idle) → Demand3 y (boardOn y idle) made
+  from-idle : IsFresh y (boardOn y clear idle) → Demand3 y (boardOn y clear idle) made
   from-idle fresh = record {
     starts = fresh;
     engines = λ e t low high up.
         ap (λ (a : Board). countAt a e t) (r .board)
-        ∙ count-out y (r .rows) keeps (r .valid) e t
+        ∙ count-out y (r .marks) (r .rows) keeps (r .valid) (r .served) e t
         ∙ ap (λ (a : Ledger). getD (countsAt a e) (t - 1) 0) (sym (r .ledger))
-        ∙ ap (λ (l : List Request). getD (countsAt (ledgerAfter (freshLedger y) (callsOf l)) e) (t - 1) 0) (sym (asked-played (boardOn y idle) rs));
-    isTrue = subst IsTrue (sym (r .board)) (true-on y (r .rows) keeps (r .valid));
+        ∙ ap (λ (l : List Request). getD (countsAt (ledgerAfter (freshLedger y) (callsOf l)) e) (t - 1) 0) (sym (asked-played (boardOn y clear idle) rs));
+    isTrue = subst IsTrue (sym (r .board)) (true-on y (r .marks) (r .rows) keeps (r .valid) (r .served));
     system = ap (λ (a : Board). a .system) (r .board);
-    placed = subst (λ (a : Board). Stands y (EngineOf y) (standsNo a) (a .loads)) (sym (r .board)) (parted-on y (r .rows) keeps (r .valid));
-    answers = r .answers ∙ ap (λ (l : List Request). ledgerAnswers (freshLedger y) (callsOf l)) (sym (asked-played (boardOn y idle) rs));
+    placed = subst (λ (a : Board). Stands y (EngineOf y) (standsNo a) (a .loads)) (sym (r .board)) (parted-whole y (r .marks) (r .rows) keeps (r .valid) (r .served));
+    answers = r .answers ∙ ap (λ (l : List Request). ledgerAnswers (freshLedger y) (callsOf l)) (sym (asked-played (boardOn y clear idle) rs));
     stand =
         λ t h k.
         omega
-        (arith, r .stand t h, none-yet (y .engines) (t - 1), ap (λ (a : Board). standsNo a t) (r .board), stands-on y (r .rows) keeps (r .valid) t);
-    calls = calls-kept y keeps rs idle (valid-empty y limits) long;
+        (arith, r .stand t h, none-yet (y .engines) (t - 1), ap (λ (a : Board). standsNo a t) (r .board), stands-on y (r .marks) (r .rows) keeps (r .valid) (r .served) t);
+    marks = λ e low high.
+        ap (λ (a : Board). markNo a e) (r .board)
+        ∙ marked-on y (r .marks) (r .rows) e
+        ∙ ap (λ (a : Ledger). isMarked a e) (sym (r .ledger))
+        ∙ ap (λ (l : List Request). isMarked (ledgerAfter (freshLedger y) (callsOf l)) e) (sym (asked-played (boardOn y clear idle) rs));
+    inService = subst (λ (a : Board). Stands y (EngineIn a) (standsNo a) (a .loads)) (sym (r .board)) (parted-on y (r .marks) (r .rows) keeps (r .valid) (r .served));
+    calls = calls-kept y keeps rs clear idle (valid-empty y limits) (served-clear y idle) long;
   }
 
   from-fresh : Demand3 y (emptyBoard y) (played (emptyBoard y) rs)

@@ -6,8 +6,8 @@ use mathlib.Core.Bool.{Bool, true, false, cond, not, true≢false}
 use lib.ListN.{getD}
 use lib.Dec.{eqb}
 use Rattle.system.specs.Outcome.{accepted, refused, fromInput, fromState, Source, isAccepted}
-use Rattle.loads.specs.Load.{oneMore}
-use Rattle.ledger.specs.Ledger.{admit, seat, retire, repack, Ledger, stands, countsAt, exists, Entry, entry, isType, isEngine, isFull, takers, countedOn, admitEntry, seatEntry, retireEntry, repackEntry, step, RefusedKeeps}
+use Rattle.loads.specs.Load.{holdsNone, oneMore}
+use Rattle.ledger.specs.Ledger.{admit, seat, retire, repack, withdraw, restore, Ledger, stands, countsAt, isMarked, exists, Entry, entry, isType, isEngine, isFull, takers, countedOn, admitEntry, seatEntry, retireEntry, repackEntry, withdrawEntry, restoreEntry, step, RefusedKeeps}
 
 -- an entry of the ledger l that changes it only where it is accepted
 abbrev Keeps : Ledger → Entry → Type 0
@@ -30,7 +30,7 @@ counted-keeps l t [] = either l (exists l (oneMore (t - 1) (stands l))) _ _ (ref
 counted-keeps l t (e ∷ es) = accepts l _ (e ∷ [])
 
 pub refused-keeps : RefusedKeeps
-unfolding step admitEntry seatEntry retireEntry repackEntry
+unfolding step admitEntry seatEntry retireEntry repackEntry withdrawEntry restoreEntry
 refused-keeps l (admit t) =
     either l (not (isType l t)) _ _ (refuses l fromInput 13) (either l (isFull l t) _ _ (refuses l fromState 21) (counted-keeps l t (takers l t)))
 refused-keeps l (seat t) =
@@ -40,3 +40,8 @@ refused-keeps l (retire t e) =
     either l (not (isType l t)) _ _ (refuses l fromInput 13)
     (either l (not (isEngine l e)) _ _ (refuses l fromInput 14) (either l (eqb (getD (countsAt l e) (t - 1) 0) 0) _ _ (refuses l fromState 22) (accepts l _ [])))
 refused-keeps l repack = accepts l _ []
+refused-keeps l (withdraw e) =
+    either l (not (isEngine l e)) _ _ (refuses l fromInput 14)
+    (either l (isMarked l e) _ _ (refuses l fromState 36) (either l (not (holdsNone (countsAt l e))) _ _ (refuses l fromState 35) (accepts l _ [])))
+refused-keeps l (restore e) =
+    either l (not (isEngine l e)) _ _ (refuses l fromInput 14) (either l (not (isMarked l e)) _ _ (refuses l fromState 36) (accepts l _ []))

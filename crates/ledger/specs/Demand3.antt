@@ -11,12 +11,12 @@ use Rattle.system.specs.Outcome.{Outcome, isAccepted}
 use Rattle.partition.specs.Plain.{LongEnough, EngineOf, Stands}
 use Rattle.board.specs.declared.Board.{Board}
 use Rattle.board.specs.declared.Turn.{Turn}
-use Rattle.board.specs.Calls.{Result, admitOf, seatOf, retireOf, repackOf, gave, Does}
-use Rattle.board.specs.Words.{countAt, standsNo, IsTrue, IsFresh}
-use Rattle.board.specs.Meaning.{AdmitMeans, SeatMeans, RetireMeans, RepackMeans}
-use Rattle.ledger.specs.Ledger.{Call, admit, seat, retire, repack, countsAt, freshLedger, ledgerAfter, ledgerAnswers}
+use Rattle.board.specs.Calls.{Result, admitOf, seatOf, retireOf, repackOf, withdrawOf, restoreOf, gave, Does}
+use Rattle.board.specs.Words.{countAt, standsNo, markNo, EngineIn, IsTrue, IsFresh}
+use Rattle.board.specs.Meaning.{AdmitMeans, SeatMeans, RetireMeans, RepackMeans, WithdrawMeans, RestoreMeans}
+use Rattle.ledger.specs.Ledger.{Call, admit, seat, retire, repack, withdraw, restore, countsAt, isMarked, freshLedger, ledgerAfter, ledgerAnswers}
 
--- a call with the table that is lent to it; a retire takes none, and its table is not looked at
+-- a call with the table that is lent to it; a retire, a withdraw and a restore take none, and their table is not looked at
 pub record Request : Type 0 where
   pub call : Call
   pub table : List ℕ
@@ -47,24 +47,30 @@ addsType t (admit u) = eqb u t
 addsType t (seat u) = eqb u t
 addsType t (retire u e) = false
 addsType t repack = false
+addsType t (withdraw e) = false
+addsType t (restore e) = false
 
 abbrev pub retiresType : ℕ → Call → Bool
 retiresType t (admit u) = false
 retiresType t (seat u) = false
 retiresType t (retire u e) = eqb u t
 retiresType t repack = false
+retiresType t (withdraw e) = false
+retiresType t (restore e) = false
 
 unfoldable pub acceptedOf : (Call → Bool) → List Made → ℕ
 acceptedOf kind [] = 0
 acceptedOf kind (m ∷ ms) = cond (kind (m .asked .call) && isAccepted (m .gives .outcome)) 1 0 + acceptedOf kind ms
 
--- What is supposed: "every table lent being long enough". Every call but a retire is lent one
+-- What is supposed: "every table lent being long enough". An admit, a seat and a repack are lent one
 
 abbrev pub lendsTable : Call → Bool
 lendsTable (admit t) = true
 lendsTable (seat t) = true
 lendsTable (retire t e) = false
 lendsTable repack = true
+lendsTable (withdraw e) = false
+lendsTable (restore e) = false
 
 abbrev pub LongTables : System → List Request → Type 0
 LongTables y rs = (before after : List Request) (r : Request) → rs ≡ before ++ r ∷ after → lendsTable (r .call) ≡ true → LongEnough y (r .table)
@@ -77,6 +83,8 @@ CallKept b (admit t) table r = AdmitMeans b t table r
 CallKept b (seat t) table r = SeatMeans b t table r
 CallKept b (retire t e) table r = RetireMeans b t e r
 CallKept b repack table r = RepackMeans b table r
+CallKept b (withdraw e) table r = WithdrawMeans b e r
+CallKept b (restore e) table r = RestoreMeans b e r
 
 -- y is the file's system, `start` the board that opening the file gave, ms the calls that were made from it
 pub record Demand3 (y : System) (start : Board) (ms : List Made) : Type 0 where
@@ -93,6 +101,9 @@ pub record Demand3 (y : System) (start : Board) (ms : List Made) : Type 0 where
   pub answers : answersOf ms ≡ ledgerAnswers (freshLedger y) (callsOf (requestsOf ms))
   -- of each type there stand its accepted admits and seats less its accepted retires
   pub stand : (t : ℕ) → 1 ≤ t → t ≤ y .typecount → standsNo (boardAfter start ms) t + acceptedOf (retiresType t) ms ≡ acceptedOf (addsType t) ms
+  -- request 2026-07: "at the end they are compared too", and that good assignment is one to the engines in service
+  pub marks : (e : ℕ) → 1 ≤ e → e ≤ y .engines → markNo (boardAfter start ms) e ≡ isMarked (ledgerAfter (freshLedger y) (callsOf (requestsOf ms))) e
+  pub inService : Stands y (EngineIn (boardAfter start ms)) (standsNo (boardAfter start ms)) (boardAfter start ms .loads)
   -- and each call did, on the board that it was given, what it means
   pub calls : (before after : List Made) (m : Made) → ms ≡ before ++ m ∷ after → CallKept (boardAfter start before) (m .asked .call) (m .asked .table) (m .gives)
 
@@ -104,6 +115,8 @@ callOn b (admit t) table = admitOf b t table
 callOn b (seat t) table = seatOf b t table
 callOn b (retire t e) table = retireOf b t e []
 callOn b repack table = repackOf b table
+callOn b (withdraw e) table = withdrawOf b e []
+callOn b (restore e) table = restoreOf b e []
 
 abbrev pub answerOn : Board → Request → Result
 answerOn b r = callOn b (r .call) (r .table)

@@ -1,15 +1,15 @@
--- Document 01's "Ledger": kept from the calls alone. It knows systems, loads, assignments and cells, and nothing of the board or the table.
+-- Document 01's "Ledger" with the marks of request 2026-07: kept from the calls alone. It knows systems, loads, assignments and cells, and nothing of the board or the table.
 use Prim.Native.Nat.{ℕ, _-_}
 use mathlib.Core.List.{List, [], _∷_}
-use mathlib.Core.Bool.{Bool, false, cond, not, _&&_}
+use mathlib.Core.Bool.{Bool, true, false, cond, not, _&&_}
 use mathlib.Core.Path.{_≡_}
 use lib.ListN.{getD, set, replicate}
 use lib.Dec.{leb, eqb}
 use Rattle.system.specs.declared.System.{System}
 use Rattle.system.specs.Limits.{typeLimit}
 use Rattle.system.specs.Outcome.{Outcome, accepted, refused, fromInput, fromState, isAccepted}
-use Rattle.loads.specs.Load.{fitsEngine, oneMore, oneLess, emptyLoad}
-use Rattle.partition.specs.Assignment.{enginesTo, someGood}
+use Rattle.loads.specs.Load.{fitsEngine, holdsNone, oneMore, oneLess, emptyLoad}
+use Rattle.partition.specs.Assignment.{passing, enginesTo, someGood}
 use Rattle.partition.specs.Shares.{sumOf}
 use Rattle.partition.specs.ForSystem.{recoveredFor}
 use Rattle.partition.specs.Plain.{ceilingNo}
@@ -20,18 +20,21 @@ pub data Call : Type 0 where
   seat : ℕ → Call
   retire : ℕ → ℕ → Call
   repack : Call
+  withdraw : ℕ → Call
+  restore : ℕ → Call
 
--- the file's system, and for each of the engines 1 to m a count for each type
+-- the file's system, and for each of the engines 1 to m a mark and a count for each type
 pub record Ledger : Type 0 where
   pub system : System
+  pub marks : List Bool
   pub counts : List (List ℕ)
 
-abbrev pub ledgerWith : System → List (List ℕ) → Ledger
-ledgerWith y counts = record { system = y; counts = counts }
+abbrev pub ledgerWith : System → List Bool → List (List ℕ) → Ledger
+ledgerWith y marks counts = record { system = y; marks = marks; counts = counts }
 
--- "all 0 at first"
+-- "all 0 at first", and no mark "set when fresh"
 abbrev pub freshLedger : System → Ledger
-freshLedger y = ledgerWith y (replicate (y .engines) emptyLoad)
+freshLedger y = ledgerWith y (replicate (y .engines) false) (replicate (y .engines) emptyLoad)
 
 -- "What stands is the sum over its engines"
 abbrev pub stands : Ledger → List ℕ
@@ -42,11 +45,18 @@ abbrev pub countsAt : Ledger → ℕ → List ℕ
 countsAt l e = getD (l .counts) (e - 1) emptyLoad
 
 abbrev pub withCounts : Ledger → ℕ → List ℕ → Ledger
-withCounts l e x = ledgerWith (l .system) (set (l .counts) (e - 1) x)
+withCounts l e x = ledgerWith (l .system) (l .marks) (set (l .counts) (e - 1) x)
 
--- the engines that its instances may be on: 1 to m
+-- engine e is marked; the ledger with that mark set, or taken away
+abbrev pub isMarked : Ledger → ℕ → Bool
+isMarked l e = getD (l .marks) (e - 1) false
+
+abbrev pub markedAs : Ledger → ℕ → Bool → Ledger
+markedAs l e mark = ledgerWith (l .system) (set (l .marks) (e - 1) mark) (l .counts)
+
+-- the engines that its instances may be on: those in service. "Its admit and its recovery pass over marked engines, and its assignments, for 23 too, are to the engines in service"
 abbrev pub engines : Ledger → List ℕ
-engines l = enginesTo (l .system .engines)
+engines l = passing (λ (e : ℕ). not (isMarked l e)) (enginesTo (l .system .engines))
 
 -- a good assignment of x exists, by trying all assignments
 abbrev pub exists : Ledger → List ℕ → Bool
@@ -54,7 +64,7 @@ exists l x = someGood (λ (e : ℕ). fitsEngine (l .system)) (engines l) x
 
 -- the recovery of x by the cells
 abbrev pub recovered : Ledger → List ℕ → Ledger
-recovered l x = ledgerWith (l .system) (recoveredFor (l .system .engines) (l .system) (engines l) x)
+recovered l x = ledgerWith (l .system) (l .marks) (recoveredFor (l .system .engines) (l .system) (engines l) x)
 
 -- what the ledger answers to a call, and the ledger after it
 pub record Entry : Type 0 where
@@ -74,12 +84,7 @@ isEngine l e = leb 1 e && leb e (l .system .engines)
 abbrev pub isFull : Ledger → ℕ → Bool
 isFull l t = leb (ceilingNo (l .system) t) (getD (stands l) (t - 1) 0)
 
--- those of a list that pass, in order
-unfoldable pub passing : (ℕ → Bool) → List ℕ → List ℕ
-passing p [] = []
-passing p (e ∷ es) = cond (p e) (e ∷ passing p es) (passing p es)
-
--- the engines whose load with one more t fits, the lowest-numbered first
+-- the engines in service whose load with one more t fits, the lowest-numbered first
 abbrev pub takers : Ledger → ℕ → List ℕ
 takers l t = passing (λ (e : ℕ). fitsEngine (l .system) (oneMore (t - 1) (countsAt l e))) (engines l)
 
@@ -112,11 +117,27 @@ retireEntry l t e =
 unfoldable pub repackEntry : Ledger → Entry
 repackEntry l = entry (accepted []) (recovered l (stands l))
 
+-- "Checks: 35, when the engine to withdraw still holds an instance; 36, when it is already in the state wanted; .. after 14, in the order 36, 35"
+unfoldable pub withdrawEntry : Ledger → ℕ → Entry
+withdrawEntry l e =
+    cond (not (isEngine l e)) (entry (refused fromInput 14) l)
+    (cond (isMarked l e) (entry (refused fromState 36) l)
+    (cond (not (holdsNone (countsAt l e))) (entry (refused fromState 35) l)
+    (entry (accepted []) (markedAs l e true))))
+
+unfoldable pub restoreEntry : Ledger → ℕ → Entry
+restoreEntry l e =
+    cond (not (isEngine l e)) (entry (refused fromInput 14) l)
+    (cond (not (isMarked l e)) (entry (refused fromState 36) l)
+    (entry (accepted []) (markedAs l e false)))
+
 unfoldable pub step : Ledger → Call → Entry
 step l (admit t) = admitEntry l t
 step l (seat t) = seatEntry l t
 step l (retire t e) = retireEntry l t e
 step l repack = repackEntry l
+step l (withdraw e) = withdrawEntry l e
+step l (restore e) = restoreEntry l e
 
 -- the ledger after a list of calls, and its answers in order
 unfoldable pub ledgerAfter : Ledger → List Call → Ledger

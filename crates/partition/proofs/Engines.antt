@@ -149,7 +149,7 @@ pub map-same : {A B : Type 0} (f g : A → B) → ((x : A) → f x ≡ g x) → 
 map-same f g h [] = refl
 map-same f g h (x ∷ l) = cons-path (h x) (map-same f g h l)
 
-rowOn-outside : {A : Type 0} (none : A) (es : List ℕ) (rows : List A) (e : ℕ) → among es e ≡ false → rowOn none es rows e ≡ none
+pub rowOn-outside : {A : Type 0} (none : A) (es : List ℕ) (rows : List A) (e : ℕ) → among es e ≡ false → rowOn none es rows e ≡ none
 unfolding rowOn among
 rowOn-outside none [] rows e h = refl
 rowOn-outside none (d ∷ es) [] e h = refl

@@ -1,16 +1,16 @@
--- Laws of the tests over lists: `every`, `anyOf`, `among`, `distinct`, and the engines 1 to m.
+-- Laws of the tests over lists: `every`, `anyOf`, `among`, `distinct`, the engines 1 to m, and those of a list that pass a test.
 use Prim.Native.Nat.{ℕ, zero, suc, _+_, _≤_, _<_, suc-le-suc}
 use mathlib.Core.Path.{_≡_, refl, sym, ap, subst, _∙_}
 use mathlib.Core.List.{List, [], _∷_, _++_, map}
-use mathlib.Core.Bool.{Bool, true, false, not, _&&_, _||_, true≢false, false≢true}
+use mathlib.Core.Bool.{Bool, true, false, cond, not, _&&_, _||_, true≢false, false≢true}
 use mathlib.Core.Logic.{_⊎_, inl, inr, ⊎-elim, _↔_}
-use native.Mathlib.Nat.{add-zero, add-suc, suc-add, le-of-suc-le-suc, eq-or-lt-of-le}
+use native.Mathlib.Nat.{add-zero, zero-add, add-suc, suc-add, le-of-suc-le-suc, eq-or-lt-of-le}
 use native.Mathlib.Omega.{arith}
 use borrow.Author.Tests.{eqb-true, eq-eqb, ne-eqb, not-true, leb-true, leb-false}
 use lib.ListN.{length, getD, replicate}
-use lib.Dec.{eqb, leb}
+use lib.Dec.{eqb, leb, eqb·suc-zero}
 use Rattle.loads.proofs.Order.{and-parts, and-both}
-use Rattle.partition.specs.Assignment.{among, every, anyOf, numbersFrom, enginesTo}
+use Rattle.partition.specs.Assignment.{countOn, among, every, anyOf, passing, numbersFrom, enginesTo}
 use Rattle.partition.specs.Shares.{distinct}
 
 -- intermediate: cases of a test
@@ -110,6 +110,16 @@ anyOf-among q (d ∷ es) e h k =
     (λ s. or-left (q d) (anyOf q es) (subst (λ (a : ℕ). q a ≡ true) (sym (eqb-true d e s)) k))
     (λ r. or-right (q d) (anyOf q es) (anyOf-among q es e r k))
     (or-cases (eqb d e) (among es e) h)
+
+-- an instance is on an engine exactly where it is counted there
+pub among-counted : (places : List ℕ) (e : ℕ) → among places e ≡ not (eqb (countOn e places) 0)
+unfolding among countOn
+among-counted [] e = refl
+among-counted (p ∷ ps) e = go (eqb p e) (among-counted ps e)
+  where
+    go : (b : Bool) → among ps e ≡ not (eqb (countOn e ps) 0) → (b || among ps e) ≡ not (eqb (cond b (suc (countOn e ps)) (countOn e ps)) 0)
+    go true rest = rw (eqb·suc-zero (countOn e ps))
+    go false rest = rest
 
 -- main: distinct
 
@@ -233,3 +243,78 @@ unfolding every among
 tested-among p [] h = refl
 tested-among p (d ∷ es) h =
     and-both (p d) (every p es) (h d (or-left (eqb d d) (among es d) (eq-eqb d d refl))) (tested-among p es (λ e k. h e (or-right (eqb d e) (among es e) k)))
+
+-- main: those that pass
+
+pub among-passing : (p : ℕ → Bool) (es : List ℕ) (e : ℕ) → (among (passing p es) e ≡ true) ↔ ((among es e ≡ true) × (p e ≡ true))
+unfolding among passing
+among-passing p [] e = ((λ h. absurd (false≢true h)), (λ h. h .0))
+among-passing p (d ∷ es) e = go (p d) refl (among-passing p es e)
+  where
+    go : (q : Bool) → p d ≡ q → (among (passing p es) e ≡ true) ↔ ((among es e ≡ true) × (p e ≡ true))
+        → (among (cond q (d ∷ passing p es) (passing p es)) e ≡ true) ↔ (((eqb d e || among es e) ≡ true) × (p e ≡ true))
+    go true q r = (
+      (λ h.
+          ⊎-elim (λ s. (or-left (eqb d e) (among es e) s, subst (λ (z : ℕ). p z ≡ true) (eqb-true d e s) q)) (λ s. (or-right (eqb d e) (among es e) (r .0 s .0), r .0 s .1))
+          (or-cases (eqb d e) (among (passing p es) e) h)),
+      (λ h.
+          ⊎-elim (λ s. or-left (eqb d e) (among (passing p es) e) s) (λ s. or-right (eqb d e) (among (passing p es) e) (r .1 (s, h .1)))
+          (or-cases (eqb d e) (among es e) (h .0))),
+    )
+    go false q r = (
+      (λ h. (or-right (eqb d e) (among es e) (r .0 h .0), r .0 h .1)),
+      (λ h.
+          ⊎-elim (λ s. absurd (not-both (h .1) (subst (λ (z : ℕ). p z ≡ false) (eqb-true d e s) q))) (λ s. r .1 (s, h .1))
+          (or-cases (eqb d e) (among es e) (h .0))),
+    )
+
+-- what every one of the list passes, every one of these does
+pub every-passing : (q p : ℕ → Bool) (es : List ℕ) → every q es ≡ true → every q (passing p es) ≡ true
+every-passing q p es h = tested-among q (passing p es) (λ e k. among-tested q es e h (among-passing p es e .0 k .0))
+
+pub distinct-passing : (p : ℕ → Bool) (es : List ℕ) → distinct es ≡ true → distinct (passing p es) ≡ true
+unfolding distinct passing
+distinct-passing p [] h = refl
+distinct-passing p (d ∷ es) h = go (p d) (distinct-passing p es (parts .1))
+  where
+    parts : (among es d ≡ false) × (distinct es ≡ true)
+    parts = distinct-parts d es h
+
+    away : (q : Bool) → among (passing p es) d ≡ q → among (passing p es) d ≡ false
+    away true q = absurd (not-both (among-passing p es d .0 q .0) (parts .0))
+    away false q = q
+
+    go : (q : Bool) → distinct (passing p es) ≡ true → distinct (cond q (d ∷ passing p es) (passing p es)) ≡ true
+    go true r = rw (away (among (passing p es) d) refl) r
+    go false r = r
+
+pub length-passing : (p : ℕ → Bool) (es : List ℕ) → length (passing p es) ≤ length es
+unfolding passing
+length-passing p [] = omega arith
+length-passing p (d ∷ es) = go (p d) (length-passing p es)
+  where
+    go : (q : Bool) → length (passing p es) ≤ length es → length (cond q (d ∷ passing p es) (passing p es)) ≤ suc (length es)
+    go true h = omega arith
+    go false h = omega arith
+
+pub passing-++ : (p : ℕ → Bool) (es ds : List ℕ) → passing p (es ++ ds) ≡ passing p es ++ passing p ds
+unfolding passing
+passing-++ p [] ds = refl
+passing-++ p (e ∷ es) ds = go (p e) (passing-++ p es ds)
+  where
+    go : (q : Bool) → passing p (es ++ ds) ≡ passing p es ++ passing p ds → cond q (e ∷ passing p (es ++ ds)) (passing p (es ++ ds)) ≡ cond q (e ∷ passing p es) (passing p es) ++ passing p ds
+    go true h = ap (λ (l : List ℕ). e ∷ l) h
+    go false h = h
+
+-- where all pass, they are the list
+pub passing-all : (p : ℕ → Bool) (es : List ℕ) → every p es ≡ true → passing p es ≡ es
+unfolding passing
+passing-all p [] h = refl
+passing-all p (e ∷ es) h = let b = every-parts p e es h in rw (b .0, passing-all p es (b .1))
+
+-- the engines 1 to m, cut at one of them
+pub numbersFrom-cut : (a n k : ℕ) → numbersFrom a (n + k) ≡ numbersFrom a n ++ numbersFrom (a + n) k
+unfolding numbersFrom
+numbersFrom-cut a zero k = rw (add-zero a) (ap (numbersFrom a) (zero-add k))
+numbersFrom-cut a (suc n) k =
+    ap (numbersFrom a) (suc-add n k) ∙ ap (λ (l : List ℕ). a ∷ l) (numbersFrom-cut (suc a) n k ∙ ap (λ (z : ℕ). numbersFrom (suc a) n ++ numbersFrom z k) (suc-add a n ∙ sym (add-suc a n)))

@@ -8,7 +8,7 @@ use native.Mathlib.Nat.{mul-one, suc-add, suc-inj}
 use native.Mathlib.Omega.{arith}
 use borrow.Author.Tests.{ltb-true, ltb-false}
 use lib.ListN.{length, getD, length-map, List·getD-map}
-use lib.Dec.{eqb, ltb, eqb·suc-zero}
+use lib.Dec.{eqb, ltb}
 use Rattle.system.specs.declared.Most.the-variants.{AtMost}
 use Rattle.system.specs.declared.TaskType.{TaskType}
 use Rattle.system.specs.declared.System.{System}
@@ -22,7 +22,7 @@ use Rattle.partition.specs.Assignment.{Assignment, countOn, loadOn, assi
 use Rattle.partition.specs.Shares.{distinct}
 use Rattle.partition.specs.ForSystem.{goodOn, FeasibleOn, Placed, OnFewest}
 use Rattle.partition.specs.Plain.{typeNo, ceilingNo, columnsOut, LimitsOut, placesNo, Partition, Impossible, hosts, usedTo, RecordIs, recordNo, Stands, StandsOnFewest}
-use Rattle.partition.proofs.Lists.{distinct-enginesTo, enginesTo-last, getD-inside}
+use Rattle.partition.proofs.Lists.{among-counted, distinct-enginesTo, enginesTo-last, getD-inside}
 use Rattle.partition.proofs.Shares.{good-parts}
 use Rattle.partition.proofs.Engines.{usedOf-wider}
 use Rattle.partition.proofs.OwnWords.{counted-on, timeOn-timeOf, memoryOn-memoryOf, sharedMemoryOn-memoryOf, good-is-definition1}
@@ -112,15 +112,6 @@ module _ (y : System) where
   limits-out = ((λ k. limits-told (limits-of y k)), (λ l. limits-keep y (limits-back l)))
 
 -- intermediate: the used engines
-
-among-counted : (places : List ℕ) (e : ℕ) → among places e ≡ not (eqb (countOn e places) 0)
-unfolding among countOn
-among-counted [] e = refl
-among-counted (p ∷ ps) e = go (eqb p e) (among-counted ps e)
-  where
-    go : (b : Bool) → among ps e ≡ not (eqb (countOn e ps) 0) → (b || among ps e) ≡ not (eqb (cond b (suc (countOn e ps)) (countOn e ps)) 0)
-    go true rest = rw (eqb·suc-zero (countOn e ps))
-    go false rest = rest
 
 not-and : (a b : Bool) → (not a || not b) ≡ not (a && b)
 not-and true b = refl

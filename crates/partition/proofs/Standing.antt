@@ -1,26 +1,29 @@
 -- What stands on the engines 1 to m of a system, as a load for each: a newcomer joins an engine, an instance leaves one, all become a recovery,
 -- and in every case what stands is a good assignment within the ceilings.
-use Prim.Native.Nat.{ℕ, zero, suc, _≤_, _<_, zero-le}
+use Prim.Native.Nat.{ℕ, zero, suc, _+_, _-_, _≤_, _<_, zero-le}
 use mathlib.Core.Path.{_≡_, refl, sym, ap, subst, _∙_}
 use mathlib.Core.List.{List, [], _∷_, _++_, map}
 use mathlib.Core.Bool.{Bool, true}
+use mathlib.Core.Logic.{_⊎_, inl, inr, ⊎-elim}
 use native.Mathlib.Nat.{le-of-suc-le-suc, le-trans}
+use native.Mathlib.Numerals.{add-one}
 use native.Mathlib.Omega.{arith}
 use borrow.Author.Tests.{le-leb, eq-eqb, eqb-true}
-use lib.ListN.{length, getD, set, replicate, length-set, length-replicate, List·getD-map}
+use lib.ListN.{length, getD, set, replicate, length-set, length-map, length-append, length-replicate, List·getD-map}
 use lib.Dec.{leb, eqb}
 use Rattle.system.specs.declared.System.{System}
 use Rattle.system.specs.Values.{ceilingsOf}
 use Rattle.system.specs.Limits.{typeLimit}
 use Rattle.system.proofs.Laws.{Limits}
-use Rattle.loads.specs.Load.{fitsEngine, engineWith, idleEngine, emptyLoad, within, plus, oneMore, oneLess}
-use Rattle.loads.proofs.Order.{and-both, within-trans}
+use Rattle.loads.specs.declared.EngineLoad.{EngineLoad}
+use Rattle.loads.specs.Load.{fitsEngine, engineWith, idleEngine, emptyLoad, holdsNone, within, plus, oneMore, oneLess}
+use Rattle.loads.proofs.Order.{and-parts, and-both, within-trans}
 use Rattle.loads.proofs.Laws.{empty-fits, engineWith-idle, within-oneLess, fits-one-less}
 use Rattle.loads.proofs.Change.{getD-plus, length-oneMore, length-oneLess, oneMore-plus, oneLess-plus, plus-oneMore, plus-oneLess, oneMore-within}
-use Rattle.partition.specs.Assignment.{among, every, enginesTo}
+use Rattle.partition.specs.Assignment.{Assignment, countOn, loadOn, among, every, good, enginesTo}
 use Rattle.partition.specs.Shares.{sumOf, distinct, Shares}
 use Rattle.partition.specs.ForSystem.{FeasibleOn, placeable, recoveredFor, Placed}
-use Rattle.partition.proofs.Lists.{every-parts, every-getD, every-replicate}
+use Rattle.partition.proofs.Lists.{every-parts, every-getD, every-replicate, among-tested, tested-among, among-enginesTo, getD-padded, not-both, among-counted}
 use Rattle.partition.proofs.Cells.{length-sumOf}
 use Rattle.partition.proofs.Recovery.{sumOf-padded}
 use Rattle.partition.proofs.ForSystem.{length-ceilings, recoveredFor-shares, length-recoveredFor, shares-placed, placed-feasible}
@@ -112,8 +115,68 @@ pub valid-placed : {y : System} {xs : List (List ℕ)} → Valid y xs → (n : �
 valid-placed {y} {xs} v n =
     shares-placed y (y .engines) xs n (total xs) (v .rows) (length-total v) (record { sized = v .sized; allFit = v .allFit; sums = refl })
 
-pub valid-feasible : {y : System} {xs : List (List ℕ)} → Valid y xs → FeasibleOn y (enginesTo (y .engines)) (total xs)
-valid-feasible v = placed-feasible (valid-placed v 0)
+-- an instance on an engine is counted there
+among-counts : (places : List ℕ) (e : ℕ) → among places e ≡ true → eqb (countOn e places) 0 ≡ true → ⊥
+among-counts places e h k = not-both h (among-counted places e ∙ rw k)
+
+-- an assignment to some engines is one to those of them outside which nothing is
+module _ (es ds : List ℕ) where
+  places-narrowed : (places : List ℕ) → every (among es) places ≡ true → ((e : ℕ) → among es e ≡ true → (among ds e ≡ true) ⊎ (eqb (countOn e places) 0 ≡ true)) → every (among ds) places ≡ true
+  places-narrowed places h w =
+      tested-among (among ds) places (λ e k. ⊎-elim (λ s. s) (λ z. absurd (among-counts places e k z)) (w e (among-tested (among es) places e h k)))
+
+  all-narrowed : (χ : Assignment) → every (every (among es)) χ ≡ true → ((e : ℕ) → among es e ≡ true → (among ds e ≡ true) ⊎ (holdsNone (loadOn e χ) ≡ true)) → every (every (among ds)) χ ≡ true
+  unfolding every holdsNone
+  all-narrowed [] h w = refl
+  all-narrowed (places ∷ χ) h w =
+      let b = every-parts (every (among es)) places χ h in
+      and-both (every (among ds) places) (every (every (among ds)) χ)
+      (places-narrowed places (b .0) (λ e k. ⊎-elim (λ s. inl s) (λ s. inr (and-parts (eqb (countOn e places) 0) (holdsNone (loadOn e χ)) s .0)) (w e k)))
+      (all-narrowed χ (b .1) (λ e k. ⊎-elim (λ s. inl s) (λ s. inr (and-parts (eqb (countOn e places) 0) (holdsNone (loadOn e χ)) s .1)) (w e k)))
+
+  good-narrowed : (test : ℕ → List ℕ → Bool) (χ : Assignment) → every (among es) ds ≡ true → ((e : ℕ) → among es e ≡ true → (among ds e ≡ true) ⊎ (holdsNone (loadOn e χ) ≡ true))
+      → good test es χ ≡ true → good test ds χ ≡ true
+  unfolding good
+  good-narrowed test χ part w h =
+      let b = and-parts (every (every (among es)) χ) (every (λ (e : ℕ). test e (loadOn e χ)) es) h in
+      and-both (every (every (among ds)) χ) (every (λ (e : ℕ). test e (loadOn e χ)) ds) (all-narrowed χ (b .0) w)
+      (tested-among (λ (e : ℕ). test e (loadOn e χ)) ds (λ e k. among-tested (λ (d : ℕ). test d (loadOn d χ)) es e (b .1) (among-tested (among es) ds e part k)))
+
+-- so what stands on the engines 1 to m is a good assignment to those of them outside which nothing stands (request 2026-07)
+module _ {y : System} {xs : List (List ℕ)} (v : Valid y xs) (ds : List ℕ) (known : every (among (enginesTo (y .engines))) ds ≡ true)
+    (idle : (i : ℕ) → i < y .engines → (among ds (suc i) ≡ true) ⊎ (loadIn xs i ≡ emptyLoad)) where
+  nothing : holdsNone emptyLoad ≡ true
+  unfolding holdsNone
+  nothing = refl
+
+  pub served-placed : (n : ℕ) → Placed y ds (total xs) (map (engineWith y) (xs ++ replicate n emptyLoad))
+  served-placed n = record {
+    mapping = whole .mapping;
+    assigns = whole .assigns;
+    isGood = good-narrowed (enginesTo (y .engines)) ds (λ (e : ℕ). fitsEngine y) (whole .mapping) known (λ e h. empty e (among-enginesTo (y .engines) e .0 h)) (whole .isGood);
+    holds = whole .holds;
+  }
+    where
+      whole : Placed y (enginesTo (y .engines)) (total xs) (map (engineWith y) (xs ++ replicate n emptyLoad))
+      whole = valid-placed v n
+
+      inside : (i : ℕ) → i < y .engines → i < length (map (engineWith y) (xs ++ replicate n emptyLoad))
+      inside i h = omega (arith, length-map (xs ++ replicate n emptyLoad) (engineWith y), length-append xs (replicate n emptyLoad), v .rows)
+
+      load-at : (i : ℕ) → i < y .engines → loadOn (i + 1) (whole .mapping) ≡ loadIn xs i
+      load-at i h =
+          ap (λ (l : EngineLoad). l .counts) (sym (whole .holds i (inside i h)) ∙ engine-in y (xs ++ replicate n emptyLoad) i) ∙ getD-padded xs n i emptyLoad
+
+      empty : (e : ℕ) → (1 ≤ e) × (e ≤ y .engines) → (among ds e ≡ true) ⊎ (holdsNone (loadOn e (whole .mapping)) ≡ true)
+      empty zero r = absurd (omega (arith, r .0))
+      empty (suc i) r =
+          let h : i < y .engines = omega (arith, r .1) in
+          ⊎-elim (λ s. inl s)
+          (λ s. inr (subst (λ (e : ℕ). holdsNone (loadOn e (whole .mapping)) ≡ true) (add-one i) (ap holdsNone (load-at i h ∙ s) ∙ nothing)))
+          (idle i h)
+
+  pub served-feasible : FeasibleOn y ds (total xs)
+  served-feasible = placed-feasible (served-placed 0)
 
 -- main: the fresh state
 

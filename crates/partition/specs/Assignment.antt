@@ -40,6 +40,11 @@ unfoldable pub anyOf : {A : Type 0} → (A → Bool) → List A → Bool
 anyOf p [] = false
 anyOf p (x ∷ xs) = p x || anyOf p xs
 
+-- those of a list that pass the test, in order
+unfoldable pub passing : (ℕ → Bool) → List ℕ → List ℕ
+passing p [] = []
+passing p (e ∷ es) = cond (p e) (e ∷ passing p es) (passing p es)
+
 -- document 01's good: each instance is on one of the engines es, and on each of these the load passes the test
 unfoldable pub good : (ℕ → List ℕ → Bool) → List ℕ → Assignment → Bool
 good test es χ = every (every (among es)) χ && every (λ (e : ℕ). test e (loadOn e χ)) es

@@ -24,7 +24,7 @@ use Rattle.partition.specs.Shares.{loadsOn, usedLoads, Shares}
 use Rattle.partition.specs.ForSystem.{goodOn, Placed}
 use Rattle.partition.specs.OwnWords.{overInstances, timeOn}
 use Rattle.partition.specs.Plain.{ceilingNo, EngineOf, hosts, usedTo}
-use Rattle.partition.proofs.Lists.{every-among, among-enginesTo, enginesTo-outside, enginesTo-last, length-enginesTo, distinct-enginesTo, getD-map-enginesTo}
+use Rattle.partition.proofs.Lists.{every-among, among-enginesTo, enginesTo-outside, enginesTo-last, length-enginesTo, distinct-enginesTo, getD-map-enginesTo, getD-padded}
 use Rattle.partition.proofs.Shares.{loadOn-outside, good-parts, good-shares, usedOf-loadsOn}
 use Rattle.partition.proofs.OwnWords.{counted-on, timeOn-timeOf, memoryOn-memoryOf, sharedMemoryOn-memoryOf}
 use Rattle.partition.proofs.ForSystem.{length-ceilings}
@@ -32,8 +32,10 @@ use Rattle.partition.proofs.Standing.{Valid, total, loadIn, valid-placed}
 use Rattle.partition.proofs.Plain.{ceiling-out, hosts-some, usedTo-usedOf, partition-of, partition-assigns, partition-good}
 use Rattle.board.specs.declared.Board.{Board}
 use Rattle.board.specs.Boards.{countsOf, standingOf, standing}
-use Rattle.board.specs.Truth.{trueLoads, trueBoard}
+use Rattle.board.specs.Truth.{trueLoads, trueMarks, trueBoard}
 use Rattle.board.proofs.Truth.{boardOn, engine-on, length-on, standing-on, board-true, truth-of}
+use Rattle.board.proofs.TrueMeans.{served-clear}
+use Rattle.board.proofs.Before.{no-marks}
 use Rattle.sheets.specs.Sheet.{engineBytes, recordsBytes, recordBytes, usedIn, sheetBytes}
 use Rattle.sheets.specs.Meaning.{recordOut, memoryOut, sentTo, hostsOut, sheetOut, GoodForAll}
 use Rattle.sheets.proofs.Putting.{records-more}
@@ -209,6 +211,10 @@ module _ (y : System) (keeps : keepsLimits y ≡ true) (χ : Assignment) (a : As
   abbrev rows : List (List ℕ)
   rows = loadsOn (enginesTo (y .engines)) χ
 
+  -- a sheet knows no marks
+  abbrev clear : List Bool
+  clear = replicate (y .engines) false
+
   sums : total rows ≡ ceilingsOf y
   sums = rw (← six-places) (shares .sums) ∙ a .all
 
@@ -220,10 +226,10 @@ module _ (y : System) (keeps : keepsLimits y ≡ true) (χ : Assignment) (a : As
     ceiling = rw sums (within-refl (ceilingsOf y));
   }
 
-  on-board : loadsOf y χ ≡ boardOn y rows .loads
+  on-board : loadsOf y χ ≡ boardOn y clear rows .loads
   on-board =
-      ext-getD idleEngine (loadsOf y χ) (boardOn y rows .loads) (length-assigned ∙ sym (length-on y rows keeps valid))
-      (λ i h. getD-map-enginesTo (engineOf y χ) engineLimit i idleEngine (omega (arith, length-assigned)) ∙ ap (engineWith y) (at i (ltb i (y .engines)) refl) ∙ sym (engine-on y rows i))
+      ext-getD idleEngine (loadsOf y χ) (boardOn y clear rows .loads) (length-assigned ∙ sym (length-on y clear rows keeps valid))
+      (λ i h. getD-map-enginesTo (engineOf y χ) engineLimit i idleEngine (omega (arith, length-assigned)) ∙ ap (engineWith y) (at i (ltb i (y .engines)) refl) ∙ sym (engine-on y clear rows i))
     where
       at : (i : ℕ) (b : Bool) → ltb i (y .engines) ≡ b → loadOn (suc i) χ ≡ loadIn rows i
       at i true q = sym (getD-map-enginesTo (λ (e : ℕ). loadOn e χ) (y .engines) i emptyLoad (ltb-true i (y .engines) q))
@@ -234,12 +240,13 @@ module _ (y : System) (keeps : keepsLimits y ≡ true) (χ : Assignment) (a : As
   pub assigned-true : trueLoads y (y .engines) (loadsOf y χ) ≡ true
   unfolding trueBoard
   assigned-true =
-      let b = boardOn y rows in
-      let whole = and-parts (keepsLimits y && eqb (length (b .loads)) engineLimit && trueLoads y (y .engines) (b .loads)) (within (standing b) (ceilingsOf y)) (board-true y rows keeps valid) in
+      let b = boardOn y clear rows in
+      let unmarked = and-parts (keepsLimits y && eqb (length (b .loads)) engineLimit && trueLoads y (y .engines) (b .loads) && within (standing b) (ceilingsOf y)) (trueMarks b) (board-true y clear rows keeps valid (served-clear y rows)) in
+      let whole = and-parts (keepsLimits y && eqb (length (b .loads)) engineLimit && trueLoads y (y .engines) (b .loads)) (within (standing b) (ceilingsOf y)) (unmarked .0) in
       rw on-board (and-parts (keepsLimits y && eqb (length (b .loads)) engineLimit) (trueLoads y (y .engines) (b .loads)) (whole .0) .1)
 
   pub assigned-total : standingOf (loadsOf y χ) ≡ ceilingsOf y
-  assigned-total = ap standingOf on-board ∙ standing-on y rows ∙ sums
+  assigned-total = ap standingOf on-board ∙ standing-on y clear rows ∙ sums
 
 -- main: engines that stand so are the loads of a good assignment of all instances
 
@@ -251,18 +258,20 @@ placed-loads y es x ls all p =
 
 -- the board of these engines
 abbrev boardWith : System → List EngineLoad → Board
-boardWith y ls = record { system = y; loads = ls }
+boardWith y ls = record { system = y; loads = ls; marks = replicate engineLimit false }
 
 module _ (y : System) (ls : List EngineLoad) (keeps : keepsLimits y ≡ true) (all : length ls ≡ engineLimit) (are : trueLoads y (y .engines) ls ≡ true) (sum : standingOf ls ≡ ceilingsOf y) where
   is-true : trueBoard (boardWith y ls) ≡ true
   unfolding trueBoard
-  is-true = rw (keeps, eq-eqb (length ls) engineLimit all, are, sum) (within-refl (ceilingsOf y))
+  is-true =
+      rw (keeps, eq-eqb (length ls) engineLimit all, are, sum, within-refl (ceilingsOf y))
+      (no-marks (boardWith y ls) (record { sixteen = refl; none = λ e. getD-padded [] engineLimit (e - 1) false }))
 
   true-placed : Placed y (enginesTo (y .engines)) (ceilingsOf y) ls
   true-placed =
       let t = truth-of (boardWith y ls) is-true in
       subst (Placed y (enginesTo (y .engines)) (ceilingsOf y)) (ap (λ (b : Board). b .loads) (sym (t .same)))
-      (subst (λ (x : List ℕ). Placed y (enginesTo (y .engines)) x (boardOn y (t .rows) .loads)) (sym (t .stands) ∙ sum) (valid-placed (t .valid) (engineLimit - y .engines)))
+      (subst (λ (x : List ℕ). Placed y (enginesTo (y .engines)) x (boardOn y (t .marks) (t .rows) .loads)) (sym (t .stands) ∙ sum) (valid-placed (t .valid) (engineLimit - y .engines)))
 
   pub true-assigned : (χ : Assignment) × Assigns y χ × (ls ≡ loadsOf y χ)
   true-assigned =

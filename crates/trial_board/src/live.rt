@@ -46,7 +46,13 @@ fn called(b: Board, c: Call, table: &mut [u16]) -> Turn {
     if c.kind == 2 {
         return board::retire(b, c.task, c.engine);
     }
-    board::repack(b, table)
+    if c.kind == 3 {
+        return board::repack(b, table);
+    }
+    if c.kind == 4 {
+        return board::withdraw(b, c.engine);
+    }
+    board::restore(b, c.engine)
 }
 
 // The call over the first n entries of a table, or all where it has fewer.
@@ -63,7 +69,8 @@ fn fills(c: Call, code: usize) -> bool {
     packs | (code == 223) | (code == 224)
 }
 
-// The table is unchanged past its entries, or all of it where the call does not fill; with `cells` every cell is compared.
+// The table of y, the system with the engines in service: it is unchanged past its rows, or all of it where the call does not fill; with
+// `cells` every cell is compared.
 fn right_table(y: System, old: [u16; 512], new: [u16; 512], filled: bool, cells: bool) -> bool {
     if !filled {
         return tables::same_from(old, new, 0);
@@ -72,16 +79,20 @@ fn right_table(y: System, old: [u16; 512], new: [u16; 512], filled: bool, cells:
     right & tables::same_from(old, new, recovery::entries_of(y))
 }
 
-// The board is the ledger's: its system, its loads with their sums, idle engines past m.
+// The board is the ledger's: its system, its loads with their sums, its marks, idle engines without a mark past m.
 fn same_board(b: Board, l: Ledger) -> bool {
     let y = b.system;
     let z = l.system;
     let held = b.loads;
     let wanted = l.loads;
-    systems::same_system(y, z) & recovery::same_loads(held, wanted)
+    let out = b.marks;
+    let marks = l.marks;
+    systems::same_system(y, z)
+        & recovery::same_loads(held, wanted)
+        & recovery::same_marks(out, marks)
 }
 
-// One call, on the board and in the ledger.
+// One call, on the board and in the ledger. A table must be long enough for all engines, and is filled for those in service.
 pub fn played(live: Live, c: Call, n: usize, cells: bool) -> Step {
     let b = live.board;
     let y = b.system;
@@ -96,7 +107,7 @@ pub fn played(live: Live, c: Call, n: usize, cells: bool) -> Step {
     let after = turn.board;
     let right = (code == entry.code)
         & same_board(after, next)
-        & right_table(y, old, table, fills(c, code), cells);
+        & right_table(ledger::in_service(l), old, table, fills(c, code), cells);
     Step {
         live: Live {
             board: after,

@@ -1,19 +1,24 @@
-// The four calls against a ledger over brute search: document 01's cases W9 to W12, lists of calls that show what data memory an admit
-// takes and a retire frees and what a q leaves room for, and seven lists made outside this project, with the answers that they give; then
-// many drawn lists of calls, over dirty tables, the same table again, and tables that are too short. After every call the answer, the board
-// and the table are compared. Prints the final board of each list that is given, the counts of the drawn ones, and a line for each call
-// that is answered otherwise.
+// The six calls against a ledger over brute search: document 01's cases W9 to W12, lists of calls that show what data memory an admit
+// takes and a retire frees, what a q leaves room for and what passes over an engine out of service, and lists made outside this project,
+// with the answers that they give; then many drawn lists of calls, over dirty tables, the same table again, and tables that are too short.
+// After every call the answer, the board with its marks and the table are compared. Prints the final board of each list that is given, the
+// counts of the drawn ones, and a line for each call that is answered otherwise.
 mod drawn;
 mod given;
 mod live;
 mod replicas;
 mod scripts;
+mod shown;
 mod vectors;
+mod withdrawn;
 
 fn main() {
     given::say_given();
     vectors::say_vectors();
     replicas::say_replicas();
     vectors::say_most_vectors();
+    withdrawn::say_withdrawn();
+    vectors::say_mark_vectors();
     drawn::say_drawn();
+    drawn::say_drawn_marks();
 }

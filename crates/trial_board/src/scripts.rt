@@ -1,5 +1,6 @@
-// Lists of calls that are given, with their answers: scripts of six bytes for each call. Its kind (a, s, r for retire, p for repack), type and
-// engine, then `@` and the engine that admit answers (0 for another call), or the refusal's number; a space. `-` is no number, `x` is 255.
+// Lists of calls that are given, with their answers: scripts of six bytes for each call. Its kind (a, s, r for retire, p for repack, w for
+// withdraw, b for restore, which puts an engine back), type and engine, then `@` and the engine that admit answers (0 for another call), or
+// the refusal's number; a space. `-` is no number, `x` is 255.
 use crate::live::live_of;
 use crate::live::played;
 use board::Board;
@@ -10,7 +11,8 @@ use std::num::wrapping_add_usize;
 use system::ENGINE_LIMIT;
 use system::System;
 
-fn byte_of(script: &[u8], i: usize) -> u8 {
+// A byte of a text, 0 past its end.
+pub fn byte_of(script: &[u8], i: usize) -> u8 {
     if i < script.len() {
         return script[i];
     }
@@ -27,17 +29,16 @@ fn figure(b: u8) -> usize {
     (b - b'0') as usize
 }
 
-fn kind_of(b: u8) -> usize {
-    if b == b'a' {
-        return 0;
+// The kind of call that a letter stands for.
+pub fn kind_of(b: u8) -> usize {
+    match b {
+        b'a' => 0,
+        b's' => 1,
+        b'r' => 2,
+        b'p' => 3,
+        b'w' => 4,
+        _ => 5,
     }
-    if b == b's' {
-        return 1;
-    }
-    if b == b'r' {
-        return 2;
-    }
-    3
 }
 
 fn scripted(script: &[u8], start: usize) -> Call {
@@ -55,37 +56,56 @@ fn accepted_code(engine: usize) -> usize {
     wrapping_add_usize(1000, engine)
 }
 
-// The code of the answer that a script gives: refusals below 20 come from the input.
+// The tens of a refusal's code: refusals below 20 come from the input, the others of these calls from the state.
+fn tens_of(b: u8) -> usize {
+    match b {
+        b'1' => 110,
+        b'2' => 220,
+        _ => 230,
+    }
+}
+
+// The code of the answer that a script gives.
 fn scripted_code(script: &[u8], start: usize) -> usize {
     let first = byte_of(script, wrapping_add_usize(start, 3));
     let second = figure(byte_of(script, wrapping_add_usize(start, 4)));
     if first == b'@' {
         return accepted_code(second);
     }
-    wrapping_add_usize(if first == b'1' { 110 } else { 220 }, second)
+    wrapping_add_usize(tens_of(first), second)
+}
+
+// A word for an engine that is out of service.
+fn say_mark(out: bool) {
+    if out {
+        say::say(b" out");
+    }
 }
 
 // The engines of a board.
 fn say_board(b: Board) {
     let y = b.system;
     let loads = b.loads;
+    let marks = b.marks;
     for e in 0..ENGINE_LIMIT {
         let l = loads[e];
         if e < y.engines {
             say::say_load(l, y.typecount);
+            say_mark(marks[e]);
         }
     }
     say::say(b"\n");
 }
 
 // A line for a list of at most 64 calls that is given: how many calls, how many of them wrong by the script or the ledger, and the final board.
-pub fn say_script(name: &[u8], file: &[u8], script: &[u8]) {
+// With `cells` every cell of a filled table is compared too.
+fn say_list(name: &[u8], file: &[u8], script: &[u8], cells: bool) {
     let mut live = live_of(file);
     let mut wrong: usize = 0;
     for i in 0..64usize {
         let start = i * 6;
         if start < script.len() {
-            let s = played(live, scripted(script, start), 512, false);
+            let s = played(live, scripted(script, start), 512, cells);
             if (s.code != scripted_code(script, start)) | !s.right {
                 wrong = wrapping_add_usize(wrong, 1);
             }
@@ -100,8 +120,19 @@ pub fn say_script(name: &[u8], file: &[u8], script: &[u8]) {
     say_board(b);
 }
 
+pub fn say_script(name: &[u8], file: &[u8], script: &[u8]) {
+    say_list(name, file, script, false);
+}
+
 pub fn say_script_of(name: &[u8], y: System, script: &[u8]) {
     let f = files::file_of(y);
     let bytes = f.bytes;
-    say_script(name, files::first_of(&bytes, f.size), script);
+    say_list(name, files::first_of(&bytes, f.size), script, false);
+}
+
+// The same with every cell.
+pub fn say_cells_of(name: &[u8], y: System, script: &[u8]) {
+    let f = files::file_of(y);
+    let bytes = f.bytes;
+    say_list(name, files::first_of(&bytes, f.size), script, true);
 }

@@ -1,5 +1,6 @@
-// The calls of a script, four bytes each: its kind (a for admit, m for many admits, s for seat, r for retire, any other for repack), its type,
-// and the engine that it leaves or that is shown after it, then a space. Each answer, what the engine holds after it, and the table at the end.
+// The calls of a script, four bytes each: its kind (a for admit, m for many admits, s for seat, r for retire, p for repack, w for withdraw, any
+// other for restore), its type, and the engine that it leaves, withdraws or puts back or that is shown after it, then a space. Each answer,
+// what the engine holds after it and whether it is out of service, and the table at the end.
 use crate::lent::LONG;
 use crate::lent::OLD;
 use crate::lent::say_table;
@@ -8,8 +9,10 @@ use board::Turn;
 use board::admit;
 use board::open_board;
 use board::repack;
+use board::restore;
 use board::retire;
 use board::seat;
+use board::withdraw;
 use brute::files;
 use brute::say;
 use std::num::wrapping_add_usize;
@@ -28,7 +31,7 @@ fn admit_all(b: Board, t: usize, table: &mut [u16]) -> Turn {
     turn
 }
 
-// The call that a byte stands for: a for admit, m for many admits, s for seat, r for retire, any other for repack.
+// The call that a byte stands for.
 fn called(b: Board, kind: u8, t: usize, e: usize, table: &mut [u16]) -> Turn {
     if kind == b'a' {
         return admit(b, t, table);
@@ -42,7 +45,13 @@ fn called(b: Board, kind: u8, t: usize, e: usize, table: &mut [u16]) -> Turn {
     if kind == b'r' {
         return retire(b, t, e);
     }
-    repack(b, table)
+    if kind == b'p' {
+        return repack(b, table);
+    }
+    if kind == b'w' {
+        return withdraw(b, e);
+    }
+    restore(b, e)
 }
 
 fn byte_of(script: &[u8], i: usize) -> u8 {
@@ -63,9 +72,10 @@ fn number_of(b: u8) -> usize {
     (b - b'0') as usize
 }
 
-// What an engine of a board holds, nothing where there is no such engine.
+// What an engine of a board holds, and whether it is out of service; nothing where there is no such engine.
 fn say_engine(b: Board, e: usize) {
     let loads = b.loads;
+    let marks = b.marks;
     if e == 0 {
         return;
     }
@@ -74,6 +84,9 @@ fn say_engine(b: Board, e: usize) {
     }
     let load = loads[e - 1];
     say::say_load(load, TYPE_LIMIT);
+    if marks[e - 1] {
+        say::say(b" out");
+    }
 }
 
 fn say_kind(kind: u8) {
@@ -82,7 +95,9 @@ fn say_kind(kind: u8) {
         b'm' => say::say(b"admit often"),
         b's' => say::say(b"seat"),
         b'r' => say::say(b"retire"),
-        _ => say::say(b"repack"),
+        b'p' => say::say(b"repack"),
+        b'w' => say::say(b"withdraw"),
+        _ => say::say(b"restore"),
     }
 }
 
@@ -115,8 +130,9 @@ fn say_calls(b: Board, script: &[u8], table: &mut [u16]) {
     }
 }
 
-// A list of calls from the fresh board of a file, over the first entries of a table.
-pub fn say_script(y: System, lent: usize, script: &[u8]) {
+// A list of calls from the fresh board of a file, over the first entries of a table, that lends it while at most so many engines are in
+// service: the last line is of the rows for these.
+pub fn say_rows(y: System, rows: usize, lent: usize, script: &[u8]) {
     let f = files::file_of(y);
     let bytes = f.bytes;
     let mut table: [u16; LONG] = [OLD; LONG];
@@ -132,5 +148,12 @@ pub fn say_script(y: System, lent: usize, script: &[u8]) {
     } else {
         say_calls(board, script, &mut table);
     }
-    say_table(&table, y);
+    let mut filled = y;
+    filled.engines = rows;
+    say_table(&table, filled);
+}
+
+// The same with every engine in service now and then.
+pub fn say_script(y: System, lent: usize, script: &[u8]) {
+    say_rows(y, y.engines, lent, script);
 }

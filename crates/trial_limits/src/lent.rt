@@ -32,7 +32,7 @@ fn entry_before(table: &[u16; LONG], end: usize) -> usize {
     search::wide(table[end - 1])
 }
 
-// A line for a table: the last cell that the system has there, and whether the entries past it are as they were.
+// A line for a table: the last cell that a system of so many engines has there, and whether the entries past it are as they were.
 pub fn say_table(table: &[u16; LONG], y: System) {
     let end = recovery::entries_of(y);
     say::say(b"table");

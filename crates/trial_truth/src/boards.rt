@@ -18,6 +18,7 @@ pub fn sound() -> Board {
     Board {
         system: y,
         loads: loads,
+        marks: [false; ENGINE_LIMIT],
     }
 }
 
@@ -26,6 +27,7 @@ pub fn empty(y: System) -> Board {
     Board {
         system: y,
         loads: [recovery::idle(); ENGINE_LIMIT],
+        marks: [false; ENGINE_LIMIT],
     }
 }
 
@@ -41,6 +43,23 @@ pub fn with_engine(b: Board, e: usize, l: EngineLoad) -> Board {
     if e < 16 {
         c.loads[e] = l;
     }
+    c
+}
+
+// The board with engine e marked, or with all sixteen.
+pub fn with_mark(b: Board, e: usize) -> Board {
+    let mut c = b;
+    if 1 <= e {
+        if e <= 16 {
+            c.marks[e - 1] = true;
+        }
+    }
+    c
+}
+
+pub fn all_marked(b: Board) -> Board {
+    let mut c = b;
+    c.marks = [true; ENGINE_LIMIT];
     c
 }
 
@@ -92,6 +111,7 @@ pub fn stacked_board(rule: u8, memory: u32) -> Board {
     Board {
         system: y,
         loads: loads,
+        marks: [false; ENGINE_LIMIT],
     }
 }
 

@@ -1,4 +1,4 @@
-// The four calls on a board: a line with whether all refuse it 20 and leave everything as it was, or with what they answer.
+// The six calls on a board: a line with whether all refuse it 20 and leave everything as it was, or with what they answer.
 use board::Board;
 use board::Turn;
 use brute::recovery;
@@ -10,7 +10,11 @@ fn same_board(a: Board, b: Board) -> bool {
     let y = b.system;
     let held = a.loads;
     let wanted = b.loads;
-    systems::same_system(x, y) & recovery::same_loads(held, wanted)
+    let out = a.marks;
+    let marks = b.marks;
+    systems::same_system(x, y)
+        & recovery::same_loads(held, wanted)
+        & recovery::same_marks(out, marks)
 }
 
 // Refused 20, with the board as it was.
@@ -29,7 +33,15 @@ fn untouched(table: [u16; 512]) -> bool {
     same
 }
 
-// All four calls refuse the board.
+// The two calls that take an engine out of service and back refuse the board, also where the number is no engine's.
+fn both_refuse(b: Board) -> bool {
+    refuses(board::withdraw(b, 1), b)
+        & refuses(board::restore(b, 1), b)
+        & refuses(board::withdraw(b, 0), b)
+        & refuses(board::restore(b, 17), b)
+}
+
+// All six calls refuse the board.
 fn all_refuse(b: Board) -> bool {
     let mut table: [u16; 512] = [9; 512];
     let admitted = board::admit(b, 1, &mut table);
@@ -40,6 +52,7 @@ fn all_refuse(b: Board) -> bool {
         & refuses(seated, b)
         & refuses(repacked, b)
         & refuses(retired, b)
+        & both_refuse(b)
         & untouched(table)
 }
 
@@ -52,7 +65,17 @@ pub fn say_board(name: &[u8], b: Board) {
     }
 }
 
-// The four answers on a board that is true.
+// What withdraw and restore answer for engine 1.
+fn say_moves(b: Board) {
+    let withdrawn = board::withdraw(b, 1);
+    let restored = board::restore(b, 1);
+    let first = withdrawn.answer;
+    let second = restored.answer;
+    say::say_answer(first);
+    say::say_answer(second);
+}
+
+// The six answers on a board that is true.
 pub fn say_true(name: &[u8], b: Board) {
     let mut table: [u16; 512] = [9; 512];
     let admitted = board::admit(b, 1, &mut table);
@@ -68,5 +91,6 @@ pub fn say_true(name: &[u8], b: Board) {
     say::say_answer(second);
     say::say_answer(third);
     say::say_answer(fourth);
+    say_moves(b);
     say::say(b"\n");
 }

@@ -1,8 +1,9 @@
 // Boards that are not true, one for each way that document 01's row of refusal 20 names, with numbers far past every limit among
-// them, and those that are false by data memory or by a q: each of the four calls must refuse 20, and hand back the board and the table as
-// they were. A line for each board.
+// them, and those that are false by data memory, by a q or by a mark: each of the six calls must refuse 20, and hand back the board and the
+// table as they were. Before them true boards, with what the six calls answer. A line for each board.
 mod boards;
 mod calls;
+mod marks;
 mod replicas;
 
 use boards::crowded;
@@ -26,7 +27,7 @@ use brute::systems;
 use calls::say_board;
 use calls::say_true;
 
-// The boards that the others were made from: on the first two calls are refused 21.
+// The boards that the others were made from: on the first two calls are refused 21. Engine 1 holds something on each but the last.
 fn say_sound() {
     say_true(b"sound:", sound());
     say_true(b"sound with d, rule 0:", stacked_board(0, 19));
@@ -101,8 +102,10 @@ fn say_data() {
 fn main() {
     say_sound();
     replicas::say_kept();
+    marks::say_true_marks();
     say_systems();
     say_loads();
     say_data();
     replicas::say_replicas();
+    marks::say_false_marks();
 }

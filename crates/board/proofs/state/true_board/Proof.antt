@@ -1,4 +1,4 @@
--- The four tests; sixteen engines is what an array has.
+-- The five tests; sixteen engines is what an array has.
 use mathlib.Core.Path.{_≡_}
 use mathlib.Core.Bool.{and-true}
 use lib.ListN.{length}
@@ -22,18 +22,22 @@ true-loads-requires c κs = search needs
 under-ceilings-requires : tie.Need-under-ceilings-requires
 under-ceilings-requires c κs = search needs
 
+true-marks-requires : tie.Need-true-marks-requires
+true-marks-requires c κs = search needs
+
 returns : tie.Need-returns
 unfolding trueBoard
 returns c =
-    let b = c .before .before .before .before .before .before .before .args .b in
+    let b = c .before .before .before .before .before .before .before .before .args .b in
     let l : length (b .loads) ≡ 16 = search (needs, length-mapped) in
     rw (
       eq-eqb _ _ l,
       and-true (keepsLimits (b .system)),
-      c .before .before .keeps-limits .ensures,
-      c .before .true-loads .ensures,
-      c .under-ceilings .ensures,
-      c .before .before .before .total .ensures,
+      c .before .before .before .keeps-limits .ensures,
+      c .before .before .true-loads .ensures,
+      c .before .under-ceilings .ensures,
+      c .before .before .before .before .total .ensures,
+      c .true-marks .ensures,
     )
 
 pub true-board-spec : {M : Type 1} → statement M
@@ -44,4 +48,5 @@ true-board-spec =
     keeps-limits-requires
     true-loads-requires
     under-ceilings-requires
+    true-marks-requires
     returns)

@@ -1,5 +1,6 @@
--- Sixteen idle engines.
+-- Sixteen idle engines, none of them marked.
 use mathlib.Core.Path.{ap}
+use mathlib.Core.Bool.{false}
 use lib.ListN.{replicate}
 use borrow.Author.Needs.{needs}
 use Rattle.loads.specs.declared.EngineLoad.{EngineLoad}
@@ -12,7 +13,7 @@ idle-engine-requires c κs = search needs
 
 returns : tie.Need-returns
 returns c =
-    let made : EngineLoad → Board = λ (l : EngineLoad). record { system = c .before .args .y; loads = replicate 16 l } in
+    let made : EngineLoad → Board = λ (l : EngineLoad). record { system = c .before .args .y; loads = replicate 16 l; marks = replicate 16 false } in
     ap made (c .idle-engine .ensures)
 
 pub empty-board-spec : {M : Type 1} → statement M

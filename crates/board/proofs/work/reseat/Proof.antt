@@ -41,12 +41,12 @@ same-length-2 c = search needs
 
 returns-2 : tie.Need-returns-2
 returns-2 c =
-    let a = c .before .before .before .before .before .before .before .before .before .before .args in
-    let p = c .before .before .before .before .before .place in
-    let on = c .before .before .before .before .before .before .before .engines-of .ensures .1 in
+    let a = c .before .before .before .before .before .before .before .before .before .before .before .args in
+    let p = c .before .before .before .before .before .before .place in
+    let on = c .before .before .before .before .before .before .before .before .engines-of .ensures .1 in
     reseated-placed (a .b) (a .counts) (p .result) (p .ensures .1 ∙ ap (λ (es : List ℕ). placement (a .b .system) es (a .counts)) on) (a .table .now) _ _
     (p .ensures .0 ∙ ap (λ (es : List ℕ). filled (a .b .system) es (a .table .now)) on)
-    (not-false _ (c .before .if1 .left))
+    (not-false _ (c .before .before .if1 .left))
     refl
     refl
 

@@ -23,7 +23,7 @@ element-set-from-next c = search needs
 returns : tie.Need-returns
 returns c =
     let a = c .before .before .args in
-    let made : EngineLoad → Board = λ (l : EngineLoad). record { system = a .b .system; loads = set (a .b .loads) (a .e - 1) l } in
+    let made : EngineLoad → Board = λ (l : EngineLoad). record { system = a .b .system; loads = set (a .b .loads) (a .e - 1) l; marks = a .b .marks } in
     ap made (c .engine-with .ensures)
 
 pub with-load-spec : {M : Type 1} → statement M

@@ -13,6 +13,9 @@ abbrev μ-loop : tie.MeasureT-loop
 loop-holds : tie.Need-loop-holds Inv-loop μ-loop
 loop-holds c = search needs
 
+serves-requires : tie.Need-serves-requires Inv-loop μ-loop
+serves-requires c κs = search needs
+
 load-at-requires : tie.Need-load-at-requires Inv-loop μ-loop
 load-at-requires c κs = search needs
 
@@ -44,6 +47,7 @@ first-engine-spec =
     Inv-loop
     μ-loop
     loop-holds
+    serves-requires
     load-at-requires
     one-more-requires
     fits-one-requires

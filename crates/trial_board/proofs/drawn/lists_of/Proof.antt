@@ -5,10 +5,10 @@ use Rattle.trial_board.proofs.drawn.lists_of.Statement.{statement}
 use Rattle.trial_board.proofs.drawn.lists_of.Tie as tie
 
 abbrev Inv-loop : tie.InvT-loop
-Inv-loop seed number y t₀ i₀ t i = i ≤ number
+Inv-loop seed number y six t₀ i₀ t i = i ≤ number
 
 abbrev μ-loop : tie.MeasureT-loop
-μ-loop seed number y t₀ i₀ t i = number - i
+μ-loop seed number y six t₀ i₀ t i = number - i
 
 no-tally-requires : tie.Need-no-tally-requires Inv-loop μ-loop
 no-tally-requires c κs = search needs

@@ -5,10 +5,10 @@ use Rattle.trial_board.proofs.drawn.with_list.Statement.{statement}
 use Rattle.trial_board.proofs.drawn.with_list.Tie as tie
 
 abbrev Inv-loop : tie.InvT-loop
-Inv-loop y cells live₀ all₀ i₀ live all i = i ≤ 40
+Inv-loop y six cells live₀ all₀ i₀ live all i = i ≤ 40
 
 abbrev μ-loop : tie.MeasureT-loop
-μ-loop y cells live₀ all₀ i₀ live all i = 40 - i
+μ-loop y six cells live₀ all₀ i₀ live all i = 40 - i
 
 file-of-requires : tie.Need-file-of-requires Inv-loop μ-loop
 file-of-requires c κs = search needs

@@ -5,10 +5,10 @@ use Rattle.trial_board.proofs.scripts.say_board.Statement.{statement}
 use Rattle.trial_board.proofs.scripts.say_board.Tie as tie
 
 abbrev Inv-loop : tie.InvT-loop
-Inv-loop y loads e₀ t6 e = e ≤ 16
+Inv-loop y loads marks e₀ t7 e = e ≤ 16
 
 abbrev μ-loop : tie.MeasureT-loop
-μ-loop y loads e₀ t6 e = 16 - e
+μ-loop y loads marks e₀ t7 e = 16 - e
 
 loop-holds : tie.Need-loop-holds Inv-loop μ-loop
 loop-holds c = search needs
@@ -21,6 +21,12 @@ array-copy-out-l c = search needs
 
 say-load-requires : tie.Need-say-load-requires Inv-loop μ-loop
 say-load-requires c κs = search needs
+
+array-read-say-mark : tie.Need-array-read-say-mark Inv-loop μ-loop
+array-read-say-mark c = search needs
+
+say-mark-requires : tie.Need-say-mark-requires Inv-loop μ-loop
+say-mark-requires c κs = search needs
 
 add-e : tie.Need-add-e Inv-loop μ-loop
 add-e c = search needs
@@ -50,6 +56,8 @@ say-board-spec =
     mul-l
     array-copy-out-l
     say-load-requires
+    array-read-say-mark
+    say-mark-requires
     add-e
     loop-less
     loop-again

@@ -1,14 +1,14 @@
 -- The loop's invariant: `i` is at most 64.
 use Prim.Native.Nat.{_-_, _≤_}
 use borrow.Author.Needs.{needs}
-use Rattle.trial_board.proofs.scripts.say_script.Statement.{statement}
-use Rattle.trial_board.proofs.scripts.say_script.Tie as tie
+use Rattle.trial_board.proofs.scripts.say_list.Statement.{statement}
+use Rattle.trial_board.proofs.scripts.say_list.Tie as tie
 
 abbrev Inv-loop : tie.InvT-loop
-Inv-loop name file script live₀ wrong₀ i₀ t10 live wrong i = i ≤ 64
+Inv-loop name file script cells live₀ wrong₀ i₀ t10 live wrong i = i ≤ 64
 
 abbrev μ-loop : tie.MeasureT-loop
-μ-loop name file script live₀ wrong₀ i₀ t10 live wrong i = 64 - i
+μ-loop name file script cells live₀ wrong₀ i₀ t10 live wrong i = 64 - i
 
 live-of-requires : tie.Need-live-of-requires Inv-loop μ-loop
 live-of-requires c κs = search needs
@@ -61,8 +61,8 @@ say-board-requires c κs = search needs
 returns : tie.Need-returns Inv-loop μ-loop
 returns c = search needs
 
-pub say-script-spec : {M : Type 1} → statement M
-say-script-spec =
+pub say-list-spec : {M : Type 1} → statement M
+say-list-spec =
     tie.close
     (tie.spec
     Inv-loop
