@@ -8,3 +8,4 @@ pub mod search;
 pub mod spread;
 pub mod systems;
 pub mod tables;
+pub mod words;

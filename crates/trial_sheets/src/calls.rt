@@ -1,8 +1,8 @@
 // The two calls over tables and buffers that are dirty, and of which a first part is lent; and what was left in them.
 ghost use Prim.Native.Nat.{_<_};
-use crate::text::Bytes;
-use crate::text::CASE_BYTES;
 use brute::files::first_of;
+use brute::words::Bytes;
+use brute::words::CASE_BYTES;
 use sheets::SheetAnswer;
 use sheets::check_sheet;
 use sheets::write_sheet;

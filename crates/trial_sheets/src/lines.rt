@@ -6,25 +6,16 @@ use crate::calls::FEWER;
 use crate::calls::RIGHT;
 use crate::calls::WriteCall;
 use crate::text;
-use crate::text::Bytes;
-use crate::text::CASE_BYTES;
 use crate::text::Case;
 use brute::say::say;
 use brute::say::say_also;
 use brute::say::say_number;
+use brute::words::Bytes;
+use brute::words::CASE_BYTES;
+use brute::words::part;
 use std::num::wrapping_add_u8;
 use std::num::wrapping_add_usize;
 use system::Answer;
-
-// The part of a text between two places, nothing where they are none.
-fn part(text: &[u8], start: usize, end: usize) -> &[u8] {
-    if end <= text.len() {
-        if start <= end {
-            return &text[start..end];
-        }
-    }
-    &text[0..0]
-}
 
 fn say_check(answer: usize) {
     match answer {

@@ -1,19 +1,12 @@
-// The cases as they stand in the text: words parted by one byte, a space or the line's end. Bytes are hexadecimal, numbers decimal; a word with fewer than two
-// digits is no byte.
-ghost use Prim.Native.Nat.{_<_};
-use std::num::wrapping_add_usize;
+// The cases as they stand in the text, a word for each part.
+use brute::words::Bytes;
+use brute::words::after;
+use brute::words::bytes_in;
+use brute::words::number_in;
+use brute::words::word_end;
 
 // The bytes of the text that are read at most.
 pub const TEXT_BYTES: usize = 131072;
-
-// The bytes of the longest file or sheet that a case can have.
-pub const CASE_BYTES: usize = 512;
-
-// Bytes, and how many of them there are.
-pub struct Bytes {
-    pub bytes: [u8; CASE_BYTES],
-    pub size: usize,
-}
 
 // A case: where its name ends, what it lends, the sheet, in how many ways every byte of it is changed, and where the next case starts.
 pub struct Case {
@@ -24,75 +17,6 @@ pub struct Case {
     pub sheet: Bytes,
     pub ways: usize,
     pub next: usize,
-}
-
-// The byte at a place, 0 past the end.
-fn byte_of(text: &[u8], at: usize) -> u8 {
-    if at < text.len() {
-        return text[at];
-    }
-    0
-}
-
-// The end of the word that starts at a place.
-pub fn word_end(text: &[u8], at: usize) -> usize {
-    let mut end = at;
-    while end < text.len() {
-        if text[end] <= 32 {
-            return end;
-        }
-        end += 1;
-    }
-    end
-}
-
-// The value of a digit, 0 for any other byte.
-fn digit(byte: u8) -> usize
-    ensures { λ r. ⌜ r < 16 ⌝ }
-{
-    match byte {
-        48..=57 => byte as usize - 48,
-        97..=102 => byte as usize - 87,
-        _ => 0,
-    }
-}
-
-// The byte whose two digits stand at a place.
-fn two_digits(text: &[u8], at: usize) -> u8 {
-    let high = digit(byte_of(text, at));
-    let low = digit(byte_of(text, wrapping_add_usize(at, 1)));
-    (high * 16 + low) as u8
-}
-
-// The bytes of a word.
-fn bytes_in(text: &[u8], start: usize, end: usize) -> Bytes {
-    let mut bytes: [u8; CASE_BYTES] = [0; CASE_BYTES];
-    let mut size: usize = 0;
-    for i in 0..CASE_BYTES {
-        let at = wrapping_add_usize(start, 2 * i);
-        if wrapping_add_usize(at, 1) < end {
-            bytes[i] = two_digits(text, at);
-            size = i + 1;
-        }
-    }
-    Bytes { bytes, size }
-}
-
-// The number of a word of up to six digits.
-fn number_in(text: &[u8], start: usize, end: usize) -> usize {
-    let mut n: usize = 0;
-    for i in 0..6usize {
-        let at = wrapping_add_usize(start, i);
-        if at < end {
-            n = (n % 100000) * 10 + digit(byte_of(text, at));
-        }
-    }
-    n
-}
-
-// Where the word after the one that ends at a place starts.
-fn after(end: usize) -> usize {
-    wrapping_add_usize(end, 1)
 }
 
 // The case that starts at a place.

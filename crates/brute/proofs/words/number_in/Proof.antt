@@ -1,8 +1,8 @@
 -- The loop's invariant: `i` is at most 6.
 use Prim.Native.Nat.{_-_, _≤_}
 use borrow.Author.Needs.{needs}
-use Rattle.trial_sheets.proofs.text.number_in.Statement.{statement}
-use Rattle.trial_sheets.proofs.text.number_in.Tie as tie
+use Rattle.brute.proofs.words.number_in.Statement.{statement}
+use Rattle.brute.proofs.words.number_in.Tie as tie
 
 abbrev Inv-loop : tie.InvT-loop
 Inv-loop text start end n₀ i₀ n i = i ≤ 6

@@ -1,8 +1,8 @@
 -- The loop's invariant: `i` is at most 512.
 use Prim.Native.Nat.{_-_, _≤_}
 use borrow.Author.Needs.{needs}
-use Rattle.trial_sheets.proofs.text.bytes_in.Statement.{statement}
-use Rattle.trial_sheets.proofs.text.bytes_in.Tie as tie
+use Rattle.brute.proofs.words.bytes_in.Statement.{statement}
+use Rattle.brute.proofs.words.bytes_in.Tie as tie
 
 abbrev Inv-loop : tie.InvT-loop
 Inv-loop text start end bytes₀ size₀ i₀ bytes size i = i ≤ 512

@@ -2,8 +2,8 @@
 use Prim.Native.Nat.{_-_, _≤_}
 use lib.ListN.{length}
 use borrow.Author.Needs.{needs}
-use Rattle.trial_sheets.proofs.text.word_end.Statement.{statement}
-use Rattle.trial_sheets.proofs.text.word_end.Tie as tie
+use Rattle.brute.proofs.words.word_end.Statement.{statement}
+use Rattle.brute.proofs.words.word_end.Tie as tie
 
 abbrev Inv-loop : tie.InvT-loop
 Inv-loop text at end₀ end = at ≤ end
