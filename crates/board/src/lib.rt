@@ -16,9 +16,12 @@ pub use calls::restore;
 pub use calls::retire;
 pub use calls::seat;
 pub use calls::withdraw;
+pub use checks::check_newcomer;
 pub use state::total;
 pub use state::true_board;
 pub use state::true_loads;
+pub use work::engines_of;
+pub use work::with_newcomer;
 
 // A board: the system, each engine's load with its stored time and memory, and whether it is marked, that is, out of service. Engine e is
 // at index e - 1.

@@ -35,7 +35,7 @@ pub fn empty_board(y: System) -> Board
 }
 
 // The engines that instances may be on: those in service, rising.
-fn engines_of(b: Board) -> Engines
+pub fn engines_of(b: Board) -> Engines
     requires { ⌜ trueBoard b ≡ true ⌝ }
     ensures { λ r. ⌜ (r .count ≡ length (enginesOf b)) × (listed r ≡ enginesOf b) ⌝ }
 {

@@ -1,0 +1,78 @@
+-- The loop's invariant: `i` is at most 17408, and the number below 1,000,003.
+use Prim.Native.Nat.{_-_, _≤_, _<_}
+use borrow.Author.Needs.{needs}
+use Rattle.trial_causes.proofs.calls.table_number.Statement.{statement}
+use Rattle.trial_causes.proofs.calls.table_number.Tie as tie
+
+abbrev Inv-loop : tie.InvT-loop
+Inv-loop table number₀ same₀ i₀ number same i = (i ≤ 17408) × (number < 1000003)
+
+abbrev μ-loop : tie.MeasureT-loop
+μ-loop table number₀ same₀ i₀ number same i = 17408 - i
+
+loop-holds : tie.Need-loop-holds Inv-loop μ-loop
+loop-holds c = search needs
+
+mul-number : tie.Need-mul-number Inv-loop μ-loop
+mul-number c = search needs
+
+mul-wide : tie.Need-mul-wide Inv-loop μ-loop
+mul-wide c = search needs
+
+array-read-wide : tie.Need-array-read-wide Inv-loop μ-loop
+array-read-wide c = search needs
+
+wide-requires : tie.Need-wide-requires Inv-loop μ-loop
+wide-requires c κs = search needs
+
+add-number : tie.Need-add-number Inv-loop μ-loop
+add-number c = search needs
+
+mul-same : tie.Need-mul-same Inv-loop μ-loop
+mul-same c = search needs
+
+array-read-same : tie.Need-array-read-same Inv-loop μ-loop
+array-read-same c = search needs
+
+dirt-requires : tie.Need-dirt-requires Inv-loop μ-loop
+dirt-requires c κs = search needs
+
+add-i : tie.Need-add-i Inv-loop μ-loop
+add-i c = search needs
+
+loop-less : tie.Need-loop-less Inv-loop μ-loop
+loop-less c = search needs
+
+loop-again : tie.Need-loop-again Inv-loop μ-loop
+loop-again c = search needs
+
+add-result : tie.Need-add-result Inv-loop μ-loop
+add-result c = search needs
+
+returns : tie.Need-returns Inv-loop μ-loop
+returns c = search needs
+
+returns-2 : tie.Need-returns-2 Inv-loop μ-loop
+returns-2 c = search needs
+
+pub table-number-spec : {M : Type 1} → statement M
+table-number-spec =
+    tie.close
+    (tie.spec
+    Inv-loop
+    μ-loop
+    loop-holds
+    mul-number
+    mul-wide
+    array-read-wide
+    wide-requires
+    add-number
+    mul-same
+    array-read-same
+    dirt-requires
+    add-i
+    loop-less
+    loop-again
+    add-result
+    returns
+    returns-2)

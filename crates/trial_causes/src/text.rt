@@ -1,0 +1,37 @@
+// The cases as they stand in the text, a word for each part.
+use brute::words::Bytes;
+use brute::words::after;
+use brute::words::byte_of;
+use brute::words::bytes_in;
+use brute::words::number_in;
+use brute::words::word_end;
+
+// The bytes of the text that are read at most.
+pub const TEXT_BYTES: usize = 131072;
+
+// A case: where its name ends, whether it is a board, its bytes, the newcomer's type, how many entries are lent, and where the next case starts.
+pub struct Case {
+    pub named: usize,
+    pub board: bool,
+    pub given: Bytes,
+    pub newcomer: usize,
+    pub entries: usize,
+    pub next: usize,
+}
+
+// The case that starts at a place.
+pub fn case_at(text: &[u8], start: usize) -> Case {
+    let named = word_end(text, start);
+    let kind = word_end(text, after(named));
+    let stated = word_end(text, after(kind));
+    let typed = word_end(text, after(stated));
+    let ended = word_end(text, after(typed));
+    Case {
+        named,
+        board: byte_of(text, after(named)) == b'b',
+        given: bytes_in(text, after(kind), stated),
+        newcomer: number_in(text, after(stated), typed),
+        entries: number_in(text, after(typed), ended),
+        next: after(ended),
+    }
+}
