@@ -63,7 +63,7 @@ module _ (y : System) (limits : Limits y) (table : List ℕ) where
   abbrev o : Outcome
   o = planCause (opened y) table
 
-  file-means : CauseMeans y (EngineOf y) (y .engines) (ceilingNo y) (told cause)
+  pub file-means : CauseMeans y (EngineOf y) (y .engines) (ceilingNo y) (told cause)
   file-means =
       subst (λ (r : ℕ). CauseMeans y (EngineOf y) r (ceilingNo y) (told cause)) (length-enginesTo (y .engines))
       (cause-means y limits (enginesTo (y .engines)) (distinct-enginesTo (y .engines)) (every-among (enginesTo (y .engines))) (EngineOf y) (among-enginesTo (y .engines))

@@ -54,7 +54,7 @@ told-back TooMuchMemory = refl
 told-back TooManyReplicas = refl
 told-back NoArrangement = refl
 
-same-cause : (c d : Cause) → told c ≡ told d → c ≡ d
+pub same-cause : (c d : Cause) → told c ≡ told d → c ≡ d
 same-cause c d e = sym (told-back c) ∙ ap asCause e ∙ told-back d
 
 -- main

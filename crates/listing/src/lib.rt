@@ -82,7 +82,7 @@ fn letter(place: usize) -> u8
 }
 
 // Puts a number in decimal.
-fn put_number(out: &mut [u8], at: usize, n: u64) -> usize
+pub fn put_number(out: &mut [u8], at: usize, n: u64) -> usize
     requires { ⌜ at + numberRoom ≤ length (now out) ⌝ }
     ensures { λ r. ⌜ Puts (decimal n) at (now (out .entry)) (now (out .exit)) r × (r ≤ at + numberRoom) ⌝ }
 {
