@@ -1,5 +1,6 @@
 -- The theorems of crate `board`, in the order of their proofs.
 pub mod Places
+pub mod Releases
 pub mod Plain
 pub mod Truth
 pub mod Served

@@ -4,5 +4,6 @@ pub mod Truth
 pub mod Calls
 pub mod Words
 pub mod Meaning
+pub mod Releases
 pub mod Before
 pub mod Inner

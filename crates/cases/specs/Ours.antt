@@ -10,7 +10,7 @@ use Rattle.planner.specs.Plan.{verdictOf, planOutcome, planLoads}
 use Rattle.board.specs.Boards.{openedBoard}
 use Rattle.ledger.specs.Ledger.{Call, admit, seat, retire, repack, withdraw, restore, freshLedger, ledgerAfter}
 use Rattle.ledger.specs.Demand3.{Request, Made, boardAfter, answersOf, played}
-use Rattle.cases.specs.Cases.{platform, taskType, fileB, systemOf, systemA, entryAt, planAnswer, planLines, answers, boardLines, entered, counted, Case, case, number, numbers, lines, outcome, outcomes, done, on}
+use Rattle.cases.specs.Cases.{platform, taskType, fileA, fileB, systemOf, systemA, entryAt, planAnswer, planLines, answers, boardLines, entered, counted, Case, case, number, numbers, lines, outcome, outcomes, done, on}
 
 -- system C: m 4, rule 0, U 10, S 9, and three types, each with n 2: u 5, s 2; u 2, s 3; u 4, s 4
 abbrev pub fileC : List ℕ
@@ -140,4 +140,11 @@ ours =
     -- none in service: no room for anyone, and a repack of nothing
     ∷ case 16 (outcomes (answers (fileF 1 noQ 0) (withdraw 1 ∷ admit 1 ∷ seat 1 ∷ repack ∷ []))) (outcomes (done ∷ refused fromState 24 ∷ refused fromState 24 ∷ done ∷ []))
     ∷ case 16 (outcomes (entered (fileF 1 noQ 0) (withdraw 1 ∷ admit 1 ∷ seat 1 ∷ repack ∷ []))) (outcomes (done ∷ refused fromState 24 ∷ refused fromState 24 ∷ done ∷ []))
+    -- two releases on one card (request 2026-09), as plans: the sum is met, and the larger is met
+    ∷ case 17 (outcomes (planAnswer (fileA 3 2 0) ∷ planAnswer (fileA 3 1 2) ∷ planAnswer (fileA 3 3 2) ∷ [])) (outcomes (on 1 ∷ on 1 ∷ on 2 ∷ []))
+    ∷ case 17 (outcomes (planAnswer (fileA 3 2 1) ∷ planAnswer (fileA 3 0 1) ∷ planAnswer (fileA 3 2 2) ∷ [])) (outcomes (on 2 ∷ on 1 ∷ on 2 ∷ []))
+    -- the same file under rule 0 and under rule 1: without data, with a d of 1, with a d of 3
+    ∷ case 18 (outcomes (planAnswer (fileD 0 0) ∷ planAnswer (fileD 1 0) ∷ [])) (outcomes (on 4 ∷ on 1 ∷ []))
+    ∷ case 18 (outcomes (planAnswer (fileD 0 1) ∷ planAnswer (fileD 1 1) ∷ [])) (outcomes (on 4 ∷ on 2 ∷ []))
+    ∷ case 18 (outcomes (planAnswer (fileD 0 3) ∷ planAnswer (fileD 1 3) ∷ [])) (outcomes (on 4 ∷ on 4 ∷ []))
     ∷ []

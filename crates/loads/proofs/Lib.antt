@@ -4,3 +4,4 @@ pub mod Laws
 pub mod Change
 pub mod Column
 pub mod Steps
+pub mod Rules

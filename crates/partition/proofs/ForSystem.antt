@@ -50,10 +50,10 @@ module _ (y : System) (limits : Limits y) where
   ground = record { emptyFits = zeros-fit y (length (ceilingsOf y)); room = omega (arith, limits .columns) }
 
   module _ (es : List ℕ) (apart : distinct es ≡ true) (x : List ℕ) (six : length x ≡ typeLimit) (inside : within x (ceilingsOf y) ≡ true) where
-    column-small : columnOf (ceilingsOf y) x < columnsOf (ceilingsOf y)
+    pub column-small : columnOf (ceilingsOf y) x < columnsOf (ceilingsOf y)
     column-small = columnOf-lt (ceilingsOf y) x inside
 
-    column-load : loadOf (ceilingsOf y) (columnOf (ceilingsOf y) x) ≡ x
+    pub column-load : loadOf (ceilingsOf y) (columnOf (ceilingsOf y) x) ≡ x
     column-load = loadOf-columnOf (ceilingsOf y) x (six ∙ sym length-ceilings) inside
 
     -- main: the cells and brute force decide the same

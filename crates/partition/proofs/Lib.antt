@@ -12,3 +12,7 @@ pub mod Theorems
 pub mod ForSystem
 pub mod Standing
 pub mod Plain
+pub mod Together
+pub mod Releases
+pub mod ReleaseSheets
+pub mod ReleasesShown

@@ -152,7 +152,7 @@ usedTo-usedOf (suc m) χ =
 
 -- main: partitions are good assignments, for engines es of 1 to m; `E` says which they are
 
-lists-same : (l k : List ℕ) → length l ≡ length k → ((i : ℕ) → getD l i 0 ≡ getD k i 0) → l ≡ k
+pub lists-same : (l k : List ℕ) → length l ≡ length k → ((i : ℕ) → getD l i 0 ≡ getD k i 0) → l ≡ k
 lists-same [] [] l h = refl
 lists-same [] (b ∷ k) l h = absurd (omega arith)
 lists-same (a ∷ l) [] n h = absurd (omega arith)
@@ -187,7 +187,7 @@ module _ (y : System) (rule : y .rule ≤ 1) (es : List ℕ) (apart : distinct e
   feasible-out =
       ((λ f. (f .mapping, partition-of (f .mapping) (f .assigns) (f .isGood))), (λ (χ, p). record { mapping = χ; assigns = partition-assigns χ p; isGood = partition-good χ p }))
 
-  used-out : (χ : Assignment) → goodOn y es χ ≡ true → usedTo (y .engines) χ ≡ usedOf es χ
+  pub used-out : (χ : Assignment) → goodOn y es χ ≡ true → usedTo (y .engines) χ ≡ usedOf es χ
   used-out χ g =
       usedTo-usedOf (y .engines) χ
       ∙ usedOf-wider es (enginesTo (y .engines)) χ apart (distinct-enginesTo (y .engines)) known (good-parts (λ (e : ℕ). fitsEngine y) es χ g .0)

@@ -6,3 +6,5 @@ pub mod Cell
 pub mod Shares
 pub mod ForSystem
 pub mod Plain
+pub mod Releases
+pub mod ReleaseCases

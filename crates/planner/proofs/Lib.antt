@@ -6,3 +6,4 @@ pub mod Exits
 pub mod Cases
 pub mod Demands
 pub mod Listed
+pub mod Releases

@@ -7,6 +7,7 @@ pub mod Writable
 pub mod Written
 pub mod Read
 pub mod Exactly
+pub mod RuleByte
 pub mod Tests
 pub mod Order
 pub mod Promises

@@ -2,3 +2,4 @@
 pub mod File
 pub mod Writing
 pub mod Meaning
+pub mod RuleByte
