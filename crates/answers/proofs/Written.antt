@@ -24,13 +24,14 @@ use Rattle.system.proofs.Prefix.{read-prefix}
 use Rattle.partition.specs.Assignment.{Assignment}
 use Rattle.partition.specs.Plain.{ceilingNo, EngineOf, LongEnough, Impossible, usedTo}
 use Rattle.table.proofs.Shown.{long-enough-out}
+use Rattle.planner.specs.Demands.{PlanPromises}
 use Rattle.planner.specs.Plan.{Verdict, planned, unplanned, judged, verdictOf, planLoads}
 use Rattle.planner.proofs.Cases.{canPlace, on-fewest, length-loads, Case, tooShort, tooSmall, noPlace, isPlanned, caseOf}
 use Rattle.sheets.specs.Sheet.{sheetBytes}
 use Rattle.sheets.specs.Writing.{sheetVerdict, planSheet, writeOutcome, writtenTo, writeTable}
-use Rattle.sheets.specs.Meaning.{sheetOut, GoodForAll, SheetWritten, WritePromises}
+use Rattle.sheets.specs.Meaning.{sheetOut, GoodForAll, SheetWritten, OfPlan, WriteSheetPromises}
 use Rattle.sheets.proofs.Sizes.{sheet-room}
-use Rattle.sheets.proofs.Writes.{promises-written, size-planned}
+use Rattle.sheets.proofs.Writes.{promises-written, size-planned, of-plan}
 use Rattle.listing.specs.Listing.{refusalLine}
 use Rattle.listing.specs.Demands.{TellsRefusal, numberOf, RefusalPromises}
 use Rattle.listing.specs.Text.{readingVerdict}
@@ -99,6 +100,12 @@ module _ (file : List ℕ) (y : System) (opens : readFile file ≡ opened y) whe
   given-by (noPlace room enough none) is χ good = absurd (none χ good)
   given-by (isPlanned room enough can) is χ good = sheet-planned file y opens is
 
+  plan-by : {v : Verdict} {after : List ℕ} → Case y spare engineLimit v after → (χ : Assignment) → GoodForAll y χ → OfPlan (opened y) (verdictSheet v)
+  plan-by (tooShort less) χ good = absurd (omega (arith, less, long))
+  plan-by (tooSmall room small) χ good = absurd (omega (arith, small, limits-of y keeps .engines))
+  plan-by (noPlace room enough none) χ good = absurd (none χ good)
+  plan-by (isPlanned room enough can) χ good = of-plan y keeps can
+
 tells-over : (file : List ℕ) → TellsPlanned file (verdictSheet (sheetVerdict (readFile file) spare))
 tells-over file = record {
   unreadable = λ n e. unfold verdictOf in rw e (number-told n);
@@ -106,10 +113,20 @@ tells-over file = record {
   given = λ y e χ good. rw e (given-by file y e (caseOf y (read-limits file y e) spare engineLimit) (ap (λ (x : Reading). sheetVerdict x spare) e) χ good);
 }
 
+plan-over : (file : List ℕ) → OfPlan (readFile file) (verdictSheet (sheetVerdict (readFile file) spare))
+plan-over file y p table room after used e q o =
+    let found = q .demand2 .given y used e o .stands in
+    let same : PlanPromises (opened y) table room p after = subst (λ (x : Reading). PlanPromises x table room p after) e q in
+    rw e (plan-by file y e (caseOf y (read-limits file y e) spare engineLimit) (found .mapping) (found .partition) y p table room after used refl same o)
+
 -- main: what a reader finds
 
 pub tells-planned : (file : List ℕ) → TellsPlanned file (sheetText file)
 tells-planned file = subst (λ (v : Verdict). TellsPlanned file (verdictSheet v)) (sheet-any-table file spare spare-long) (tells-over file)
+
+-- it is the sheet of the plan that is given
+pub same-plan : (file : List ℕ) → OfPlan (readFile file) (sheetText file)
+same-plan file = subst (λ (v : Verdict). OfPlan (readFile file) (verdictSheet v)) (sheet-any-table file spare spare-long) (plan-over file)
 
 -- and the check says that it is right, on the fewest engines
 pub own-right : (file : List ℕ) (y : System) → readFile file ≡ opened y → (χ : Assignment) → GoodForAll y χ → checkText file (sheetText file) ≡ rightText false
@@ -182,9 +199,9 @@ no-accepted (planned y) room o = go (ltb room (length (planSheet (planned y)))) 
     go false o = let z : _≡_ {A = ℕ} 0 1 = cc in omega arith
 
 sheet-promised : (file : List ℕ) {old new : List ℕ} {r : ℕ} → Written (sheetText file) old new r → SheetPromises file old new r
-sheet-promised file w = record { written = w; tells = tells-planned file; isRight = own-right file }
+sheet-promised file w = record { written = w; tells = tells-planned file; isRight = own-right file; samePlan = same-plan file }
 
-module _ (file : List ℕ) {table old : List ℕ} {answer : Answer} {after mid : List ℕ} (size : 17 * 1024 ≤ length table) (room : length old ≡ 4096) (p : WritePromises (readFile file) table old answer after mid) where
+module _ (file : List ℕ) {table old : List ℕ} {answer : Answer} {after mid : List ℕ} (size : 17 * 1024 ≤ length table) (room : length old ≡ 4096) (p : WriteSheetPromises (readFile file) table old answer after mid) where
   same : sheetVerdict (readFile file) table ≡ readingVerdict (readFile file)
   same = sheet-any-table file table size
 

@@ -13,7 +13,7 @@ use Rattle.partition.specs.Assignment.{Assignment}
 use Rattle.partition.specs.Plain.{ceilingNo, EngineOf, Impossible}
 use Rattle.planner.specs.Plan.{Verdict, planned, unplanned}
 use Rattle.sheets.specs.Writing.{planSheet}
-use Rattle.sheets.specs.Meaning.{sheetOut, GoodForAll, OnFewest}
+use Rattle.sheets.specs.Meaning.{sheetOut, GoodForAll, GoodOnFewest, OfPlan}
 use Rattle.listing.specs.Listing.{refusalLine}
 use Rattle.listing.specs.Demands.{TellsRefusal}
 use Rattle.listing.specs.Text.{readingVerdict}
@@ -30,7 +30,7 @@ sheetText file = verdictSheet (readingVerdict (readFile file))
 -- the bytes of the sheet of a good assignment of all instances on the fewest engines
 pub record TellsSheet (y : System) (text : List ℕ) : Type 0 where
   pub mapping : Assignment
-  pub onFewest : OnFewest y mapping
+  pub onFewest : GoodOnFewest y mapping
   pub bytes : text ≡ sheetOut y mapping
 
 -- what a reader finds: why the file does not read, `refused 12` exactly where there is no good assignment, else such a sheet
@@ -39,11 +39,13 @@ pub record TellsPlanned (file text : List ℕ) : Type 0 where
   pub impossible : (y : System) → readFile file ≡ opened y → TellsRefusal 12 text ↔ Impossible y (EngineOf y) (ceilingNo y)
   pub given : (y : System) → readFile file ≡ opened y → (χ : Assignment) → GoodForAll y χ → TellsSheet y text
 
--- what the call `sheet_of` promises of its result and the buffer; where it is a sheet, the check says `right` of it and no more
+-- what the call `sheet_of` promises of its result and the buffer; where it is a sheet, the check says `right` of it and no more,
+-- and it is that of the plan that `plan_of` gives, as `./plan` lists it (listing/specs/Text, `samePlan`)
 pub record SheetPromises (file old new : List ℕ) (r : ℕ) : Type 0 where
   pub written : Written (sheetText file) old new r
   pub tells : TellsPlanned file (sheetText file)
   pub isRight : (y : System) → readFile file ≡ opened y → (χ : Assignment) → GoodForAll y χ → checkText file (sheetText file) ≡ rightText false
+  pub samePlan : OfPlan (readFile file) (sheetText file)
 
 -- what the call `sheet_read` promises: the same of every file, whatever its length, of whose first bytes, as many as `front` has room for, just these were read
 pub record ReadPromises (front : List ℕ) (read : ℕ) (old new : List ℕ) (r : ℕ) : Type 0 where

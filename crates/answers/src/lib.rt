@@ -1,12 +1,11 @@
 // What the programs `sheet` and `sheet_check` write: the sheet of a system file, and what is said of a sheet. Each table is the function's own and long enough for every system.
 // The line of a refusal, with its word, is crate `listing`'s.
-ghost use mathlib.Core.Path.{_≡_};
-ghost use Prim.Native.Nat.{min};
 ghost use lib.ListN.{take};
 ghost use Rattle.buffer.specs.Written.{Written};
 ghost use Rattle.sheets.specs.Checking.{sheetOutcomeOf};
 ghost use Rattle.answers.specs.Sheets.{SheetPromises, ReadPromises};
 ghost use Rattle.answers.specs.Checks.{rightText, lineOf, CheckPromises, JoinedPromises};
+use buffer::least;
 use buffer::put_bytes;
 use listing::write_refusal;
 use sheets::SheetAnswer;
@@ -27,13 +26,6 @@ const PART_BYTES: usize = 4096;
 
 // The most bytes of a file and a sheet that are joined, the file's length in front.
 pub const JOINED_BYTES: usize = LENGTH_BYTES + PART_BYTES + PART_BYTES;
-
-// The smaller of two numbers.
-fn least(a: usize, b: usize) -> usize
-    ensures { λ r. ⌜ r ≡ min a b ⌝ }
-{
-    if a < b { a } else { b }
-}
 
 // Writes the sheet of a system file at the start of the buffer, or the line of a refusal, and answers how many bytes that has.
 pub fn sheet_of(file: &[u8], out: &mut [u8; 4096]) -> usize

@@ -21,20 +21,21 @@ use Rattle.loads.proofs.Order.{and-both, holdsNone-is-zero}
 use Rattle.partition.specs.Assignment.{among, every, enginesTo}
 use Rattle.partition.specs.Cell.{recovery}
 use Rattle.partition.specs.Shares.{distinct, rowOn}
-use Rattle.partition.specs.ForSystem.{FeasibleOn, placeable, rowsFor, recoveredFor, OnFewest}
-use Rattle.partition.specs.Plain.{LongEnough, recordNo}
+use Rattle.partition.specs.ForSystem.{FeasibleOn, placeable, rowFor, rowsFor, recoveredFor, OnFewest}
+use Rattle.partition.specs.Plain.{LongEnough, recordNo, HoldsNothing}
 use Rattle.partition.proofs.Lists.{not-both, among-enginesTo, length-enginesTo, tested-among, getD-map-enginesTo, getD-padded}
 use Rattle.partition.proofs.Recovery.{length-recovery}
 use Rattle.partition.proofs.ForSystem.{feasible-iff-placeable, recoveredFor-shares, recoveredFor-uses, recovered-on-fewest}
 use Rattle.partition.proofs.Standing.{Valid, total, loadIn, length-total, length-loadIn, count-le-sum, served-feasible, total-joined, valid-joined, total-left, valid-left, total-recovered, valid-recovered}
 use Rattle.partition.proofs.Plain.{ceiling-out, columns-out, feasible-out, impossible-out, fewest-out}
 use Rattle.table.specs.Table.{longEnough, filled}
-use Rattle.table.specs.Meaning.{FilledMeans}
+use Rattle.table.specs.Meaning.{columnNo, FilledMeans, RecoveredBy}
 use Rattle.table.proofs.Meaning.{filled-means}
+use Rattle.table.proofs.RecoveredBy.{recovered-by}
 use Rattle.board.specs.declared.Board.{Board}
 use Rattle.board.specs.Truth.{trueBoard}
 use Rattle.board.specs.Calls.{Result, result, knownType, knownEngine, admitOf, seatOf, retireOf, repackOf, withdrawOf, restoreOf}
-use Rattle.board.specs.Words.{countAt, standsNo, plusOne, usedRecords, HoldsNothing, IsType, IsEngine, markNo, EngineIn, servingTo, servingAll, HoldsType, BelowCeiling, TakesType, Room, NoRoom, OneMoreOn, MarkOn, IsTrue, loadOut, IsRecovery, Packed}
+use Rattle.board.specs.Words.{countAt, standsNo, plusOne, usedRecords, IsType, IsEngine, markNo, EngineIn, servingTo, servingAll, HoldsType, BelowCeiling, TakesType, Room, NoRoom, OneMoreOn, MarkOn, IsTrue, loadOut, IsRecovery, RecoveredOn, Packed}
 use Rattle.board.specs.Meaning.{AdmitMeans, SeatMeans, RetireMeans, RepackMeans, WithdrawMeans, RestoreMeans}
 use Rattle.board.proofs.Places.{engines-distinct, engines-known, engines-count, engines-in, engines-number, engine-of, row-serving}
 use Rattle.board.proofs.Plain.{load-out, fits-same, fits-out, out-fits, used-out, more-out, less-out}
@@ -193,6 +194,13 @@ module _ (y : System) (ms : List Bool) (xs : List (List ℕ)) (keeps : keepsLimi
           ap (λ (i : ℕ). countAt b i u) (eqb-true d e q) ∙ count-out y ms xs keeps v served e u ∙ less-out t (type-range t k .0) (loadIn xs (e - 1)) held u up
       go d u up false q = sym (add-zero (countAt b d u))
 
+  -- the table that a call filled
+  abbrev Full : List ℕ → List ℕ → Type 0
+  Full table left = FilledMeans y (servingAll b) table left
+
+  full-on : (table : List ℕ) → LongEnough y table → Full table (filled y es table)
+  full-on table long = rw (engines-number b) (filled-means y limits (servingAll b) table (omega (arith, engines-number b, engines-count b)) long)
+
   -- a load packed on the fewest engines
 
   module _ (x : List ℕ) (l : length x ≡ typeLimit) (w : within x (ceilingsOf y) ≡ true) (can : placeable y es x ≡ true)
@@ -224,14 +232,11 @@ module _ (y : System) (ms : List Bool) (xs : List (List ℕ)) (keeps : keepsLimi
         sized = recoveredFor-shares y limits es apart x l w can engineLimit wide .sized
 
     -- an engine in service has the row of its place among them
-    recovery-on : IsRecovery b count (boardOn y ms rows)
-    recovery-on e t serves up =
+    row-on : (e t : ℕ) → EngineIn b e → countAt (boardOn y ms rows) e t ≡ getD (getD (rowsFor y es x) (servingTo b e - 1) []) (t - 1) 0
+    row-on e t serves =
         count-out y ms rows keeps rows-valid rows-served e t
         ∙ ap (λ (z : List ℕ). getD z (t - 1) 0) row
         ∙ default-same (rowsFor y es x) (servingTo b e - 1) (t - 1)
-        ∙ ap (λ (z : List ℕ). getD (getD (rowsFor y es z) (servingTo b e - 1) []) (t - 1) 0) (load-out x count l counts)
-        ∙ ap (λ (n : ℕ). getD (getD (recovery (fitsEngine y) (ceilingsOf y) n (columnOf (ceilingsOf y) (loadOut count))) (servingTo b e - 1) []) (t - 1) 0)
-        (engines-number b ∙ sym (length-enginesTo (servingAll b)))
       where
         low : 1 ≤ e
         low = serves .isEngine .0
@@ -248,6 +253,41 @@ module _ (y : System) (ms : List Bool) (xs : List (List ℕ)) (keeps : keepsLimi
             ∙ ap (rowOn emptyLoad es (rowsFor y es x)) number
             ∙ row-serving b emptyLoad (rowsFor y es x) e serves
 
+    recovery-on : IsRecovery b count (boardOn y ms rows)
+    recovery-on e t serves up =
+        row-on e t serves
+        ∙ ap (λ (z : List ℕ). getD (getD (rowsFor y es z) (servingTo b e - 1) []) (t - 1) 0) (load-out x count l counts)
+        ∙ ap (λ (n : ℕ). getD (getD (recovery (fitsEngine y) (ceilingsOf y) n (columnOf (ceilingsOf y) (loadOut count))) (servingTo b e - 1) []) (t - 1) 0)
+        (engines-number b ∙ sym (length-enginesTo (servingAll b)))
+
+    -- read in the filled table
+    recovered-in : (table : List ℕ) → LongEnough y table → RecoveredOn b (filled y es table) count (boardOn y ms rows)
+    recovered-in table long = record {
+      row = row;
+      reads = subst (λ (n : ℕ). RecoveredBy y (filled y es table) n count row) uses (record { column = r .column; starts = r .starts ∙ column-same; says = r .says; lowestRow = r .lowestRow; down = r .down; gets = r .gets });
+      holds = λ e t serves low. row-on e t serves;
+    }
+      where
+        row : ℕ → ℕ → ℕ
+        row i t = getD (getD (rowsFor y es x) (i - 1) []) (t - 1) 0
+
+        r : RecoveredBy y (filled y es table) (rowFor y es x) (λ (t : ℕ). getD x (t - 1) 0) (λ (i t : ℕ). getD (getD (rowsFor y es x) (i - 1) []) (t - 1) 0)
+        r =
+            recovered-by y limits (length es) (filled y es table) (λ i c h k. full-on table long .cells i c (omega (arith, engines-number b)) k)
+            x l w (leb-true (rowFor y es x) (length es) can)
+
+        column-same : columnNo y (λ (t : ℕ). getD x (t - 1) 0) ≡ columnNo y count
+        column-same =
+            rw (counts 1 (omega arith), counts 2 (omega arith), counts 3 (omega arith), counts 4 (omega arith), counts 5 (omega arith), counts 6 (omega arith))
+
+        wide-six : every (λ (z : List ℕ). eqb (length z) 6) (recoveredFor engineLimit y es x) ≡ true
+        wide-six = recoveredFor-shares y limits es apart x l w can engineLimit wide .sized
+
+        uses : rowFor y es x ≡ usedRecords (boardOn y ms rows .loads)
+        uses =
+            sym (used-out y (recoveredFor engineLimit y es x) wide-six ∙ recoveredFor-uses y limits es apart x l w can engineLimit wide)
+            ∙ ap (λ (after : Board). usedRecords (after .loads)) (recovered-padded y ms xs keeps v served x l w can)
+
     packed-on : Packed b count (boardOn y ms rows)
     packed-on = record {
       isTrue = true-on y ms rows keeps rows-valid rows-served;
@@ -258,13 +298,6 @@ module _ (y : System) (ms : List Bool) (xs : List (List ℕ)) (keeps : keepsLimi
           fewest-out y (limits .rule) es apart (engines-known b) (EngineIn b) (engines-in b) x l count counts (boardOn y ms rows .loads) (usedRecords (boardOn y ms rows .loads)) fewest-on;
       recovery = recovery-on;
     }
-
-  -- the table that a call filled
-  abbrev Full : List ℕ → List ℕ → Type 0
-  Full table left = FilledMeans y (servingAll b) table left
-
-  full-on : (table : List ℕ) → LongEnough y table → Full table (filled y es table)
-  full-on table long = rw (engines-number b) (filled-means y limits (servingAll b) table (omega (arith, engines-number b, engines-count b)) long)
 
   -- main: admit
 
@@ -372,7 +405,7 @@ module _ (y : System) (ms : List Bool) (xs : List (List ℕ)) (keeps : keepsLimi
   Seats t o = BelowCeiling b t → (isAccepted o ≡ true) ↔ Room b t
 
   refused-seat : (t : ℕ) (table : List ℕ) (o : Source) (n : ℕ) (left : List ℕ) → Seats t (refused o n) → Says24 t (refused o n) → (BelowCeiling b t → Full table left) → SeatMeans b t table (result (refused o n) b left)
-  refused-seat t table o n left p q full = record { seats = p; noRoom = q; answer = λ h. absurd (false≢true h); packs = λ h. absurd (false≢true h); leftFilled = full }
+  refused-seat t table o n left p q full = record { seats = p; noRoom = q; answer = λ h. absurd (false≢true h); packs = λ h. absurd (false≢true h); recovers = λ h. absurd (false≢true h); leftFilled = full }
 
   seat-by : (t : ℕ) (table : List ℕ) (r : Result) → LongEnough y table → SeatView y ms xs t table r → SeatMeans b t table r
   seat-by t table r long (SeatView.unknown k s) =
@@ -388,6 +421,7 @@ module _ (y : System) (ms : List Bool) (xs : List (List ℕ)) (keeps : keepsLimi
         noRoom = not-24 t (accepted []) n (can-place t n can) (λ z. cc);
         answer = λ h. refl;
         packs = λ h. packed-on (withOne xs t) (length-withOne y ms xs keeps v served t) (withOne-within y ms xs keeps v served t n) can (plusOne t (standsNo b)) (with-out t (n .known));
+        recovers = λ h. recovered-in (withOne xs t) (length-withOne y ms xs keeps v served t) (withOne-within y ms xs keeps v served t n) can (plusOne t (standsNo b)) (with-out t (n .known)) table long;
         leftFilled = λ h. full-on table long;
       })
   seat-by t table r long (SeatView.noRoom n cannot s) =
@@ -460,6 +494,7 @@ module _ (y : System) (ms : List Bool) (xs : List (List ℕ)) (keeps : keepsLimi
       (record {
         repacks = refl;
         packs = packed-on (total xs) (length-total v) (v .ceiling) (total-placeable y ms xs keeps v served) (standsNo b) (λ t low. sym (stands-on y ms xs keeps v served t));
+        recovers = recovered-in (total xs) (length-total v) (v .ceiling) (total-placeable y ms xs keeps v served) (standsNo b) (λ t low. sym (stands-on y ms xs keeps v served t)) table long;
         leftFilled = full-on table long;
       })
 

@@ -14,7 +14,7 @@ use Rattle.system.specs.declared.System.{System}
 use Rattle.system.specs.Values.{noTask}
 use Rattle.system.specs.Limits.{typeLimit}
 use Rattle.loads.specs.declared.EngineLoad.{EngineLoad}
-use Rattle.loads.specs.Load.{sumOver, timeAt, timeOf, memoryAt, memoryOf, apart, fitsEngine, holdsNone, engineWith, idleEngine, oneMore, oneLess}
+use Rattle.loads.specs.Load.{sumOver, timeAt, timeOf, memoryAt, memoryOf, fitsEngine, holdsNone, engineWith, idleEngine, oneMore, oneLess}
 use Rattle.loads.proofs.Laws.{own-all, apart-entries, fits-of, fits-time, fits-memory, fits-apart}
 use Rattle.loads.proofs.Change.{getD-plus, getD-oneMore, getD-oneLess}
 use Rattle.partition.specs.Assignment.{every}

@@ -1,9 +1,11 @@
 -- What each call promises besides the equation with its definition: demand 1, the order of the refusals, and its meaning for a true board. All hold of the definition,
 -- so of what the call gave.
-use Prim.Native.Nat.{ℕ}
+use Prim.Native.Nat.{ℕ, _≤_}
 use mathlib.Core.Path.{_≡_, sym, ap, subst, _∙_}
 use mathlib.Core.List.{List, []}
+use native.Mathlib.Omega.{arith}
 use Rattle.system.specs.declared.System.{System}
+use Rattle.system.specs.Values.{blank}
 use Rattle.system.specs.Layout.{readFile, readOutcome, opened}
 use Rattle.system.specs.Outcome.{Outcome}
 use Rattle.system.proofs.Laws.{read-keeps-limits}
@@ -20,12 +22,18 @@ use Rattle.board.proofs.Order.{admit-in-order, seat-in-order, retire-in
 use Rattle.board.proofs.Exits.{of-given}
 
 -- opening
+
+-- the blank board has no engine, and no true board is so
+blank-untrue : IsTrue (emptyBoard blank) → ⊥
+blank-untrue w = let some : 1 ≤ 0 = w .limits .engines .0 in omega (arith, some)
+
 pub open-means : (file : List ℕ) (o : Outcome) (b : Board) → o ≡ readOutcome (readFile file) → b ≡ openedBoard (readFile file) → OpenMeans file o b
 open-means file o b a s = record {
   opens = λ y e. a ∙ ap readOutcome e;
   fresh = λ y e. subst (IsFresh y) (sym (is y e)) (fresh-is y);
   isTrue = λ y e. subst IsTrue (sym (is y e)) (fresh-true y (read-keeps-limits file y e));
   refuses = λ n e. a ∙ ap readOutcome e;
+  untrue = λ n e w. blank-untrue (subst IsTrue (s ∙ ap openedBoard e) w);
 }
   where
     is : (y : System) → readFile file ≡ opened y → b ≡ emptyBoard y

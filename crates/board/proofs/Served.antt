@@ -6,7 +6,7 @@ use mathlib.Core.List.{List, [], _∷_}
 use mathlib.Core.Bool.{Bool, true, false}
 use native.Mathlib.Omega.{arith}
 use borrow.Author.Tests.{ltb-true, ltb-false, eqb-true, eqb-false}
-use lib.ListN.{length, getD, set, length-set, length-map, List·getD-eq-default}
+use lib.ListN.{getD, set, length-set, length-map, List·getD-eq-default}
 use lib.Seq.{getD-set-other}
 use lib.Dec.{ltb, eqb}
 use Rattle.system.specs.declared.System.{System}

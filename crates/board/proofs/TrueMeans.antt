@@ -4,7 +4,7 @@ use Prim.Native.Nat.{ℕ, zero, suc, _+_, _-_, _≤_, _<_, zero-le}
 use mathlib.Core.Path.{_≡_, refl, sym, ap, subst, _∙_}
 use mathlib.Core.List.{List, [], _∷_, _++_, map}
 use mathlib.Core.Bool.{Bool, true, false, cond, _&&_}
-use mathlib.Core.Logic.{_⊎_, inl, inr}
+use mathlib.Core.Logic.{_⊎_, inl, inr, _↔_}
 use native.Mathlib.Omega.{arith}
 use borrow.Author.Tests.{leb-true, leb-false, ltb-true, ltb-false, eqb-true, eqb-false, eq-eqb}
 use lib.Dec.{leb, ltb, eqb}
@@ -20,7 +20,7 @@ use Rattle.loads.proofs.Laws.{engineWith-idle}
 use Rattle.loads.proofs.Change.{getD-plus, within-getD, within-of}
 use Rattle.partition.specs.Assignment.{among, every, enginesTo}
 use Rattle.partition.specs.Shares.{sumOf}
-use Rattle.partition.specs.Plain.{EngineOf, recordNo, Stands}
+use Rattle.partition.specs.Plain.{EngineOf, recordNo, Stands, HoldsNothing}
 use Rattle.partition.proofs.Lists.{not-both, every-++, every-replicate, every-among, every-enginesTo, getD-inside, getD-padded, distinct-enginesTo, among-enginesTo}
 use Rattle.partition.proofs.Recovery.{sumOf-padded}
 use Rattle.partition.proofs.ForSystem.{length-ceilings}
@@ -29,7 +29,7 @@ use Rattle.partition.proofs.Plain.{ceiling-out, limits-out, stands-out}
 use Rattle.board.specs.declared.Board.{Board}
 use Rattle.board.specs.Boards.{emptyBoard, marked, enginesOf, loadAt, standingOf, standing}
 use Rattle.board.specs.Truth.{trueEngine, zeroEngine, trueLoads, markTrue, trueMarks, trueBoard}
-use Rattle.board.specs.Words.{countNo, countAt, memoryNo, totalNo, standsNo, IsEngine, EngineIn, SumsOut, FitsOut, HoldsNothing, IsTrue, IsFresh}
+use Rattle.board.specs.Words.{countNo, countAt, memoryNo, totalNo, standsNo, IsEngine, EngineIn, SumsOut, FitsOut, IsTrue, IsFresh}
 use Rattle.board.specs.Meaning.{TrueMeans}
 use Rattle.board.proofs.Places.{engines-distinct, engines-known, engines-in}
 use Rattle.board.proofs.Plain.{time-same, own-same, shared-same, fits-same, time-out, own-out, shared-out, fits-out, out-fits, RecordSame, record-same, total-out}
@@ -297,6 +297,10 @@ true-means b = record { tests = (words, test-of b); placed = λ w. parted (test-
     parted h =
         let f = truth-of b h in
         subst (λ (a : Board). Stands (b .system) (EngineIn a) (standsNo a) (a .loads)) (sym (f .same)) (parted-on (b .system) (f .marks) (f .rows) (f .keeps) (f .valid) (f .served))
+
+-- what the test answers
+pub truth-told : (b : Board) (r : Bool) → r ≡ trueBoard b → (r ≡ trueBoard b) × ((r ≡ true) ↔ IsTrue b)
+truth-told b r e = (e, ((λ h. true-means b .tests .0 (sym e ∙ h)), (λ w. e ∙ true-means b .tests .1 w)))
 
 -- main: a fresh board
 

@@ -1,5 +1,5 @@
 -- What each call promises besides the equation with its definition: demand 1 for every board, the order of the refusals, and what the call means for a true board,
--- in the plain words of `Words`. Of the calls only `Result` is known here.
+-- in the plain words of `Words`. Of the definitions of the calls only `Result` is known here, and `trueBoard`, which `TrueMeans` says in these words.
 use Prim.Native.Nat.{ℕ, _+_, _*_, _≤_, _<_}
 use mathlib.Core.List.{List, [], _∷_}
 use mathlib.Core.Bool.{true, false}
@@ -10,25 +10,26 @@ use Rattle.system.specs.declared.System.{System}
 use Rattle.system.specs.Layout.{readFile, opened, unread}
 use Rattle.system.specs.Outcome.{Outcome, Source, accepted, refused, fromInput, fromState, isAccepted}
 use Rattle.partition.specs.Assignment.{enginesTo}
-use Rattle.partition.specs.Plain.{columnsOut, LongEnough, recordNo, Stands}
+use Rattle.partition.specs.Plain.{columnsOut, LongEnough, recordNo, Stands, HoldsNothing}
 use Rattle.table.specs.Table.{filled}
 use Rattle.table.specs.Meaning.{FilledMeans}
 use Rattle.board.specs.declared.Board.{Board}
 use Rattle.board.specs.Truth.{trueBoard}
 use Rattle.board.specs.Calls.{Result}
-use Rattle.board.specs.Words.{countAt, standsNo, plusOne, sumSix, HoldsNothing, IsType, IsEngine, markNo, EngineIn, servingAll, HoldsType, BelowCeiling, TakesType, Room, NoRoom, OneMoreOn, MarkOn, Frees, IsTrue, Packed, IsFresh}
+use Rattle.board.specs.Words.{countAt, standsNo, plusOne, sumSix, IsType, IsEngine, markNo, EngineIn, servingAll, HoldsType, BelowCeiling, TakesType, Room, NoRoom, OneMoreOn, MarkOn, Frees, IsTrue, RecoveredOn, Packed, IsFresh}
 
 -- the test of refusal 20 says so exactly, and a true board is a good assignment of what stands on it to the engines in service
 pub record TrueMeans (b : Board) : Type 0 where
   pub tests : (trueBoard b ≡ true) ↔ IsTrue b
   pub placed : IsTrue b → Stands (b .system) (EngineIn b) (standsNo b) (b .loads)
 
--- opening: of a file that opens, the fresh board of its system, which is true; of any other, the number of the refusal
+-- opening: of a file that opens, the fresh board of its system, which is true; of any other, the number of the refusal, and a board that is not true, so that every call refuses it 20
 pub record OpenMeans (file : List ℕ) (o : Outcome) (b : Board) : Type 0 where
   pub opens : (y : System) → readFile file ≡ opened y → o ≡ accepted []
   pub fresh : (y : System) → readFile file ≡ opened y → IsFresh y b
   pub isTrue : (y : System) → readFile file ≡ opened y → IsTrue b
   pub refuses : (n : ℕ) → readFile file ≡ unread n → o ≡ refused fromInput n
+  pub untrue : (n : ℕ) → readFile file ≡ unread n → IsTrue b → ⊥
 
 -- What each call means for a true board and a table that 11 passes
 
@@ -53,6 +54,7 @@ pub record SeatMeans (b : Board) (t : ℕ) (table : List ℕ) (r : Result) : Typ
   pub noRoom : BelowCeiling b t → (r .outcome ≡ refused fromState 24) ↔ NoRoom b t
   pub answer : isAccepted (r .outcome) ≡ true → r .outcome ≡ accepted []
   pub packs : isAccepted (r .outcome) ≡ true → Packed b (plusOne t (standsNo b)) (r .board)
+  pub recovers : isAccepted (r .outcome) ≡ true → RecoveredOn b (r .table) (plusOne t (standsNo b)) (r .board)
   pub leftFilled : BelowCeiling b t → FilledMeans (b .system) (servingAll b) table (r .table)
 
 -- retire: succeeds exactly when that engine holds that type, and one instance leaves it and frees its memory
@@ -68,6 +70,7 @@ pub record RetireMeans (b : Board) (t e : ℕ) (r : Result) : Type 0 where
 pub record RepackMeans (b : Board) (table : List ℕ) (r : Result) : Type 0 where
   pub repacks : r .outcome ≡ accepted []
   pub packs : Packed b (standsNo b) (r .board)
+  pub recovers : RecoveredOn b (r .table) (standsNo b) (r .board)
   pub leftFilled : FilledMeans (b .system) (servingAll b) table (r .table)
 
 -- withdraw: succeeds exactly when that engine is in service and holds nothing, and its mark is set

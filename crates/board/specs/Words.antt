@@ -1,5 +1,6 @@
 -- The plain words in which the meaning of the calls and demand 3 speak of a board: counts, totals, sums, fit, room, and the engines that are used.
--- As with partition/specs/Plain, no contract of a function cites them, and they go through no word that one cites; laws say that the code's words mean the same.
+-- As with partition/specs/Plain, no contract of a function cites them, and they go through no word that one cites, but for `IsRecovery`, which `RecoveredOn` says once more in the table that is left;
+-- laws say that the code's words mean the same.
 use Prim.Native.Nat.{ℕ, zero, suc, _+_, _-_, _*_, _≤_, _<_}
 use mathlib.Core.List.{List, [], _∷_}
 use mathlib.Core.Bool.{Bool, true, false, cond, _&&_}
@@ -11,7 +12,8 @@ use Rattle.system.specs.declared.System.{System}
 use Rattle.loads.specs.declared.EngineLoad.{EngineLoad}
 use Rattle.partition.specs.Assignment.{Assignment, enginesTo}
 use Rattle.partition.specs.ForSystem.{rowsFor}
-use Rattle.partition.specs.Plain.{typeNo, ceilingNo, LimitsOut, Partition, Impossible, recordNo, StandsOnFewest}
+use Rattle.partition.specs.Plain.{typeNo, ceilingNo, LimitsOut, Partition, Impossible, recordNo, HoldsNothing, StandsOnFewest}
+use Rattle.table.specs.Meaning.{RecoveredBy}
 use Rattle.board.specs.declared.Board.{Board}
 
 -- Counts, type numbers and engine numbers from 1
@@ -66,12 +68,6 @@ pub record SumsOut (y : System) (l : EngineLoad) : Type 0 where
   pub time : l .time ≡ timeOut y (countNo l)
   pub ownCopies : y .rule ≡ 0 → l .memory ≡ ownOut y (countNo l)
   pub sharedCode : y .rule ≡ 1 → l .memory ≡ sharedOut y (countNo l)
-
--- a record that holds nothing
-pub record HoldsNothing (l : EngineLoad) : Type 0 where
-  pub time : l .time ≡ 0
-  pub memory : l .memory ≡ 0
-  pub counts : (t : ℕ) → countNo l t ≡ 0
 
 -- how many of the records hold an instance, even one with u = s = 0
 unfoldable pub usedRecords : List EngineLoad → ℕ
@@ -186,6 +182,12 @@ loadOut count = count 1 ∷ count 2 ∷ count 3 ∷ count 4 ∷ count 5 ∷ coun
 abbrev pub IsRecovery : Board → (ℕ → ℕ) → Board → Type 0
 IsRecovery b count after =
     (e t : ℕ) → EngineIn b e → 1 ≤ t → countAt after e t ≡ getD (getD (rowsFor (b .system) (enginesTo (servingAll b)) (loadOut count)) (servingTo b e - 1) []) (t - 1) 0
+
+-- the same read in the table that the call leaves, in plain words: the i-th engine in service has row i (table/specs/Meaning)
+pub record RecoveredOn (b : Board) (table : List ℕ) (count : ℕ → ℕ) (after : Board) : Type 0 where
+  pub row : ℕ → ℕ → ℕ
+  pub reads : RecoveredBy (b .system) table (usedRecords (after .loads)) count row
+  pub holds : (e t : ℕ) → EngineIn b e → 1 ≤ t → countAt after e t ≡ row (servingTo b e) t
 
 -- the board after is a true board of count(t) instances of each type on the fewest engines, by the recovery
 pub record Packed (b : Board) (count : ℕ → ℕ) (after : Board) : Type 0 where

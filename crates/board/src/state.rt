@@ -2,6 +2,7 @@
 ghost use mathlib.Core.Path.{_≡_};
 ghost use mathlib.Core.Bool.{true};
 ghost use mathlib.Core.List.{map};
+ghost use mathlib.Core.Logic.{_↔_};
 ghost use Prim.Native.Nat.{ℕ, _+_, _-_, _≤_, _<_};
 ghost use lib.ListN.{getD};
 ghost use Rattle.system.specs.Limits.{engineLimit};
@@ -9,6 +10,7 @@ ghost use Rattle.system.specs.declared.TaskType.{TaskType};
 ghost use Rattle.loads.specs.Load.{plus, within};
 ghost use Rattle.board.specs.Boards.{marked, loadAt, standingOf, standing};
 ghost use Rattle.board.specs.Truth.{trueEngine, zeroEngine, trueLoads, markTrue, trueMarks, trueBoard, engineTrue};
+ghost use Rattle.board.specs.Words.{IsTrue};
 use crate::Board;
 use loads::EngineLoad;
 use system::ENGINE_LIMIT;
@@ -163,6 +165,7 @@ pub(crate) fn load_at(b: Board, e: usize) -> [u16; TYPE_LIMIT]
 // Whether the board is true: document 01's row of refusal 20, and the marks of request 2026-07.
 pub fn true_board(b: Board) -> bool
     ensures { λ r. ⌜ r ≡ trueBoard b ⌝ }
+    ensures { λ r. ⌜ (r ≡ true) ↔ IsTrue b ⌝ }
 {
     let y = b.system;
     let types = y.types;

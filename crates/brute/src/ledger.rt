@@ -1,6 +1,6 @@
 // Document 01's ledger with the marks of request 2026-07, kept from the calls alone: the system, what each engine holds, and whether it is
 // marked. Whether a good assignment to the engines in service exists is tried out. Each call takes besides whether its table is long
-// enough, and answers with the codes of `say::code_of`.
+// enough, and answers with the codes of `trial::say::code_of`.
 use crate::recovery;
 use crate::search;
 use loads::EngineLoad;

@@ -1,6 +1,7 @@
-// Bytes put into a lent buffer. Each function answers the place after what it put, so that the next one goes on there; everything else in the buffer is as it was.
+// Bytes put into a lent buffer. Each function that puts some answers the place after them, so that the next one goes on there; everything else in the buffer is as it was.
 ghost use mathlib.Core.List.{_∷_, []};
-ghost use Prim.Native.Nat.{_+_, _≤_, _<_};
+ghost use mathlib.Core.Path.{_≡_};
+ghost use Prim.Native.Nat.{_+_, _≤_, _<_, min};
 ghost use lib.ListN.{length};
 ghost use Rattle.buffer.specs.Bytes.{bytes2, bytes4};
 ghost use Rattle.buffer.specs.Written.{Puts};
@@ -41,4 +42,11 @@ pub fn put_four(out: &mut [u8], at: usize, n: u32) -> usize
 {
     let next = put_two(out, at, (n / 65536) as u16);
     put_two(out, next, (n % 65536) as u16)
+}
+
+// The smaller of two numbers: how much of what was read, or of a list, there is room for.
+pub fn least(a: usize, b: usize) -> usize
+    ensures { λ r. ⌜ r ≡ min a b ⌝ }
+{
+    if a < b { a } else { b }
 }

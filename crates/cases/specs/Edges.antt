@@ -122,6 +122,16 @@ edges =
     ∷ edge (withTypes (typeWith 4 3 31 ∷ typeWith 4 3 32 ∷ [])) 10
     ∷ edge (withTypes (goodBoth ∷ mostWith 0 ∷ [])) 31
     ∷ edge (withTypes (typeWith 4 3 1024 ∷ mostWith 0 ∷ typeWith 1000001 3 1 ∷ [])) 31
+    -- "Fields are judged in file order": what an earlier field is refused with comes before any fault of a later one
+    ∷ edge (platformWith 17 2 1000001 8 ++ (2 ∷ [])) 5
+    ∷ edge (platformWith 0 0 10 8 ++ field 5 2 []) 5
+    ∷ edge (platformWith 3 2 10 8 ++ goodPlatform) 6
+    ∷ edge (platformWith 3 0 10 1000001 ++ field 2 11 []) 8
+    ∷ edge (platformWith 17 0 10 8 ++ typeWith 1000001 3 1) 5
+    ∷ edge (platformWith 17 0 10 8) 5
+    ∷ edge (withTypes (typeWith 1000001 3 1 ∷ field 5 2 [] ∷ [])) 8
+    ∷ edge (withTypes (typeWith 4 1000001 1 ∷ (2 ∷ []) ∷ [])) 8
+    ∷ edge (withTypes (goodType ∷ dataWith 1000001 ∷ dataWith 5 ∷ [])) 8
     ∷ []
 
 -- the number as an outcome

@@ -9,7 +9,7 @@ use Rattle.table.specs.Pairs.{triedAt, pairsOf}
 use Rattle.planner.specs.Plan.{verdictOf, planOutcome, planLoads}
 use Rattle.board.specs.Boards.{openedBoard}
 use Rattle.ledger.specs.Ledger.{Call, admit, seat, retire, repack, withdraw, restore, freshLedger, ledgerAfter}
-use Rattle.ledger.specs.Demand3.{Request, Made, boardAfter, answersOf, played}
+use Rattle.ledger.specs.Demand3.{Made, boardAfter, answersOf, played}
 use Rattle.cases.specs.Cases.{platform, taskType, fileA, fileB, systemOf, systemA, entryAt, planAnswer, planLines, answers, boardLines, entered, counted, Case, case, number, numbers, lines, outcome, outcomes, done, on}
 
 -- system C: m 4, rule 0, U 10, S 9, and three types, each with n 2: u 5, s 2; u 2, s 3; u 4, s 4

@@ -10,12 +10,11 @@ use Rattle.system.specs.declared.System.{System}
 use Rattle.system.specs.declared.Opened.{Opened}
 use Rattle.system.specs.declared.Refusal.{Refusal}
 use Rattle.system.specs.declared.Refusal.the-variants.{Input, State}
-use Rattle.system.specs.declared.Answer.{Answer}
-use Rattle.system.specs.declared.Answer.the-variants.{Accepted, Number, Refused as Declined}
+use Rattle.system.specs.declared.Answer.the-variants.{Refused as Declined}
 use Rattle.system.specs.Values.{ceilingsOf}
-use Rattle.system.specs.Layout.{Reading, readFile, opened, unread, readOutcome, Reads}
-use Rattle.system.specs.Outcome.{Outcome, Source, accepted, refused, fromInput, refusalOf, outcomeOf, passes, check, unlessFails, failsWith}
-use Rattle.system.proofs.Laws.{Limits, limits-of, read-keeps-limits}
+use Rattle.system.specs.Layout.{Reading, readFile, opened, unread, Reads}
+use Rattle.system.specs.Outcome.{Outcome, Source, accepted, refused, fromInput, passes, check, unlessFails, failsWith}
+use Rattle.system.proofs.Laws.{Limits, limits-of, read-keeps-limits, unread-with}
 use Rattle.loads.proofs.Order.{within-refl}
 use Rattle.partition.specs.Assignment.{enginesTo}
 use Rattle.partition.specs.ForSystem.{placeable}
@@ -132,22 +131,9 @@ promises-of file table r after g = record {
 -- a file that was refused
 
 pub unread-gives : (x : Reading) (r : Opened) → Reads x r → (why : Refusal) → r .answer ≡ Declined why → (table : List ℕ) → Gives x table (Refused why) table
-unread-gives (unread n) r reads why is table = record { answer = sym (ap outcomeOf is) ∙ reads .answer; left = refl }
-unread-gives (opened y) r reads why is table = absurd (clash why (sym (ap outcomeOf is) ∙ reads .answer))
-  where
-    clash : (why : Refusal) → refusalOf why ≡ readOutcome (opened y) → ⊥
-    clash (Input m) e = let z : _≡_ {A = ℕ} 0 1 = cc in omega arith
-    clash (State m) e = let z : _≡_ {A = ℕ} 0 1 = cc in omega arith
-
--- an answer that is no refusal is that of a file that opens
-only-refused : (a : Answer) (n : ℕ) → outcomeOf a ≡ refused fromInput n → (why : Refusal) × (a ≡ Declined why)
-only-refused Accepted n e = let z : _≡_ {A = ℕ} 0 1 = cc in absurd (omega arith)
-only-refused (Number k) n e = let z : _≡_ {A = ℕ} 0 1 = cc in absurd (omega arith)
-only-refused (Declined why) n e = (why, refl)
-
-pub opened-unless : (x : Reading) (r : Opened) → Reads x r → ((why : Refusal) → r .answer ≡ Declined why → ⊥) → x ≡ opened (r .system)
-opened-unless (opened y) r reads h = ap opened (sym (reads .system))
-opened-unless (unread n) r reads h = let (why, is) = only-refused (r .answer) n (reads .answer) in absurd (h why is)
+unread-gives x r reads why is table =
+    let (n, same, says) = unread-with x r reads why is in
+    rw same (record { answer = says; left = refl })
 
 -- a file that reads as y
 

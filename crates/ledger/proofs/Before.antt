@@ -9,7 +9,7 @@ use Rattle.system.specs.declared.System.{System}
 use Rattle.system.specs.Limits.{engineLimit}
 use Rattle.system.specs.Layout.{readFile, opened}
 use Rattle.loads.specs.Load.{oneMore}
-use Rattle.partition.specs.Assignment.{every, passing, enginesTo}
+use Rattle.partition.specs.Assignment.{passing, enginesTo}
 use Rattle.partition.proofs.Lists.{every-parts, every-always, passing-all, getD-padded}
 use Rattle.board.specs.declared.Board.{Board}
 use Rattle.board.specs.Boards.{openedBoard}

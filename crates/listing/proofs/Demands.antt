@@ -110,7 +110,7 @@ module _ (file table : List ℕ) (p : Plan) (after : List ℕ) (promises : PlanP
       let told = records (not-refused (p .answer) (used ∷ []) given) (omega (arith, same, few, sixteen))
       (λ e low high. omega (arith, known, limits .typecount, promises .demand2 .sixCounts y used e opens given low (omega arith))) in
       tells y used (p .loads) (planListing p) (limits .rule) (omega (arith, sixteen, few))
-      (λ e t later inside low. promises .demand2 .idlePast used e given later .counts (t - 1))
+      (λ e t later inside low. promises .demand2 .idlePast used e given later .counts t)
       (omega (arith, sixteen, limits .engines))
       (plan-given file table p after promises y opens used given)
       (subst (λ (k : ℕ). TellsRecords used k (p .loads) (planListing p)) known (subst (λ (n : ℕ). TellsRecords n (p .typecount) (p .loads) (planListing p)) same told))

@@ -16,7 +16,7 @@ use Rattle.partition.specs.Plain.{recordNo}
 use Rattle.planner.specs.declared.Plan.{Plan}
 use Rattle.planner.specs.Plan.{recordsOf}
 use Rattle.listing.specs.Listing.{space, typesWord, decimal, parted, engineLine, recordLines, planLines, refusalLine, listingOf, planListing}
-use Rattle.listing.specs.Demands.{TellsRefusal, eachTo, engineText, recordText, TellsRecords, TellsPlan, WritePromises}
+use Rattle.listing.specs.Demands.{TellsRefusal, eachTo, engineText, recordText, TellsRecords, TellsPlan, WriteListingPromises}
 use Rattle.listing.proofs.Laws.{counts-suc, engineLine-parts, lines-suc}
 use Rattle.listing.proofs.Numbers.{in-decimal}
 
@@ -108,7 +108,7 @@ listing-given Accepted used k loads h = refl
 listing-given (Number n) used k loads h = refl
 listing-given (Refused why) used k loads h = absurd (h why refl)
 
-pub write-promised : (p : Plan) {old new : List ℕ} {r : ℕ} → Written (planListing p) old new r → WritePromises p old new r
+pub write-promised : (p : Plan) {old new : List ℕ} {r : ℕ} → Written (planListing p) old new r → WriteListingPromises p old new r
 write-promised p written = record {
   written = written;
   onInput = λ n e. rw e (refused-told fromInput n (p .used) (p .typecount) (p .loads));

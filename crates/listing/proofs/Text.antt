@@ -1,6 +1,6 @@
 -- The listing of a file over any table that is long enough is the file's text, and what a reader finds in it.
 use Prim.Native.Nat.{ℕ, _+_, _*_, _≤_}
-use mathlib.Core.Path.{_≡_, refl, ap, _∙_}
+use mathlib.Core.Path.{_≡_, refl, sym, ap, subst, _∙_}
 use mathlib.Core.Bool.{true}
 use mathlib.Core.List.{List}
 use native.Mathlib.Nat.{mul-le-mul}
@@ -17,9 +17,11 @@ use Rattle.partition.proofs.Plain.{limits-out}
 use Rattle.table.specs.Table.{longEnough}
 use Rattle.table.proofs.Shown.{long-enough-out}
 use Rattle.planner.specs.Plan.{verdictOf}
+use Rattle.planner.specs.Demands.{PlanPromises}
 use Rattle.listing.specs.Listing.{verdictListing, fileListing}
 use Rattle.listing.specs.Demands.{ListingDemand2, ListingRefuses, ListingPromises}
 use Rattle.listing.specs.Text.{readingVerdict, fileText, TextPromises}
+use Rattle.listing.proofs.Laws.{listing-planned}
 
 -- 17 × 1,024 entries, rows 0 to 16 of 1,024 columns, are enough for every system that a file gives
 pub long-for-all : (file : List ℕ) (y : System) (table : List ℕ) → readFile file ≡ opened y → 17 * 1024 ≤ length table → LongEnough y table
@@ -53,6 +55,7 @@ text-promised {file = file} {table = table} size promises =
         impossible = λ y e. found .impossible y e (long y e);
         given = λ y e. found .given y e (long y e);
       };
+      samePlan = λ p other after enough promised. listing-planned promised ∙ listing-any-table file other enough;
     }
 
 -- the first 256 bytes decide: their text is that of the whole file
@@ -72,4 +75,6 @@ prefix-promised {front = front} {file = file} first promises =
         impossible = λ y e. tells .impossible y (same ∙ e);
         given = λ y e. tells .given y (same ∙ e);
       };
+      samePlan = λ p other after enough promised.
+          promises .samePlan p other after (λ y e. enough y (sym same ∙ e)) (subst (λ (x : Reading). PlanPromises x other engineLimit p after) (sym same) promised) ∙ text;
     }

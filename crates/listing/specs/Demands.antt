@@ -19,6 +19,7 @@ use Rattle.partition.specs.OwnWords.{overInstances, timeOn, memoryOn, sharedMem
 use Rattle.partition.specs.Plain.{ceilingNo, columnsOut, LongEnough, EngineOf, placesNo, Partition, Impossible, usedTo, recordNo}
 use Rattle.planner.specs.declared.Plan.{Plan}
 use Rattle.planner.specs.Plan.{planTable}
+use Rattle.planner.specs.Demands.{PlanPromises}
 use Rattle.listing.specs.Listing.{refusalLine, planListing, fileListing}
 
 -- the bytes of `0` to `9`
@@ -116,7 +117,7 @@ pub record RefusalPromises (why : Refusal) (old new : List ℕ) (r : ℕ) : Type
 
 -- what the call `write_listing` promises of its result and the buffer: a refusal from either list with its number, and else the plan's records.
 -- There is a record for each used engine, and in it a count for each type: a plan has 16 records with 6 counts each
-pub record WritePromises (p : Plan) (old new : List ℕ) (r : ℕ) : Type 0 where
+pub record WriteListingPromises (p : Plan) (old new : List ℕ) (r : ℕ) : Type 0 where
   pub written : Written (planListing p) old new r
   pub onInput : (n : ℕ) → p .answer ≡ Refused (Input n) → TellsRefusal n (planListing p)
   pub onState : (n : ℕ) → p .answer ≡ Refused (State n) → TellsRefusal n (planListing p)
@@ -124,9 +125,10 @@ pub record WritePromises (p : Plan) (old new : List ℕ) (r : ℕ) : Type 0 wher
       → ((e : ℕ) → 1 ≤ e → e ≤ p .used → p .typecount ≤ length (recordNo (p .loads) e .counts))
       → TellsRecords (p .used) (p .typecount) (p .loads) (planListing p)
 
--- what the call `listing` promises of its result, the buffer and the table, and with that the refusals and demand 2
+-- what the call `listing` promises of its result, the buffer and the table, and with that the refusals and demand 2; the plan that it lists is the one that `plan_of` gives
 pub record ListingPromises (file table old new : List ℕ) (r : ℕ) (tableAfter : List ℕ) : Type 0 where
   pub written : Written (fileListing file table) old new r
   pub leavesTable : tableAfter ≡ planTable (readFile file) table engineLimit
   pub refuses : ListingRefuses file table (fileListing file table)
   pub demand2 : ListingDemand2 file table (fileListing file table)
+  pub samePlan : (p : Plan) (after : List ℕ) → PlanPromises (readFile file) table engineLimit p after → planListing p ≡ fileListing file table

@@ -7,15 +7,18 @@ use lib.ListN.{length, take}
 use Rattle.buffer.specs.Written.{Written}
 use Rattle.io.specs.Counts.{Counts}
 use Rattle.system.specs.declared.System.{System}
+use Rattle.system.specs.Limits.{engineLimit}
 use Rattle.system.specs.Layout.{Reading, readFile, opened, unread}
 use Rattle.system.specs.Outcome.{fromInput}
 use Rattle.partition.specs.Assignment.{Assignment}
-use Rattle.partition.specs.Plain.{ceilingNo, EngineOf, Partition, Impossible}
+use Rattle.partition.specs.Plain.{ceilingNo, LongEnough, EngineOf, Partition, Impossible}
+use Rattle.planner.specs.declared.Plan.{Plan}
 use Rattle.planner.specs.Plan.{Verdict, unplanned, placeCheck, judged}
-use Rattle.listing.specs.Listing.{verdictListing}
+use Rattle.planner.specs.Demands.{PlanPromises}
+use Rattle.listing.specs.Listing.{planListing, verdictListing}
 use Rattle.listing.specs.Demands.{TellsRefusal, TellsPlan}
 
--- the table is the function's own and long enough, so 11 and 15 do not arise: 1 to 10, 12, or a plan
+-- the table is the function's own and long enough, so 11 and 15 do not arise: 1 to 10 and 31, 12, or a plan
 unfoldable pub readingVerdict : Reading → Verdict
 readingVerdict (unread n) = unplanned fromInput n
 readingVerdict (opened y) = judged y (placeCheck y)
@@ -30,10 +33,12 @@ pub record TellsFile (file text : List ℕ) : Type 0 where
   pub impossible : (y : System) → readFile file ≡ opened y → TellsRefusal 12 text ↔ Impossible y (EngineOf y) (ceilingNo y)
   pub given : (y : System) → readFile file ≡ opened y → (χ : Assignment) → Partition y (EngineOf y) (ceilingNo y) χ → TellsPlan y text
 
--- what the call `listing_of` promises of its result and the buffer
+-- what the call `listing_of` promises of its result and the buffer. The plan that it lists is the one that `plan_of` gives over any table that is long enough:
+-- `write_listing` says of `planListing p` that it tells the records of p, in their order
 pub record TextPromises (file old new : List ℕ) (r : ℕ) : Type 0 where
   pub written : Written (fileText file) old new r
   pub tells : TellsFile file (fileText file)
+  pub samePlan : (p : Plan) (table after : List ℕ) → ((y : System) → readFile file ≡ opened y → LongEnough y table) → PlanPromises (readFile file) table engineLimit p after → planListing p ≡ fileText file
 
 -- what the call `listing_read` promises: the same of every file, whatever its length, of whose first bytes, as many as `front` has room for, just these were read
 pub record ReadPromises (front : List ℕ) (read : ℕ) (old new : List ℕ) (r : ℕ) : Type 0 where

@@ -3,15 +3,16 @@
 // The functions that put something into the buffer answer the place after it. Each asks for the room that its part can take, and promises to take no more.
 ghost use mathlib.Core.Path.{_≡_};
 ghost use mathlib.Core.List.{_∷_, [], _++_, map};
-ghost use Prim.Native.Nat.{_+_, _*_, _≤_, _<_, min};
+ghost use Prim.Native.Nat.{_+_, _*_, _≤_, _<_};
 ghost use lib.ListN.{length, getD, take, drop};
 ghost use Rattle.buffer.specs.Written.{Puts};
 ghost use Rattle.system.specs.Outcome.{refusalOf};
 ghost use Rattle.planner.specs.Plan.{recordsOf};
 ghost use Rattle.listing.specs.Listing.{enginesWord, utilWord, memWord, typesWord, refusedWord, space, decimal, parted, recordLine, recordLines, planLines, listingOf};
 ghost use Rattle.listing.specs.Room.{numberRoom, spacedRoom, lineRoom, engineRoom, enginesRoom, listingRoom};
-ghost use Rattle.listing.specs.Demands.{RefusalPromises, WritePromises, ListingPromises};
+ghost use Rattle.listing.specs.Demands.{RefusalPromises, WriteListingPromises, ListingPromises};
 ghost use Rattle.listing.specs.Text.{TextPromises, ReadPromises};
+use buffer::least;
 use buffer::put_byte;
 use buffer::put_bytes;
 use loads::EngineLoad;
@@ -136,13 +137,6 @@ fn put_entry(out: &mut [u8], at: usize, start: usize, size: usize, n: u64, end: 
     put_numbered(out, at, start, size, &numbers, end)
 }
 
-// The smaller of two numbers.
-fn least(a: usize, b: usize) -> usize
-    ensures { λ r. ⌜ r ≡ min a b ⌝ }
-{
-    if a < b { a } else { b }
-}
-
 // A count as a number to put.
 fn wide(n: u16) -> u64
     ensures { λ r. ⌜ r ≡ n ⌝ }
@@ -228,7 +222,7 @@ pub fn write_refusal(out: &mut [u8; 4096], why: Refusal) -> usize
 
 // Writes the listing of a plan at the start of the buffer, and answers its length. Every listing fits.
 pub fn write_listing(out: &mut [u8; 4096], p: Plan) -> usize
-    ensures { λ r. ⌜ WritePromises p (now (out .entry)) (now (out .exit)) r ⌝ }
+    ensures { λ r. ⌜ WriteListingPromises p (now (out .entry)) (now (out .exit)) r ⌝ }
 {
     let answer = p.answer;
     let Answer::Refused(why) = answer else {

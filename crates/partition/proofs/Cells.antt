@@ -93,16 +93,19 @@ module _ (fits : List ℕ → Bool) (ns : List ℕ) where
           let b = and-parts (within (loadOf ns p) (loadOf ns c)) (fits (less (loadOf ns c) (loadOf ns p))) (a .0) in
           record { dominated = b .0; differenceFits = b .1; yesBefore = a .1; notAbove = omega (arith, r .to) }
 
-  pub predecessor-cell : (i c p : ℕ) → p < noColumn → Predecessor i c p → saysYes (cell fits ns (suc i) c) ≡ true
+  -- it is the lowest of these
+  pub cell-lowest : (i c p : ℕ) → Predecessor i c p → cell fits ns (suc i) c ≤ p
   unfolding cell precedes
-  predecessor-cell i c p small r =
-      yes-of (cell fits ns (suc i) c) (lt-of-le-of-lt (lowest-le (precedes fits ns (cell fits ns i) c) noColumn (suc c) 0 p passes (omega arith) (omega (arith, r .notAbove))) small)
+  cell-lowest i c p r = lowest-le (precedes fits ns (cell fits ns i) c) noColumn (suc c) 0 p passes (omega arith) (omega (arith, r .notAbove))
     where
       passes : precedes fits ns (cell fits ns i) c p ≡ true
       passes =
           and-both (within (loadOf ns p) (loadOf ns c) && fits (less (loadOf ns c) (loadOf ns p))) (saysYes (cell fits ns i p))
           (and-both (within (loadOf ns p) (loadOf ns c)) (fits (less (loadOf ns c) (loadOf ns p))) (r .dominated) (r .differenceFits))
           (r .yesBefore)
+
+  pub predecessor-cell : (i c p : ℕ) → p < noColumn → Predecessor i c p → saysYes (cell fits ns (suc i) c) ≡ true
+  predecessor-cell i c p small r = yes-of (cell fits ns (suc i) c) (lt-of-le-of-lt (cell-lowest i c p r) small)
 
   pub cell-zero-yes : (c : ℕ) → saysYes (cell fits ns 0 c) ≡ true → c ≡ 0
   unfolding cell

@@ -2,15 +2,15 @@
 use Prim.Native.Nat.{ℕ, zero, suc, _+_, _-_, _≤_, _<_, zero-le}
 use mathlib.Core.Path.{_≡_, refl, sym, ap, subst, _∙_}
 use mathlib.Core.List.{List, [], _∷_, _++_, map}
-use mathlib.Core.Bool.{Bool, true, false, cond, not, _&&_, _||_, false≢true}
+use mathlib.Core.Bool.{Bool, true, false, cond, _||_, false≢true}
 use mathlib.Core.Logic.{⊎-elim}
 use native.Mathlib.Nat.{le-refl, le-of-suc-le-suc, zero-add, add-zero, suc-add, add-suc}
 use native.Mathlib.Omega.{arith}
-use borrow.Author.Tests.{ltb-true, ltb-false, eqb-true, eqb-false, eq-eqb, ne-eqb}
+use borrow.Author.Tests.{ltb-true, ltb-false, eqb-true, eq-eqb, ne-eqb}
 use lib.ListN.{length, replicate, getD, set, take, length-map, List·getD-eq-default}
 use lib.Dec.{eqb, ltb}
 use Rattle.loads.specs.Load.{holdsNone}
-use Rattle.loads.proofs.Order.{and-parts, and-both, cons-path, holdsNone-zero}
+use Rattle.loads.proofs.Order.{and-both, cons-path, holdsNone-zero}
 use Rattle.partition.specs.Assignment.{Assignment, loadOn, among, every, good, usedOf, numbersFrom, enginesTo}
 use Rattle.partition.specs.Shares.{distinct, loadsOn, rowOn, onEngines}
 use Rattle.partition.proofs.Lists.{true-or-false, not-both, or-cases, or-left, or-right, or-neither, among-here, distinct-parts, every-parts, every-weaker, every-always, every-getD, every-among, among-tested, length-enginesTo, enginesTo-outside, getD-map-enginesTo}
@@ -192,6 +192,21 @@ onEngines-past none all m rows j h =
     (λ t. getD-map-enginesTo (rowOn none (enginesTo m) rows) all j none (ltb-true j all t) ∙ ap (rowOn none (enginesTo m) rows) (omega arith) ∙ rowOn-past none 1 m rows j h)
     (λ t. List·getD-eq-default (onEngines none all (enginesTo m) rows) none (omega (arith, ltb-false j all t, length-map (enginesTo all) (rowOn none (enginesTo m) rows), length-enginesTo all)))
     (true-or-false (ltb j all))
+
+-- main: with row i on engine i, engine i has row i
+
+rowOn-at : {A : Type 0} (none : A) (a n : ℕ) (rows : List A) (j : ℕ) → j < n → rowOn none (numbersFrom a n) rows (a + j) ≡ getD rows j none
+unfolding rowOn numbersFrom
+rowOn-at none a zero rows j h = absurd (omega arith)
+rowOn-at none a (suc n) [] j h = refl
+rowOn-at none a (suc n) (x ∷ rows) zero h = rw (add-zero a, eq-eqb a a refl)
+rowOn-at none a (suc n) (x ∷ rows) (suc j) h =
+    rw (ne-eqb a (a + suc j) (λ q. absurd (omega arith)))
+    (ap (rowOn none (numbersFrom (suc a) n) rows) (add-suc a j ∙ sym (suc-add a j)) ∙ rowOn-at none (suc a) n rows j (le-of-suc-le-suc h))
+
+pub onEngines-at : {A : Type 0} (none : A) (all m : ℕ) (rows : List A) (j : ℕ) → j < m → j < all → getD (onEngines none all (enginesTo m) rows) j none ≡ getD rows j none
+onEngines-at none all m rows j h k =
+    getD-map-enginesTo (rowOn none (enginesTo m) rows) all j none k ∙ ap (rowOn none (enginesTo m) rows) (omega arith) ∙ rowOn-at none 1 m rows j h
 
 -- main: one row more put on its engine
 

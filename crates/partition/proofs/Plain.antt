@@ -21,7 +21,7 @@ use Rattle.loads.proofs.Order.{cons-path}
 use Rattle.partition.specs.Assignment.{Assignment, countOn, loadOn, assigned, among, every, anyOf, usedOf, numbersFrom, enginesTo}
 use Rattle.partition.specs.Shares.{distinct}
 use Rattle.partition.specs.ForSystem.{goodOn, FeasibleOn, Placed, OnFewest}
-use Rattle.partition.specs.Plain.{typeNo, ceilingNo, columnsOut, LimitsOut, placesNo, Partition, Impossible, hosts, usedTo, RecordIs, recordNo, Stands, StandsOnFewest}
+use Rattle.partition.specs.Plain.{typeNo, ceilingNo, columnsOut, LimitsOut, Partition, Impossible, hosts, usedTo, RecordIs, recordNo, Stands, StandsOnFewest}
 use Rattle.partition.proofs.Lists.{among-counted, distinct-enginesTo, enginesTo-last, getD-inside}
 use Rattle.partition.proofs.Shares.{good-parts}
 use Rattle.partition.proofs.Engines.{usedOf-wider}

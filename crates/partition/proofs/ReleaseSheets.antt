@@ -22,7 +22,7 @@ use Rattle.partition.specs.Assignment.{Assignment, loadOn, among, engine
 use Rattle.partition.specs.OwnWords.{overInstances, sumOn, timeOn, memoryOn, sharedMemoryOn, noType, typeAt}
 use Rattle.partition.specs.ForSystem.{rowFor}
 use Rattle.partition.specs.Plain.{typeNo, ceilingNo, EngineOf, Partition, usedTo}
-use Rattle.partition.specs.Releases.{NoMore, Serving, On, instancesIn, Within, AddUp, Fewest, SameButCeilings, BothReleases, SheetsAdd, SameButRule, SharedNoMore, SheetsShare}
+use Rattle.partition.specs.Releases.{NoMore, Serving, On, instancesIn, Within, AddsWithin, Fewest, SameButCeilings, BothReleases, SheetsAdd, SameButRule, SharedNoMore, SheetsShare}
 use Rattle.partition.proofs.Lists.{among-enginesTo, distinct-enginesTo, length-enginesTo}
 use Rattle.partition.proofs.Rows.{lowestRow-most}
 use Rattle.partition.proofs.ForSystem.{length-ceilings}
@@ -163,7 +163,7 @@ module _ (first second both : System) (l1 : Limits first) (l2 : Limits second) (
       (fewest-counted (λ t low. sym (ceiling-out z t))
       (fewest-aside both z l3 lz alike (fewest-said (λ e. ((λ k. rw (alike .engines) at k), (λ k. rw (alike .engines) k))) f)))
 
-  together : AddUp both (ceilingsOf first) (ceilingsOf second) (ceilingsOf both)
+  together : AddsWithin both (ceilingsOf first) (ceilingsOf second) (ceilingsOf both)
   together = record {
     six = (length-ceilings first l1, length-ceilings second l2);
     sums = λ t low. rw (ceiling-out both t, ceiling-out first t, ceiling-out second t) (releases .sums t low);

@@ -22,7 +22,7 @@ use Rattle.loads.proofs.Change.{getD-plus}
 use Rattle.partition.specs.Assignment.{Assignment, among, every, enginesTo}
 use Rattle.partition.specs.ForSystem.{rowFor, placeable}
 use Rattle.partition.specs.Plain.{Partition, Impossible, usedTo}
-use Rattle.partition.specs.Releases.{larger, Bounds, Serving, On, instancesIn, Within, AddUp, Fewest, RowIsFewest, TwoReleases}
+use Rattle.partition.specs.Releases.{larger, Bounds, Serving, On, instancesIn, Within, AddsWithin, Fewest, RowIsFewest, TwoReleases}
 use Rattle.partition.proofs.Lists.{tested-among, among-enginesTo}
 use Rattle.partition.proofs.ForSystem.{length-ceilings, ground, column-small, column-load, feasible-iff-placeable, fewest-for, recovered-on-fewest}
 use Rattle.partition.proofs.Plain.{ceiling-out, lists-same, partition-assigns, partition-good, feasible-out, used-out, fewest-out}
@@ -106,7 +106,7 @@ module _ (y : System) (limits : Limits y) where
         go true = k
         go false = h
 
-    module _ (a b both : List ℕ) (w : AddUp y a b both) where
+    module _ (a b both : List ℕ) (w : AddsWithin y a b both) where
       whole : plus a b ≡ both
       whole = sum-of a b both (w .six .0) (w .six .1) (w .inside .six) (w .sums)
 

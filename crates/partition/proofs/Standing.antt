@@ -1,6 +1,6 @@
 -- What stands on the engines 1 to m of a system, as a load for each: a newcomer joins an engine, an instance leaves one, all become a recovery,
 -- and in every case what stands is a good assignment within the ceilings.
-use Prim.Native.Nat.{ℕ, zero, suc, _+_, _-_, _≤_, _<_, zero-le}
+use Prim.Native.Nat.{ℕ, zero, suc, _+_, _≤_, _<_, zero-le}
 use mathlib.Core.Path.{_≡_, refl, sym, ap, subst, _∙_}
 use mathlib.Core.List.{List, [], _∷_, _++_, map}
 use mathlib.Core.Bool.{Bool, true}

@@ -1,5 +1,6 @@
 -- The plain words in which the demands are stated: n(t), the columns, a table long enough, the limits, what it is to partition instances among engines, and the engines used.
--- No contract of a function cites them, and they go through no word that one cites, so that code and statement cannot be wrong together; laws say that the code's words mean the same.
+-- No contract of a function cites them. Of the words that one cites they go through `among` and `anyOf` alone (a number is in a list, one of a list passes a test), which proofs/Lists pins,
+-- so that code and statement cannot be wrong together; laws say that the code's words mean the same.
 use Prim.Native.Nat.{ℕ, zero, suc, _+_, _-_, _*_, _≤_, _<_}
 use mathlib.Core.List.{List, []}
 use mathlib.Core.Bool.{Bool, cond}
@@ -79,6 +80,12 @@ pub record RecordIs (y : System) (χ : Assignment) (e : ℕ) (l : EngineLoad) : 
 -- the record of engine e, counted from 1
 abbrev pub recordNo : List EngineLoad → ℕ → EngineLoad
 recordNo loads e = getD loads (e - 1) (record { time = 0; memory = 0; counts = [] })
+
+-- a record that holds nothing
+pub record HoldsNothing (l : EngineLoad) : Type 0 where
+  pub time : l .time ≡ 0
+  pub memory : l .memory ≡ 0
+  pub counts : (t : ℕ) → getD (l .counts) (t - 1) 0 ≡ 0
 
 -- the engines' records are a partition of count(t) instances of each type: each record what the mapping sends to its engine
 pub record Stands (y : System) (E : ℕ → Type 0) (count : ℕ → ℕ) (loads : List EngineLoad) : Type 0 where

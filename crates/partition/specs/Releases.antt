@@ -48,7 +48,7 @@ pub record Within (y : System) (x : List ℕ) : Type 0 where
   pub ceilings : (t : ℕ) → 1 ≤ t → instancesIn x t ≤ ceilingNo y t
 
 -- "two loads add up within the ceilings": the load `both` has the instances of a and of b
-pub record AddUp (y : System) (a b both : List ℕ) : Type 0 where
+pub record AddsWithin (y : System) (a b both : List ℕ) : Type 0 where
   pub six : (length a ≡ 6) × (length b ≡ 6)
   pub sums : (t : ℕ) → 1 ≤ t → instancesIn both t ≡ instancesIn a t + instancesIn b t
   pub inside : Within y both
@@ -72,8 +72,8 @@ pub record RowIsFewest (y : System) (es : List ℕ) : Type 0 where
 
 -- "where two loads add up within the ceilings and their fewest engines together are at most the engines in service"
 pub record TwoReleases (y : System) (es : List ℕ) : Type 0 where
-  pub rows : (a b both : List ℕ) → AddUp y a b both → rowFor y es a + rowFor y es b ≤ length es → Bounds (rowFor y es a) (rowFor y es b) (rowFor y es both)
-  pub plainly : (a b both : List ℕ) (first second : ℕ) → AddUp y a b both → Fewest y (On es) (instancesIn a) first → Fewest y (On es) (instancesIn b) second → first + second ≤ length es
+  pub rows : (a b both : List ℕ) → AddsWithin y a b both → rowFor y es a + rowFor y es b ≤ length es → Bounds (rowFor y es a) (rowFor y es b) (rowFor y es both)
+  pub plainly : (a b both : List ℕ) (first second : ℕ) → AddsWithin y a b both → Fewest y (On es) (instancesIn a) first → Fewest y (On es) (instancesIn b) second → first + second ≤ length es
       → (together : ℕ) × Fewest y (On es) (instancesIn both) together × Bounds first second together
 
 -- two systems that differ in their n alone

@@ -17,18 +17,22 @@ use Rattle.system.specs.Outcome.{fromInput, passes, check, andThen}
 use Rattle.system.proofs.Checks.{check-passed, both-passed}
 use Rattle.system.proofs.Laws.{Limits}
 use Rattle.loads.specs.declared.EngineLoad.{EngineLoad}
-use Rattle.loads.specs.Load.{engineWith, idleEngine, emptyLoad}
+use Rattle.loads.specs.Load.{fitsEngine, engineWith, idleEngine, emptyLoad}
+use Rattle.loads.specs.Column.{columnOf}
 use Rattle.loads.proofs.Laws.{engineWith-idle}
 use Rattle.loads.proofs.Order.{within-refl}
 use Rattle.partition.specs.Assignment.{countOn}
-use Rattle.partition.specs.ForSystem.{FeasibleOn, OnFewest, placeable, recoveredFor}
+use Rattle.partition.specs.ForSystem.{FeasibleOn, OnFewest, placeable, rowsFor, recoveredFor}
 use Rattle.partition.specs.Plain.{ceilingNo, columnsOut, LongEnough, EngineOf, Impossible, recordNo, StandsOnFewest}
 use Rattle.partition.proofs.Lists.{not-both, length-enginesTo, distinct-enginesTo, every-among, among-enginesTo, getD-inside}
+use Rattle.partition.proofs.Engines.{onEngines-at}
+use Rattle.partition.proofs.Recovery.{length-recovery}
 use Rattle.partition.proofs.ForSystem.{length-ceilings, feasible-iff-placeable, length-recoveredFor, recoveredFor-past, recovered-on-fewest}
 use Rattle.partition.proofs.Plain.{columns-out, ceiling-out, impossible-out, fewest-out}
 use Rattle.table.specs.Table.{entries, longEnough, tableCheck, filled}
-use Rattle.table.specs.Meaning.{FilledMeans}
+use Rattle.table.specs.Meaning.{columnNo, FilledMeans, RecoveredBy}
 use Rattle.table.proofs.Meaning.{filled-means}
+use Rattle.table.proofs.RecoveredBy.{recovered-by}
 use Rattle.planner.specs.Plan.{planEngines, listCheck, lentCheck, Verdict, planned, unplanned, judged, verdictOf, usedEngines, planLoads, tableLeft, planTable}
 
 -- all instances can be placed on the engines
@@ -97,6 +101,43 @@ module _ (y : System) (limits : Limits y) where
         ∙ sym (length-map (p .mapping) length)
         ∙ ap length (p .assigns)
         ∙ length-ceilings y limits
+
+    -- engine e has row e of the recovery, read in the filled table
+    pub recovered-out : (table : List ℕ) → LongEnough y table
+        → RecoveredBy y (filled y (planEngines y) table) (usedEngines (planned y)) (ceilingNo y) (λ (e t : ℕ). getD (recordNo (planLoads (planned y)) e .counts) (t - 1) 0)
+    recovered-out table long = record {
+      column = r .column;
+      starts = r .starts ∙ ap (columnNo y) (λ i t. ceiling-out y t i);
+      says = r .says;
+      lowestRow = r .lowestRow;
+      down = r .down;
+      gets = λ i t h. row-of i t h ∙ r .gets i t h;
+    }
+      where
+        es : List ℕ
+        es = planEngines y
+
+        few : usedEngines (planned y) ≤ length es
+        few = leb-true (usedEngines (planned y)) (length es) can
+
+        r : RecoveredBy y (filled y es table) (usedEngines (planned y)) (λ (t : ℕ). getD (ceilingsOf y) (t - 1) 0) (λ (i t : ℕ). getD (getD (rowsFor y es (ceilingsOf y)) (i - 1) []) (t - 1) 0)
+        r =
+            recovered-by y limits (length es) (filled y es table) (λ i c h k. plan-fills table long .cells i c (omega (arith, length-enginesTo (y .engines))) k)
+            (ceilingsOf y) (length-ceilings y limits) (within-refl (ceilingsOf y)) few
+
+        row-of : (i t : ℕ) → i < usedEngines (planned y) → getD (recordNo (planLoads (planned y)) (i + 1) .counts) (t - 1) 0 ≡ getD (getD (rowsFor y es (ceilingsOf y)) (i + 1 - 1) []) (t - 1) 0
+        row-of i t h =
+            let here : i + 1 - 1 ≡ i = omega arith in
+            let some : i < y .engines = omega (arith, few-used) in
+            let wide : i < engineLimit = omega (arith, limits .engines) in
+            let rows = rowsFor y es (ceilingsOf y) in
+            let inside : i < length rows = omega (arith, length-recovery (fitsEngine y) (ceilingsOf y) (length es) (columnOf (ceilingsOf y) (ceilingsOf y))) in
+            ap (λ (j : ℕ). getD (getD (planLoads (planned y)) j (record { time = 0; memory = 0; counts = [] }) .counts) (t - 1) 0) here
+            ∙ ap (λ (l : EngineLoad). getD (l .counts) (t - 1) 0)
+            (getD-inside (planLoads (planned y)) i (record { time = 0; memory = 0; counts = [] }) (engineWith y emptyLoad) (omega (arith, length-loads))
+            ∙ List·getD-map (engineWith y) (recoveredFor engineLimit y es (ceilingsOf y)) i emptyLoad)
+            ∙ ap (λ (l : List ℕ). getD l (t - 1) 0) (onEngines-at emptyLoad engineLimit (y .engines) rows i some wide ∙ getD-inside rows i emptyLoad [] inside)
+            ∙ ap (λ (j : ℕ). getD (getD rows j []) (t - 1) 0) (sym here)
 
 -- the load of an engine past the lowest yes row
 pub idle-load : (y : System) (i : ℕ) → usedEngines (planned y) ≤ i → getD (planLoads (planned y)) i idleEngine ≡ idleEngine

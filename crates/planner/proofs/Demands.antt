@@ -15,19 +15,20 @@ use Rattle.system.proofs.Laws.{Limits, read-limits}
 use Rattle.loads.specs.declared.EngineLoad.{EngineLoad}
 use Rattle.loads.specs.Load.{idleEngine}
 use Rattle.partition.specs.Assignment.{Assignment}
-use Rattle.partition.specs.Plain.{ceilingNo, columnsOut, LongEnough, EngineOf, Partition, Impossible, recordNo, StandsOnFewest}
+use Rattle.partition.specs.Plain.{ceilingNo, columnsOut, LongEnough, EngineOf, Partition, Impossible, recordNo, HoldsNothing, StandsOnFewest}
 use Rattle.partition.proofs.Lists.{true-or-false, getD-inside}
-use Rattle.table.specs.Meaning.{FilledMeans}
+use Rattle.table.specs.Table.{filled}
+use Rattle.table.specs.Meaning.{FilledMeans, RecoveredBy}
 use Rattle.planner.specs.declared.Plan.{Plan}
-use Rattle.planner.specs.Plan.{Verdict, planned, unplanned, verdictOf, usedEngines, planOutcome, plannedTypes, planLoads, planTable}
-use Rattle.planner.specs.Demands.{Demand1, Demand2, InOrder, HoldsNothing, PlanPromises}
+use Rattle.planner.specs.Plan.{planEngines, Verdict, planned, unplanned, verdictOf, usedEngines, planOutcome, plannedTypes, planLoads, planTable}
+use Rattle.planner.specs.Demands.{Demand1, Demand2, InOrder, Recovers, PlanPromises}
 use Rattle.planner.proofs.Exits.{Plans}
-use Rattle.planner.proofs.Cases.{Case, tooShort, tooSmall, noPlace, isPlanned, caseOf, plan-fills, on-fewest, few-used, length-loads, six-counts, idle-load, verdict-any}
+use Rattle.planner.proofs.Cases.{Case, tooShort, tooSmall, noPlace, isPlanned, caseOf, plan-fills, on-fewest, few-used, length-loads, six-counts, recovered-out, idle-load, verdict-any}
 
 -- ---- an engine that holds nothing
 
 pub idle-nothing : HoldsNothing idleEngine
-idle-nothing = record { time = refl; memory = refl; counts = λ t. ⊎-elim (λ h. getD-replicate typeLimit t 0 0 (ltb-true t typeLimit h)) (λ h. List·getD-eq-default (replicate typeLimit 0) 0 (ltb-false t typeLimit h)) (true-or-false (ltb t typeLimit)) }
+idle-nothing = record { time = refl; memory = refl; counts = λ t. ⊎-elim (λ h. getD-replicate typeLimit (t - 1) 0 0 (ltb-true (t - 1) typeLimit h)) (λ h. List·getD-eq-default (replicate typeLimit 0) 0 (ltb-false (t - 1) typeLimit h)) (true-or-false (ltb (t - 1) typeLimit)) }
 
 -- past the end of the loads nothing stands
 pub nothing-at : (loads : List EngineLoad) (e : ℕ) → getD loads (e - 1) idleEngine ≡ idleEngine → HoldsNothing (recordNo loads e)
@@ -96,6 +97,15 @@ module _ {y : System} {table : List ℕ} {room : ℕ} where
         let same : usedEngines (planned y) ≡ used = cc in
         subst (StandsOnFewest y (EngineOf y) (ceilingNo y) (planLoads (planned y))) same (on-fewest y limits can)
 
+    recovers-on : {v : Verdict} {after : List ℕ} → Case y table room v after → (used : ℕ) → planOutcome v ≡ accepted (used ∷ [])
+        → RecoveredBy y after used (ceilingNo y) (λ (e t : ℕ). getD (recordNo (planLoads v) e .counts) (t - 1) 0)
+    recovers-on (tooShort short) used o = let z : _≡_ {A = ℕ} 0 1 = cc in absurd (omega arith)
+    recovers-on (tooSmall long small) used o = let z : _≡_ {A = ℕ} 0 1 = cc in absurd (omega arith)
+    recovers-on (noPlace long enough none) used o = let z : _≡_ {A = ℕ} 0 1 = cc in absurd (omega arith)
+    recovers-on (isPlanned long enough can) used o =
+        let same : usedEngines (planned y) ≡ used = cc in
+        subst (λ (n : ℕ). RecoveredBy y (filled y (planEngines y) table) n (ceilingNo y) (λ (e t : ℕ). getD (recordNo (planLoads (planned y)) e .counts) (t - 1) 0)) same (recovered-out y limits can table long)
+
     sixteen : {v : Verdict} {after : List ℕ} → Case y table room v after → length (planLoads v) ≡ engineLimit
     sixteen (tooShort short) = refl
     sixteen (tooSmall long small) = refl
@@ -154,6 +164,7 @@ module _ (table : List ℕ) (room : ℕ) where
     pub plan-demand1 : Demand1 x table (planOutcome (verdictOf x table room)) (planTable x table room)
     plan-demand1 = record {
       asLent = lent-back x known;
+      unreadLent = λ n e. rw e refl;
       filledOn12 = λ y s e. rw e (filled-on-12 (known y e) (caseOf y (known y e) table room) s);
       filledOnPlan = λ y ns e. rw e (filled-on-plan (known y e) (caseOf y (known y e) table room) ns);
     }
@@ -167,6 +178,9 @@ module _ (table : List ℕ) (room : ℕ) where
       sixCounts = λ y used e is. rw is (counts-six (known y is) (caseOf y (known y is) table room) used e);
       idlePast = idle-past (verdictOf x table room);
     }
+
+    pub plan-recovers : Recovers x (planOutcome (verdictOf x table room)) (planLoads (verdictOf x table room)) (planTable x table room)
+    plan-recovers y used e = rw e (recovers-on (known y e) (caseOf y (known y e) table room) used)
 
 -- ---- so a call whose result is the one defined keeps the demands
 
@@ -192,6 +206,7 @@ promises-of file table room r after p = record {
   order = rw (p .answer) (plan-in-order table room x known);
   demand1 = rw (p .answer, p .left) (plan-demand1 table room x known);
   demand2 = rw (p .answer, p .loads) (plan-demand2 table room x known);
+  recovers = rw (p .answer, p .loads, p .left) (plan-recovers table room x known);
   usedSame = λ used o. p .used ∙ answer-used (verdictOf x table room) used (sym (p .answer) ∙ o);
   typesSame = λ y used e o. p .typecount ∙ types y used e (sym (p .answer) ∙ o);
 }

@@ -1,5 +1,5 @@
 -- What the lent list holds after a plan into it, and that a call that leaves it so keeps the demands.
-use Prim.Native.Nat.{ℕ, _-_, _<_, _≤_}
+use Prim.Native.Nat.{ℕ, _+_, _-_, _<_, _≤_}
 use mathlib.Core.Path.{_≡_, refl, sym, ap, subst, _∙_}
 use mathlib.Core.List.{List, [], _∷_}
 use mathlib.Core.Bool.{true}
@@ -10,18 +10,20 @@ use Rattle.system.specs.declared.System.{System}
 use Rattle.system.specs.declared.Answer.{Answer}
 use Rattle.system.specs.Limits.{engineLimit}
 use Rattle.system.specs.Layout.{Reading, opened, unread, readFile}
-use Rattle.system.specs.Outcome.{refused, fromInput, outcomeOf}
+use Rattle.system.specs.Outcome.{accepted, refused, fromInput, outcomeOf}
 use Rattle.system.proofs.Laws.{Limits, read-limits}
 use Rattle.loads.specs.declared.EngineLoad.{EngineLoad}
 use Rattle.partition.specs.Assignment.{Assignment}
 use Rattle.partition.specs.OwnWords.{overInstances}
-use Rattle.partition.specs.Plain.{LongEnough, placesNo, RecordIs, recordNo}
+use Rattle.partition.specs.Plain.{ceilingNo, LongEnough, placesNo, RecordIs, recordNo}
+use Rattle.table.specs.Table.{filled}
+use Rattle.table.specs.Meaning.{RecoveredBy}
 use Rattle.planner.specs.declared.EngineRecord.{EngineRecord}
-use Rattle.planner.specs.Plan.{Verdict, planned, unplanned, verdictOf, usedEngines, planOutcome, planLoads, planTable, recordOf, recordsOf, planList}
+use Rattle.planner.specs.Plan.{planEngines, Verdict, planned, unplanned, verdictOf, usedEngines, planOutcome, planLoads, planTable, recordOf, recordsOf, planList}
 use Rattle.planner.specs.Demands.{entryNo, ListsPlan, ListHolds, ListPromises}
 use Rattle.planner.proofs.Front.{front, length-front-of, getD-front-new, getD-front-old}
 use Rattle.planner.proofs.Records.{length-recordsFrom, getD-recordsOf}
-use Rattle.planner.proofs.Cases.{canPlace, on-fewest, few-used, length-loads, six-counts, idle-load, Case, tooShort, tooSmall, noPlace, isPlanned, caseOf}
+use Rattle.planner.proofs.Cases.{canPlace, on-fewest, few-used, length-loads, six-counts, recovered-out, idle-load, Case, tooShort, tooSmall, noPlace, isPlanned, caseOf}
 use Rattle.planner.proofs.Demands.{nothing-at, Known, plan-in-order, plan-demand1, plan-demand2, verdict-same}
 
 -- where a type has no instance, none is anywhere
@@ -82,7 +84,7 @@ module _ (list : List EngineRecord) (y : System) (limits : Limits y) (enough : y
       ∙ no-places e (placesNo χ t) (on-fewest y limits can .stands .partition .all t (omega arith) ∙ ap (λ (k : TaskType). k .ceiling) (limits .past (t - 1) (omega arith)))
 
   none-later : (e t : ℕ) → row < e → e ≤ y .engines → 1 ≤ t → overInstances e 1 (placesNo χ t) ≡ 0
-  none-later e t h last low = sym (record-is e (omega arith) (up-to e last) .counts t low) ∙ nothing-at loads e (idle-load y (e - 1) (omega arith)) .counts (t - 1)
+  none-later e t h last low = sym (record-is e (omega arith) (up-to e last) .counts t low) ∙ nothing-at loads e (idle-load y (e - 1) (omega arith)) .counts t
 
   lists-plan : ListsPlan y row after
   lists-plan = record {
@@ -103,6 +105,18 @@ module _ (list : List EngineRecord) (y : System) (limits : Limits y) (enough : y
     lists = λ d used e o. (let same : row ≡ used = cc in let own : y ≡ d = cc in subst (λ (z : System). ListsPlan z used after) own (subst (λ (n : ℕ). ListsPlan y n after) same lists-plan));
     laterKept = λ used e o h. (let same : row ≡ used = cc in later-kept e (omega arith));
   }
+
+  list-recovers : (table : List ℕ) → LongEnough y table → RecoveredBy y (filled y (planEngines y) table) row (ceilingNo y) (λ (e t : ℕ). getD (entryNo after e .load .counts) (t - 1) 0)
+  list-recovers table long =
+      let r = recovered-out y limits can table long in
+      record {
+        column = r .column;
+        starts = r .starts;
+        says = r .says;
+        lowestRow = r .lowestRow;
+        down = r .down;
+        gets = λ i t h. ap (λ (z : EngineRecord). getD (z .load .counts) (t - 1) 0) (entry-is (i + 1) (omega arith) (omega arith)) ∙ r .gets i t h;
+      }
 
 -- ---- any file
 
@@ -126,6 +140,19 @@ plan-list-holds list table (opened y) known = go (caseOf y (known y refl) table 
     go (noPlace long enough none) = unplanned-holds list (opened y) 12
     go (isPlanned long enough can) = planned-holds list y (known y refl) enough can
 
+plan-list-recovers : (list : List EngineRecord) (table : List ℕ) (x : Reading) → Known x → (y : System) (used : ℕ) → x ≡ opened y → planOutcome (verdictOf x table (length list)) ≡ accepted (used ∷ [])
+    → RecoveredBy y (planTable x table (length list)) used (ceilingNo y) (λ (e t : ℕ). getD (entryNo (planList (verdictOf x table (length list)) list) e .load .counts) (t - 1) 0)
+plan-list-recovers list table x known y used e = rw e (go (known y e) (caseOf y (known y e) table (length list)))
+  where
+    go : Limits y → {v : Verdict} {after : List ℕ} → Case y table (length list) v after → planOutcome v ≡ accepted (used ∷ []) → RecoveredBy y after used (ceilingNo y) (λ (d t : ℕ). getD (entryNo (planList v list) d .load .counts) (t - 1) 0)
+    go limits (tooShort short) o = let z : _≡_ {A = ℕ} 0 1 = cc in absurd (omega arith)
+    go limits (tooSmall long small) o = let z : _≡_ {A = ℕ} 0 1 = cc in absurd (omega arith)
+    go limits (noPlace long enough none) o = let z : _≡_ {A = ℕ} 0 1 = cc in absurd (omega arith)
+    go limits (isPlanned long enough can) o =
+        let same : usedEngines (planned y) ≡ used = cc in
+        subst (λ (n : ℕ). RecoveredBy y (filled y (planEngines y) table) n (ceilingNo y) (λ (d t : ℕ). getD (entryNo (planList (planned y) list) d .load .counts) (t - 1) 0)) same
+        (list-recovers list y limits enough can table long)
+
 -- ---- so a call whose result is the one defined keeps the demands
 
 pub list-promises-of : (file table : List ℕ) (list : List EngineRecord) (answer : Answer) (tableAfter : List ℕ) (listAfter : List EngineRecord)
@@ -141,6 +168,7 @@ list-promises-of file table list answer tableAfter listAfter a t l = record {
   demand1 = rw (a, t) (plan-demand1 table (length list) x known);
   demand2 = rw a (plan-demand2 table (length list) x known);
   holds = rw (a, l) (plan-list-holds list table x known);
+  recovers = rw (a, t, l) (plan-list-recovers list table x known);
 }
   where
     x : Reading

@@ -12,13 +12,13 @@ use Rattle.system.specs.Outcome.{Outcome, Source, accepted, refused, fromInput,
 use Rattle.loads.specs.declared.EngineLoad.{EngineLoad}
 use Rattle.partition.specs.Assignment.{Assignment}
 use Rattle.partition.specs.OwnWords.{overInstances}
-use Rattle.partition.specs.Plain.{ceilingNo, columnsOut, LongEnough, EngineOf, placesNo, Partition, Impossible, RecordIs, recordNo, StandsOnFewest}
-use Rattle.table.specs.Meaning.{FilledMeans}
+use Rattle.partition.specs.Plain.{ceilingNo, columnsOut, LongEnough, EngineOf, placesNo, Partition, Impossible, RecordIs, recordNo, HoldsNothing, StandsOnFewest}
+use Rattle.table.specs.Meaning.{FilledMeans, RecoveredBy}
 use Rattle.planner.specs.declared.Plan.{Plan}
 use Rattle.planner.specs.declared.EngineRecord.{EngineRecord}
 use Rattle.planner.specs.Plan.{verdictOf, usedEngines, planOutcome, plannedTypes, planLoads, planTable, planList}
 
--- "Plan continues 11, 15, 12": 1 to 10 are judged before 11, which is for a table shorter than (m+1) × columns, and 11 before 15, which is for a list shorter than m.
+-- "Plan continues 11, 15, 12": 1 to 10 and 31 are judged before 11, which is for a table shorter than (m+1) × columns, and 11 before 15, which is for a list shorter than m.
 -- Demand 2 says when it is 12
 pub record InOrder (x : Reading) (table : List ℕ) (room : ℕ) (outcome : Outcome) : Type 0 where
   pub fileFirst : (n : ℕ) → x ≡ unread n → outcome ≡ refused fromInput n
@@ -28,14 +28,9 @@ pub record InOrder (x : Reading) (table : List ℕ) (room : ℕ) (outcome : Outc
 -- Demand 1: a refused plan leaves the table as it was lent, except that 12 leaves it filled; a plan that is given leaves it filled
 pub record Demand1 (x : Reading) (table : List ℕ) (outcome : Outcome) (after : List ℕ) : Type 0 where
   pub asLent : (s : Source) (n : ℕ) → outcome ≡ refused s n → (n ≡ 12 → ⊥) → after ≡ table
+  pub unreadLent : (n : ℕ) → x ≡ unread n → after ≡ table
   pub filledOn12 : (y : System) (s : Source) → x ≡ opened y → outcome ≡ refused s 12 → FilledMeans y (y .engines) table after
   pub filledOnPlan : (y : System) (ns : List ℕ) → x ≡ opened y → outcome ≡ accepted ns → FilledMeans y (y .engines) table after
-
--- an engine that holds nothing
-pub record HoldsNothing (l : EngineLoad) : Type 0 where
-  pub time : l .time ≡ 0
-  pub memory : l .memory ≡ 0
-  pub counts : (t : ℕ) → getD (l .counts) t 0 ≡ 0
 
 -- Demand 2: where the file reads and 11 and 15 pass, a plan is refused 12 exactly when the n(t) instances of each type cannot be partitioned among the engines 1 to m;
 -- a plan that is given is such a partition on the fewest engines, one load of six counts for each engine that a system can have, and the engines past the answer hold nothing
@@ -47,6 +42,11 @@ pub record Demand2 (x : Reading) (table : List ℕ) (room : ℕ) (outcome : Outc
   pub sixCounts : (y : System) (used e : ℕ) → x ≡ opened y → outcome ≡ accepted (used ∷ []) → 1 ≤ e → e ≤ 16 → length (recordNo loads e .counts) ≡ 6
   pub idlePast : (used e : ℕ) → outcome ≡ accepted (used ∷ []) → used < e → HoldsNothing (recordNo loads e)
 
+-- "the recovery of n(t) instances of each type", read in the table that the plan leaves: engine e has row e of it
+abbrev pub Recovers : Reading → Outcome → List EngineLoad → List ℕ → Type 0
+Recovers x outcome loads after =
+    (y : System) (used : ℕ) → x ≡ opened y → outcome ≡ accepted (used ∷ []) → RecoveredBy y after used (ceilingNo y) (λ (e t : ℕ). getD (recordNo loads e .counts) (t - 1) 0)
+
 -- what the call `plan_of` promises: its whole result and the table; with that demands 1 and 2, and that the two other numbers of a given plan are those of the answer and of the file
 pub record PlanPromises (x : Reading) (table : List ℕ) (room : ℕ) (r : Plan) (after : List ℕ) : Type 0 where
   pub answers : outcomeOf (r .answer) ≡ planOutcome (verdictOf x table room)
@@ -57,6 +57,7 @@ pub record PlanPromises (x : Reading) (table : List ℕ) (room : ℕ) (r : Plan)
   pub order : InOrder x table room (outcomeOf (r .answer))
   pub demand1 : Demand1 x table (outcomeOf (r .answer)) after
   pub demand2 : Demand2 x table room (outcomeOf (r .answer)) (r .loads)
+  pub recovers : Recovers x (outcomeOf (r .answer)) (r .loads) after
   pub usedSame : (used : ℕ) → outcomeOf (r .answer) ≡ accepted (used ∷ []) → r .used ≡ used
   pub typesSame : (y : System) (used : ℕ) → x ≡ opened y → outcomeOf (r .answer) ≡ accepted (used ∷ []) → r .typecount ≡ y .typecount
 
@@ -92,3 +93,4 @@ pub record ListPromises (x : Reading) (table : List ℕ) (list : List EngineReco
   pub demand1 : Demand1 x table (outcomeOf answer) tableAfter
   pub demand2 : Demand2 x table (length list) (outcomeOf answer) (planLoads (verdictOf x table (length list)))
   pub holds : ListHolds x list (outcomeOf answer) listAfter
+  pub recovers : (y : System) (used : ℕ) → x ≡ opened y → outcomeOf answer ≡ accepted (used ∷ []) → RecoveredBy y tableAfter used (ceilingNo y) (λ (e t : ℕ). getD (entryNo listAfter e .load .counts) (t - 1) 0)

@@ -108,7 +108,7 @@ fn lent_check(y: System, entries: usize, room: usize) -> Check
     list_check(y, room)
 }
 
-// The plan of a file where the list that is to hold it has room for `room` records: refusals 1 to 10, 11, 15, 12.
+// The plan of a file where the list that is to hold it has room for `room` records: refusals 1 to 10 and 31, 11, 15, 12.
 fn plan_for(file: &[u8], table: &mut [u16], room: usize) -> Plan
     ensures { λ r. ⌜ PlanPromises (readFile (now (file .entry))) (now (table .entry)) room r (now (table .exit)) ⌝ }
 {

@@ -19,7 +19,7 @@ use Rattle.loads.specs.Load.{holdsNone, idleEngine}
 use Rattle.loads.proofs.Order.{cons-path}
 use Rattle.partition.proofs.Lists.{not-both}
 use Rattle.table.proofs.Filled.{length-upTo, getD-upTo}
-use Rattle.sheets.specs.Sheet.{headerRule, recordRule, fieldSize, headBytes, countsBytes, recordBytes, recordsBytes, usedIn, sheetBytes, countIn, countsIn, loadIn, takenAt, loadsFrom, loadsIn}
+use Rattle.sheets.specs.Sheet.{headerRule, recordRule, fieldSize, headBytes, countsBytes, recordBytes, recordsBytes, usedIn, sheetBytes, statedCount, statedCounts, statedLoad, takenAt, loadsFrom, loadsIn}
 use Rattle.sheets.proofs.Sizes.{length-record}
 
 -- what a sheet of k types can state of an engine
@@ -50,7 +50,7 @@ counts-back (x ∷ xs) rest (suc t) h =
 -- main: one record
 
 module _ (k e : ℕ) (l : EngineLoad) (rest : List ℕ) (few : k ≤ typeLimit) (tidy : Tidy k l) where
-  count-back : (t : ℕ) (b : Bool) → ltb t k ≡ b → countIn k (recordBytes k e l ++ rest) t ≡ getD (l .counts) t 0
+  count-back : (t : ℕ) (b : Bool) → ltb t k ≡ b → statedCount k (recordBytes k e l ++ rest) t ≡ getD (l .counts) t 0
   unfolding recordBytes
   count-back t true q =
       let less = ltb-true t k q in
@@ -61,13 +61,13 @@ module _ (k e : ℕ) (l : EngineLoad) (rest : List ℕ) (few : k ≤ typeLimit) 
       ∙ getD-take k (l .counts) t 0 less)
   count-back t false q = rw q (sym (tidy .past t (ltb-false t k q)))
 
-  load-back : loadIn k (recordBytes k e l ++ rest) ≡ l
+  load-back : statedLoad k (recordBytes k e l ++ rest) ≡ l
   load-back =
       let time : word4 (recordBytes k e l ++ rest) 4 ≡ l .time = unfold recordBytes in bytes4-read (l .time) in
       let memory : word4 (recordBytes k e l ++ rest) 8 ≡ l .memory = unfold recordBytes in bytes4-read (l .memory) in
-      let counts : countsIn k (recordBytes k e l ++ rest) ≡ l .counts =
-      ext-getD 0 (countsIn k (recordBytes k e l ++ rest)) (l .counts) (length-upTo _ typeLimit ∙ sym (tidy .six))
-      (λ t h. getD-upTo (countIn k (recordBytes k e l ++ rest)) typeLimit t (omega (arith, length-upTo (countIn k (recordBytes k e l ++ rest)) typeLimit)) ∙ count-back t (ltb t k) refl) in
+      let counts : statedCounts k (recordBytes k e l ++ rest) ≡ l .counts =
+      ext-getD 0 (statedCounts k (recordBytes k e l ++ rest)) (l .counts) (length-upTo _ typeLimit ∙ sym (tidy .six))
+      (λ t h. getD-upTo (statedCount k (recordBytes k e l ++ rest)) typeLimit t (omega (arith, length-upTo (statedCount k (recordBytes k e l ++ rest)) typeLimit)) ∙ count-back t (ltb t k) refl) in
       λ i. record { time = time i; memory = memory i; counts = counts i }
 
 -- main: the records of all engines

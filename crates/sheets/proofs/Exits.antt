@@ -9,12 +9,12 @@ use Rattle.system.specs.declared.System.{System}
 use Rattle.system.specs.declared.Opened.{Opened}
 use Rattle.system.specs.declared.Refusal.{Refusal}
 use Rattle.system.specs.declared.Refusal.the-variants.{Input, State}
-use Rattle.system.specs.declared.Answer.{Answer}
-use Rattle.system.specs.declared.Answer.the-variants.{Accepted, Number, Refused as Declined}
+use Rattle.system.specs.declared.Answer.the-variants.{Refused as Declined}
 use Rattle.system.specs.Values.{ceilingsOf}
 use Rattle.system.specs.Limits.{keepsLimits}
-use Rattle.system.specs.Layout.{Reading, opened, unread, readOutcome, Reads}
-use Rattle.system.specs.Outcome.{fromInput, refused, refusalOf, outcomeOf, Checked, passes, andThen, failsWith}
+use Rattle.system.specs.Layout.{Reading, opened, Reads}
+use Rattle.system.specs.Outcome.{fromInput, refused, refusalOf, Checked, passes, andThen, failsWith}
+use Rattle.system.proofs.Laws.{unread-with}
 use Rattle.system.proofs.Checks.{check-passed, both-passed}
 use Rattle.partition.specs.ForSystem.{rowFor}
 use Rattle.table.specs.declared.Placement.{Placement}
@@ -33,23 +33,9 @@ refused-same (Input m) n e = cc
 refused-same (State m) n e = let z : _≡_ {A = ℕ} 0 1 = cc in absurd (omega arith)
 
 pub unread-checks : (x : Reading) (r : Opened) → Reads x r → (why : Refusal) → r .answer ≡ Declined why → (sheet table : List ℕ) → Checks x sheet table (Refused why) table
-unread-checks (unread n) r reads why is sheet table =
-    record { answer = refused-same why n (sym (ap outcomeOf is) ∙ reads .answer); left = refl }
-unread-checks (opened y) r reads why is sheet table = absurd (clash why (sym (ap outcomeOf is) ∙ reads .answer))
-  where
-    clash : (why : Refusal) → refusalOf why ≡ readOutcome (opened y) → ⊥
-    clash (Input m) e = let z : _≡_ {A = ℕ} 0 1 = cc in omega arith
-    clash (State m) e = let z : _≡_ {A = ℕ} 0 1 = cc in omega arith
-
--- an answer that is no refusal is that of a file that opens
-only-refused : (a : Answer) (n : ℕ) → outcomeOf a ≡ refused fromInput n → (why : Refusal) × (a ≡ Declined why)
-only-refused Accepted n e = let z : _≡_ {A = ℕ} 0 1 = cc in absurd (omega arith)
-only-refused (Number k) n e = let z : _≡_ {A = ℕ} 0 1 = cc in absurd (omega arith)
-only-refused (Declined why) n e = (why, refl)
-
-pub opened-unless : (x : Reading) (r : Opened) → Reads x r → ((why : Refusal) → r .answer ≡ Declined why → ⊥) → x ≡ opened (r .system)
-opened-unless (opened y) r reads h = ap opened (sym (reads .system))
-opened-unless (unread n) r reads h = let (why, is) = only-refused (r .answer) n (reads .answer) in absurd (h why is)
+unread-checks x r reads why is sheet table =
+    let (n, same, says) = unread-with x r reads why is in
+    rw same (record { answer = refused-same why n says; left = refl })
 
 -- ---- a file that reads as y
 

@@ -24,7 +24,7 @@ use Rattle.planner.specs.declared.EngineRecord.{EngineRecord}
 use Rattle.planner.specs.Plan.{planEngines}
 use Rattle.planner.proofs.Cases.{canPlace, on-fewest}
 use Rattle.board.specs.Boards.{standingOf}
-use Rattle.sheets.specs.Sheet.{headerRule, recordRule, fieldSize, usedIn, sheetBytes, countIn, countsIn, takenAt, isNext, loadsFrom, loadsIn}
+use Rattle.sheets.specs.Sheet.{headerRule, recordRule, fieldSize, usedIn, sheetBytes, statedCount, statedCounts, takenAt, isNext, loadsFrom, loadsIn}
 use Rattle.sheets.specs.Checking.{laidOut, summedUp, addedUp, statedLoads, fewerDo}
 use Rattle.sheets.specs.Meaning.{sheetOut, GoodForAll, sheetWith, Each, Stated, SumsAndFit, AddUp}
 use Rattle.sheets.proofs.Back.{Neat, sheet-back}
@@ -39,12 +39,12 @@ unfolding loadsFrom
 length-loadsFrom m k sheet at e zero = refl
 length-loadsFrom m k sheet at e (suc n) = ap suc (length-loadsFrom m k sheet (takenAt m k sheet at e .next) (suc e) n)
 
-counts-past : (k : ℕ) (s : List ℕ) (t : ℕ) → k ≤ t → getD (countsIn k s) t 0 ≡ 0
+counts-past : (k : ℕ) (s : List ℕ) (t : ℕ) → k ≤ t → getD (statedCounts k s) t 0 ≡ 0
 counts-past k s t h = go (ltb t typeLimit) refl
   where
-    go : (b : Bool) → ltb t typeLimit ≡ b → getD (countsIn k s) t 0 ≡ 0
-    go true q = getD-upTo (countIn k s) typeLimit t (ltb-true t typeLimit q) ∙ rw (le-ltb t k h)
-    go false q = List·getD-eq-default (countsIn k s) 0 (omega (arith, length-upTo (countIn k s) typeLimit, ltb-false t typeLimit q))
+    go : (b : Bool) → ltb t typeLimit ≡ b → getD (statedCounts k s) t 0 ≡ 0
+    go true q = getD-upTo (statedCount k s) typeLimit t (ltb-true t typeLimit q) ∙ rw (le-ltb t k h)
+    go false q = List·getD-eq-default (statedCounts k s) 0 (omega (arith, length-upTo (statedCount k s) typeLimit, ltb-false t typeLimit q))
 
 module _ (m k : ℕ) (sheet : List ℕ) where
   taken-shaped : (at e n : ℕ) → Shaped m k e (loadsFrom m k sheet at e n)
@@ -56,7 +56,7 @@ module _ (m k : ℕ) (sheet : List ℕ) where
           → Shaped m k e (loadsFrom m k sheet at e (suc n))
       go true q later kept =
           rw q
-          (along {e = e} (length-upTo (countIn k (drop at sheet)) typeLimit) (counts-past k (drop at sheet))
+          (along {e = e} (length-upTo (statedCount k (drop at sheet)) typeLimit) (counts-past k (drop at sheet))
           (λ h. absurd (omega (arith, leb-true e m (and-parts (eqb (byteAt (drop at sheet) 3) e) (leb e m) q .1))))
           later)
       go false q later kept = rw q (along {e = e} refl (λ t h. getD-padded [] typeLimit t 0) (λ h. refl) kept)

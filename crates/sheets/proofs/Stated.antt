@@ -7,7 +7,7 @@ use native.Mathlib.Nat.{zero-mul, le-refl}
 use native.Mathlib.Omega.{arith}
 use borrow.Author.Tests.{ltb-true, ltb-false, eqb-true, eqb-false}
 use lib.ListN.{length, getD, take}
-use lib.Seq.{take-suc}
+use lib.Seq.{take-suc, length-take-le}
 use lib.Dec.{ltb, eqb}
 use Rattle.buffer.specs.Bytes.{bytes4}
 use Rattle.system.specs.Limits.{typeLimit}
@@ -15,13 +15,14 @@ use Rattle.loads.specs.declared.EngineLoad.{EngineLoad}
 use Rattle.loads.specs.Load.{holdsNone, idleEngine}
 use Rattle.loads.proofs.Order.{cons-path, holdsNone-is-zero}
 use Rattle.partition.specs.Shares.{usedLoads}
+use Rattle.partition.specs.Plain.{recordNo}
 use Rattle.partition.proofs.Lists.{not-both, getD-padded}
 use Rattle.writer.proofs.Bytes.{four-out}
 use Rattle.planner.specs.declared.EngineRecord.{EngineRecord}
-use Rattle.planner.specs.Plan.{recordOf}
+use Rattle.planner.specs.Plan.{recordOf, recordsFrom}
 use Rattle.board.specs.Words.{countNo}
 use Rattle.sheets.specs.Sheet.{headerRule, recordRule, headBytes, countsBytes, recordBytes, recordsBytes, usedIn, sheetBytes}
-use Rattle.sheets.specs.Meaning.{countsOut, recordOut, headedOut, recordsOut, sheetWith, Rising, none, next, Each, done, more, HasInstance}
+use Rattle.sheets.specs.Meaning.{countsOut, recordOut, headedOut, recordsOut, sheetWith, Rising, none, next, Each, done, more, HasInstance, recordsTo}
 use Rattle.sheets.proofs.Putting.{counts-more}
 use Rattle.sheets.proofs.Back.{Tidy, Neat, nil, cons, not-past}
 
@@ -115,7 +116,7 @@ holds-some {l = l} has = go (holdsNone (l .counts)) refl
     go true q = absurd (omega (arith, no-count (l .counts) q (has .type - 1), has .some))
     go false q = refl
 
-idle-none : holdsNone (idleEngine .counts) ≡ true
+pub idle-none : holdsNone (idleEngine .counts) ≡ true
 unfolding holdsNone
 idle-none = refl
 
@@ -147,6 +148,76 @@ gather-each {k = k} {e = e} {ls = l ∷ ls} (along six past idle rest) = go (hol
     go : (b : Bool) → holdsNone (l .counts) ≡ b → Each (HasInstance k) (gather (suc e) ls) → Each (HasInstance k) (cond b (gather (suc e) ls) (recordOf e l ∷ gather (suc e) ls))
     go true q kept = kept
     go false q kept = more (has q) kept
+
+-- main: where as many engines hold an instance as stand before those that hold none, what is gathered is the records of the engines from the first on
+
+-- those past u hold none
+abbrev pub NonePast : ℕ → List EngineLoad → Type 0
+NonePast u ls = (i : ℕ) → u ≤ i → holdsNone (getD ls i idleEngine .counts) ≡ true
+
+used-below : (ls : List EngineLoad) (u : ℕ) → NonePast u ls → usedIn ls ≤ u
+unfolding usedLoads
+used-below [] u idle = omega arith
+used-below (l ∷ ls) zero idle = go (holdsNone (l .counts)) (idle 0 (le-refl 0)) (used-below ls zero (λ i h. idle (suc i) (omega arith)))
+  where
+    go : (b : Bool) → b ≡ true → usedIn ls ≤ zero → cond b (usedIn ls) (suc (usedIn ls)) ≤ zero
+    go true q h = h
+    go false q h = absurd (not-both q refl)
+used-below (l ∷ ls) (suc u) idle = go (holdsNone (l .counts)) (used-below ls u (λ i h. idle (suc i) (omega arith)))
+  where
+    go : (b : Bool) → usedIn ls ≤ u → cond b (usedIn ls) (suc (usedIn ls)) ≤ suc u
+    go true h = omega arith
+    go false h = omega arith
+
+gather-none : (e : ℕ) (ls : List EngineLoad) → NonePast zero ls → gather e ls ≡ []
+unfolding gather
+gather-none e [] idle = refl
+gather-none e (l ∷ ls) idle = go (holdsNone (l .counts)) (idle 0 (le-refl 0)) (gather-none (suc e) ls (λ i h. idle (suc i) (omega arith)))
+  where
+    go : (b : Bool) → b ≡ true → gather (suc e) ls ≡ [] → cond b (gather (suc e) ls) (recordOf e l ∷ gather (suc e) ls) ≡ []
+    go true q h = h
+    go false q h = absurd (not-both q refl)
+
+gather-first : (e u : ℕ) (ls : List EngineLoad) → usedIn ls ≡ u → NonePast u ls → gather e ls ≡ recordsFrom e (take u ls)
+unfolding usedLoads gather recordsFrom
+gather-first e zero ls used idle = gather-none e ls idle
+gather-first e (suc u) [] used idle = absurd (omega (arith, used))
+gather-first e (suc u) (l ∷ ls) used idle = go (holdsNone (l .counts)) used (gather-first (suc e) u ls)
+  where
+    later : NonePast u ls
+    later i h = idle (suc i) (omega arith)
+
+    go : (b : Bool) → cond b (usedIn ls) (suc (usedIn ls)) ≡ suc u → (usedIn ls ≡ u → NonePast u ls → gather (suc e) ls ≡ recordsFrom (suc e) (take u ls))
+        → cond b (gather (suc e) ls) (recordOf e l ∷ gather (suc e) ls) ≡ recordOf e l ∷ recordsFrom (suc e) (take u ls)
+    go true h rest = absurd (omega (arith, h, used-below ls u later))
+    go false h rest = ap (λ (rs : List EngineRecord). recordOf e l ∷ rs) (rest (omega (arith, h)) later)
+
+records-snoc : (e : ℕ) (ls : List EngineLoad) (l : EngineLoad) → recordsFrom e (ls ++ (l ∷ [])) ≡ recordsFrom e ls ++ (recordOf (e + length ls) l ∷ [])
+unfolding recordsFrom
+records-snoc e [] l =
+    let same : e ≡ e + 0 = omega arith in
+    ap (λ (n : ℕ). recordOf n l ∷ []) same
+records-snoc e (k ∷ ls) l =
+    let same : suc e + length ls ≡ e + suc (length ls) = omega arith in
+    ap (λ (rs : List EngineRecord). recordOf e k ∷ rs) (records-snoc (suc e) ls l ∙ ap (λ (n : ℕ). recordsFrom (suc e) ls ++ (recordOf n l ∷ [])) same)
+
+-- what `recordNo` gives past the end
+abbrev blank : EngineLoad
+blank = record { time = 0; memory = 0; counts = [] }
+
+records-to : (ls : List EngineLoad) (u : ℕ) → u ≤ length ls → recordsFrom 1 (take u ls) ≡ recordsTo ls u
+unfolding recordsFrom recordsTo
+records-to ls zero h = refl
+records-to ls (suc u) h =
+    let earlier : recordsFrom 1 (take u ls) ≡ recordsTo ls u = records-to ls u (omega arith) in
+    let size : 1 + length (take u ls) ≡ suc u = omega (arith, length-take-le u ls (omega arith)) in
+    let load : getD ls u blank ≡ recordNo ls (suc u) = ap (λ (j : ℕ). getD ls j blank) (sym (number-back u)) in
+    ap (recordsFrom 1) (take-suc ls u blank h)
+    ∙ records-snoc 1 (take u ls) (getD ls u blank)
+    ∙ (λ i. earlier i ++ (recordOf (size i) (load i) ∷ []))
+
+pub gather-to : (u : ℕ) (ls : List EngineLoad) → u ≤ length ls → usedIn ls ≡ u → NonePast u ls → gather 1 ls ≡ recordsTo ls u
+gather-to u ls h used idle = gather-first 1 u ls used idle ∙ records-to ls u h
 
 -- main: from records, numbers rising, to the loads of the engines e, e + 1, .., as many as n
 

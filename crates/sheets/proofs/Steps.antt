@@ -19,7 +19,7 @@ use Rattle.loads.proofs.Steps.{ceilings}
 use Rattle.partition.specs.Listing.{sameList}
 use Rattle.table.specs.Table.{upTo}
 use Rattle.sheets.specs.declared.Taken.{Taken}
-use Rattle.sheets.specs.Sheet.{recordRule, fieldSize, loadIn, isNext, takenAt, loadsFrom}
+use Rattle.sheets.specs.Sheet.{recordRule, fieldSize, statedLoad, isNext, takenAt, loadsFrom}
 
 -- two lists of numbers
 pub same-turn : (a b : List ℕ) (i : ℕ) → i < length a → i < length b → sameList eqb (drop i a) (drop i b) ≡ (eqb (getD a i 0) (getD b i 0) && sameList eqb (drop (i + 1) a) (drop (i + 1) b))
@@ -76,13 +76,13 @@ pub taken-near : (m k : ℕ) (sheet : List ℕ) (at e : ℕ) → k ≤ 6 → tak
 unfolding takenAt
 taken-near m k sheet at e few = go (isNext m (drop at sheet) e)
   where
-    go : (b : Bool) → (cond {A = Taken} b (record { load = loadIn k (drop at sheet); next = at + fieldSize recordRule k }) (record { load = idleEngine; next = at })) .next ≤ at + 24
+    go : (b : Bool) → (cond {A = Taken} b (record { load = statedLoad k (drop at sheet); next = at + fieldSize recordRule k }) (record { load = idleEngine; next = at })) .next ≤ at + 24
     go true = omega arith
     go false = omega arith
 
 -- what is taken, from what the code reads at the place
 module _ (m k : ℕ) (sheet : List ℕ) (at e : ℕ) (rest : List ℕ) (is : rest ≡ drop at sheet) (number : ℕ) (read : number ≡ byteAt rest 3) where
-  pub taken-yes : (eqb number e && leb e m) ≡ true → (l : EngineLoad) → l ≡ loadIn k rest → (size : ℕ) → size ≡ fieldSize recordRule k → _≡_ {A = Taken} (record { load = l; next = at + size }) (takenAt m k sheet at e)
+  pub taken-yes : (eqb number e && leb e m) ≡ true → (l : EngineLoad) → l ≡ statedLoad k rest → (size : ℕ) → size ≡ fieldSize recordRule k → _≡_ {A = Taken} (record { load = l; next = at + size }) (takenAt m k sheet at e)
   unfolding takenAt
   taken-yes test l loaded size sized = rw (← is, ← read, test, loaded, sized)
 

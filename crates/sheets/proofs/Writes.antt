@@ -1,6 +1,6 @@
 -- What `write_sheet` promises, from what it answers and leaves by definition: the sheet of a plan is that of a good assignment on the fewest engines, and the check finds it right.
 use Prim.Native.Nat.{ℕ, _+_, _*_, _≤_, _<_}
-use mathlib.Core.Path.{_≡_, refl, sym, ap, ap₂, _∙_}
+use mathlib.Core.Path.{_≡_, refl, sym, ap, ap₂, subst, _∙_}
 use mathlib.Core.List.{List, [], _∷_, _++_}
 use mathlib.Core.Bool.{Bool, true, false, cond}
 use mathlib.Core.Logic.{_↔_}
@@ -20,7 +20,7 @@ use Rattle.system.specs.Layout.{Reading, readFile, opened, unread}
 use Rattle.system.specs.Outcome.{Outcome, Source, accepted, refused, fromInput, outcomeOf}
 use Rattle.system.proofs.Laws.{limits-of, read-keeps-limits}
 use Rattle.loads.specs.declared.EngineLoad.{EngineLoad}
-use Rattle.loads.specs.Load.{idleEngine}
+use Rattle.loads.specs.Load.{holdsNone, idleEngine}
 use Rattle.loads.proofs.Order.{within-refl}
 use Rattle.partition.specs.Assignment.{Assignment, countOn}
 use Rattle.partition.specs.ForSystem.{OnFewest as RecoveredOn}
@@ -33,13 +33,15 @@ use Rattle.buffer.specs.Written.{Puts}
 use Rattle.planner.specs.declared.Plan.{Plan}
 use Rattle.planner.specs.Plan.{planEngines, Verdict, planned, unplanned, verdictOf, usedEngines, planOutcome, plannedTypes, planLoads, planTable}
 use Rattle.planner.specs.Demands.{PlanPromises}
-use Rattle.planner.proofs.Cases.{canPlace, plan-fills, on-fewest, length-loads, Case, tooShort, tooSmall, noPlace, isPlanned, caseOf}
+use Rattle.planner.proofs.Cases.{canPlace, plan-fills, on-fewest, few-used, length-loads, idle-load, Case, tooShort, tooSmall, noPlace, isPlanned, caseOf}
 use Rattle.sheets.specs.Sheet.{sheetBytes, sheetSize, usedIn}
 use Rattle.sheets.specs.Writing.{sheetVerdict, planSheet, writeOutcome, writtenTo, writeTable}
 use Rattle.sheets.specs.Checking.{right, fewerDo, checkOutcome}
-use Rattle.sheets.specs.Meaning.{sheetOut, GoodForAll, OnFewest, WritesInOrder, SheetWritten, WritePromises}
+use Rattle.sheets.specs.Meaning.{sheetOut, GoodForAll, sheetWith, GoodOnFewest, SheetsInOrder, SheetWritten, recordsTo, OfPlan, WriteSheetPromises}
 use Rattle.sheets.proofs.Sizes.{length-sheet}
-use Rattle.sheets.proofs.Assigned.{Assigns, assigns-good, sheet-assigned, used-assigned, six-places, on-engines, placed-loads}
+use Rattle.sheets.proofs.Back.{Neat}
+use Rattle.sheets.proofs.Stated.{neat-shaped, gather-sheet, idle-none, gather-to}
+use Rattle.sheets.proofs.Assigned.{loadsOf, Assigns, assigns-good, sheet-assigned, used-assigned, six-places, on-engines, assigned-neat, placed-loads}
 use Rattle.sheets.proofs.Right.{sheet-of, sheet-passed, fewer-out}
 use Rattle.sheets.proofs.Promises.{right-of}
 
@@ -71,14 +73,14 @@ module _ (y : System) (keeps : keepsLimits y ≡ true) (can : canPlace y ≡ tru
   uses : usedTo (y .engines) mapping ≡ usedEngines (planned y)
   uses = usedTo-usedOf (y .engines) mapping ∙ recovered .uses
 
-  on-fewest-engines : OnFewest y mapping
+  on-fewest-engines : GoodOnFewest y mapping
   on-fewest-engines = record {
     good = assigns-good y (limits-of y keeps) mapping assigns;
     fewest = λ χ good. omega (arith, uses, on-fewest y (limits-of y keeps) can .fewest χ good);
   }
 
   -- any assignment on the fewest engines uses as many
-  as-few : (χ : Assignment) → OnFewest y χ → usedTo (y .engines) χ ≡ usedTo (y .engines) mapping
+  as-few : (χ : Assignment) → GoodOnFewest y χ → usedTo (y .engines) χ ≡ usedTo (y .engines) mapping
   as-few χ f = le-antisymm (f .fewest mapping (on-fewest-engines .good)) (on-fewest-engines .fewest χ (f .good))
 
   pub size-planned : length (planSheet (planned y)) ≡ sheetSize (y .typecount) loads
@@ -92,7 +94,7 @@ module _ (y : System) (keeps : keepsLimits y ≡ true) (can : canPlace y ≡ tru
       ap usedIn (placed-loads y (planEngines y) (ceilingsOf y) loads (length-loads y (limits-of y keeps) can) (recovered .placed))
       ∙ used-assigned y (limits-of y keeps) mapping (six-places y keeps mapping assigns) (on-engines y keeps mapping assigns)
 
-  size-out : (χ : Assignment) → OnFewest y χ → length (planSheet (planned y)) ≡ sizeFor y χ
+  size-out : (χ : Assignment) → GoodOnFewest y χ → length (planSheet (planned y)) ≡ sizeFor y χ
   size-out χ f =
       let few : usedIn loads ≡ usedTo (y .engines) χ = used-mapped ∙ sym (as-few χ f) in
       size-planned ∙ rw few (plain (usedTo (y .engines) χ) (y .typecount))
@@ -101,6 +103,15 @@ module _ (y : System) (keeps : keepsLimits y ≡ true) (can : canPlace y ≡ tru
       plain u k =
           let each : 3 + (9 + 2 * k) ≡ 12 + 2 * k = omega arith in
           rw each (omega (arith, zero-mul k))
+
+  -- it is the sheet of the records of the engines that the plan uses
+  as-planned : planSheet (planned y) ≡ sheetWith (y .typecount) (recordsTo loads (usedEngines (planned y)))
+  as-planned =
+      let is : loads ≡ loadsOf y mapping = placed-loads y (planEngines y) (ceilingsOf y) loads (length-loads y (limits-of y keeps) can) (recovered .placed) in
+      let neat : Neat (y .engines) (y .typecount) 1 loads = subst (Neat (y .engines) (y .typecount) 1) (sym is) (assigned-neat y keeps mapping assigns) in
+      let few : usedEngines (planned y) ≤ length loads = omega (arith, few-used y (limits-of y keeps) can, length-loads y (limits-of y keeps) can, limits-of y keeps .engines) in
+      gather-sheet (limits-of y keeps .typecount) (neat-shaped neat)
+      ∙ ap (sheetWith (y .typecount)) (gather-to (usedEngines (planned y)) loads few (used-mapped ∙ uses) (λ i h. ap (λ (l : EngineLoad). holdsNone (l .counts)) (idle-load y i h) ∙ idle-none))
 
   -- the check finds it right, and told no fewer
   right-planned : (other : List ℕ) → LongEnough y other → checkOutcome (opened y) (planSheet (planned y)) other ≡ right false
@@ -171,7 +182,7 @@ module _ (y : System) (keeps : keepsLimits y ≡ true) (table buffer : List ℕ)
   then-place (noPlace long enough none) room = (λ o. none, λ h. refl)
   then-place (isPlanned long enough can) room = (λ o. absurd (omega (arith, is-30 y buffer fromInput 12 o .1)), λ none. absurd (none _ (on-fewest-engines y keeps can .good)))
 
-  module _ (χ : Assignment) (f : OnFewest y χ) where
+  module _ (χ : Assignment) (f : GoodOnFewest y χ) where
     then-room : {v : Verdict} {after : List ℕ} → Case y table engineLimit v after → LongEnough y table → (writeOutcome v (length buffer) ≡ refused fromInput 30) ↔ (length buffer < sizeFor y χ)
     then-room (tooShort less) room = absurd (omega (arith, less, room))
     then-room (tooSmall long small) room = absurd (omega (arith, small, limits-of y keeps .engines))
@@ -219,10 +230,31 @@ module _ (y : System) (keeps : keepsLimits y ≡ true) (table buffer : List ℕ)
     bytes = p .bytes ∙ ap (λ (s : List ℕ). s ++ drop n buffer) (sheet-mapped y keeps (p .placeable));
   }
 
+  front-written : {v : Verdict} (n : ℕ) → Planned y buffer v n → take n (writtenTo v buffer) ≡ planSheet (planned y)
+  front-written n p = ap (take n) (p .bytes) ∙ rw (p .size) (take-append-seam (planSheet (planned y)) (drop (length (planSheet (planned y))) buffer))
+
   right-written : {v : Verdict} (n : ℕ) → Planned y buffer v n → (other : List ℕ) → LongEnough y other → checkOutcome (opened y) (take n (writtenTo v buffer)) other ≡ right false
-  right-written {v = v} n p other long =
-      let front : take n (writtenTo v buffer) ≡ planSheet (planned y) = ap (take n) (p .bytes) ∙ rw (p .size) (take-append-seam (planSheet (planned y)) (drop (length (planSheet (planned y))) buffer)) in
-      rw front (right-planned y keeps (p .placeable) other long)
+  right-written n p other long = rw (front-written n p) (right-planned y keeps (p .placeable) other long)
+
+-- main: the plan that is given for a file that opens, over any table, and the sheet that is written
+
+plan-is : {y : System} {table : List ℕ} {room : ℕ} {v : Verdict} {after : List ℕ} → Case y table room v after → (used : ℕ) → planOutcome v ≡ accepted (used ∷ []) → (v ≡ planned y) × (usedEngines (planned y) ≡ used)
+plan-is (tooShort less) used o = let z : _≡_ {A = ℕ} 0 1 = cc in absurd (omega arith)
+plan-is (tooSmall long small) used o = let z : _≡_ {A = ℕ} 0 1 = cc in absurd (omega arith)
+plan-is (noPlace long enough none) used o = let z : _≡_ {A = ℕ} 0 1 = cc in absurd (omega arith)
+plan-is (isPlanned long enough can) used o = (refl, (cc))
+
+pub of-plan : (y : System) → keepsLimits y ≡ true → canPlace y ≡ true → OfPlan (opened y) (planSheet (planned y))
+of-plan y keeps can y′ p table room after used e q o =
+    let is = plan-is (caseOf y (limits-of y keeps) table room) used (sym (q .answers) ∙ o) in
+    let same : y ≡ y′ = cc in
+    let types : y .typecount ≡ y′ .typecount = ap (λ (z : System). z .typecount) same in
+    let placed : planLoads (planned y) ≡ p .loads = sym (q .places ∙ ap planLoads (is .0)) in
+    let count : usedEngines (planned y) ≡ used = is .1 in
+    as-planned y keeps can ∙ (λ i. sheetWith (types i) (recordsTo (placed i) (count i)))
+
+plan-written : (y : System) → keepsLimits y ≡ true → (table buffer : List ℕ) {v : Verdict} (n : ℕ) → Planned y buffer v n → OfPlan (opened y) (take n (writtenTo v buffer))
+plan-written y keeps table buffer n p = subst (OfPlan (opened y)) (sym (front-written y keeps table buffer n p)) (of-plan y keeps (p .placeable))
 
 -- main: any file
 
@@ -248,7 +280,7 @@ module _ (table buffer : List ℕ) where
   lent-back (unread k) known s n o not12 not30 = refl
   lent-back (opened y) known s n o not12 not30 = table-lent y (known y refl) table buffer (caseOf y (limits-of y (known y refl)) table engineLimit) s n o not12 not30
 
-pub promises-written : (file table buffer : List ℕ) (r : Answer) (tableAfter bufferAfter : List ℕ) → Writes (readFile file) table buffer r tableAfter bufferAfter → WritePromises (readFile file) table buffer r tableAfter bufferAfter
+pub promises-written : (file table buffer : List ℕ) (r : Answer) (tableAfter bufferAfter : List ℕ) → Writes (readFile file) table buffer r tableAfter bufferAfter → WriteSheetPromises (readFile file) table buffer r tableAfter bufferAfter
 promises-written file table buffer r tableAfter bufferAfter p = record {
   answers = p .answer;
   leavesTable = p .table-left;
@@ -256,9 +288,11 @@ promises-written file table buffer r tableAfter bufferAfter p = record {
   order = rw (p .answer) in-order;
   asLent = λ s n o. p .buffer-left ∙ buffer-lent (sheetVerdict x table) buffer s n (sym (p .answer) ∙ o);
   tableAsLent = λ s n o not12 not30. p .table-left ∙ lent-back table buffer x known s n (sym (p .answer) ∙ o) not12 not30;
+  unreadLent = λ n e. rw (p .table-left, e) refl;
   tableFilled = λ y e. rw (p .table-left, e) (table-filled y (known y e) table buffer (the-case y e));
   writes = λ y n e o. rw (p .buffer-left, e) (sheet-written y (known y e) table buffer n (the-plan y n e (sym (p .answer) ∙ o)));
   isRight = λ y n other e o long. rw (p .buffer-left, e) (right-written y (known y e) table buffer n (the-plan y n e (sym (p .answer) ∙ o)) other long);
+  samePlan = λ n o y plan other room after used e. rw (p .buffer-left, e) (plan-written y (known y e) table buffer n (the-plan y n e (sym (p .answer) ∙ o)) y plan other room after used refl);
 }
   where
     x : Reading
@@ -273,7 +307,7 @@ promises-written file table buffer r tableAfter bufferAfter p = record {
     the-plan : (y : System) (n : ℕ) → (e : x ≡ opened y) → writeOutcome (sheetVerdict x table) (length buffer) ≡ accepted (n ∷ []) → Planned y buffer (sheetVerdict (opened y) table) n
     the-plan y n e o = planned-on y (known y e) table buffer (the-case y e) n (rw e at o)
 
-    in-order : WritesInOrder x table buffer (writeOutcome (sheetVerdict x table) (length buffer))
+    in-order : SheetsInOrder x table buffer (writeOutcome (sheetVerdict x table) (length buffer))
     in-order = record {
       fileFirst = file-first table buffer x;
       thenTable = λ y e. rw e (then-table y (known y e) table buffer (the-case y e));
@@ -316,7 +350,7 @@ module _ (file table buffer : List ℕ) (r : Plan) (after : List ℕ) (p : PlanP
   abbrev v : Verdict
   v = sheetVerdict (readFile file) table
 
-  pub promised-refusal : ((n : ℕ) → r .answer ≡ Number n → ⊥) → WritePromises (readFile file) table buffer (r .answer) after buffer
+  pub promised-refusal : ((n : ℕ) → r .answer ≡ Number n → ⊥) → WriteSheetPromises (readFile file) table buffer (r .answer) after buffer
   promised-refusal not =
       let both = refused-as v (r .answer) buffer (p .answers) not in
       promises-written file table buffer (r .answer) after buffer (record { answer = both .0; table-left = p .leavesTable; buffer-left = both .1 })
@@ -344,7 +378,7 @@ module _ (file table buffer : List ℕ) (r : Plan) (after : List ℕ) (p : PlanP
     size-is : sheetSize (r .typecount) (r .loads) ≡ length (planSheet (planned (given .system)))
     size-is = ap₂ (λ (k : ℕ) (ls : List EngineLoad). sheetSize k ls) types placed ∙ sym (size-planned (given .system) keeps (given .placeable))
 
-    pub promised-short : length buffer < sheetSize (r .typecount) (r .loads) → WritePromises (readFile file) table buffer (Refused (Input 30)) after buffer
+    pub promised-short : length buffer < sheetSize (r .typecount) (r .loads) → WriteSheetPromises (readFile file) table buffer (Refused (Input 30)) after buffer
     promised-short h =
         let yes-short = lt-ltb (length buffer) (length (planSheet (planned (given .system)))) (rw (← size-is) h) in
         promises-written file table buffer (Refused (Input 30)) after buffer (record {
@@ -353,7 +387,7 @@ module _ (file table buffer : List ℕ) (r : Plan) (after : List ℕ) (p : PlanP
           buffer-left = rw (given .same) (sym (buffer-by (given .system) buffer true yes-short));
         })
 
-    pub promised-sheet : (n : ℕ) (new : List ℕ) → sheetSize (r .typecount) (r .loads) ≤ length buffer → Puts (sheetBytes (r .typecount) (r .loads)) 0 buffer new n → WritePromises (readFile file) table buffer (Number n) after new
+    pub promised-sheet : (n : ℕ) (new : List ℕ) → sheetSize (r .typecount) (r .loads) ≤ length buffer → Puts (sheetBytes (r .typecount) (r .loads)) 0 buffer new n → WriteSheetPromises (readFile file) table buffer (Number n) after new
     promised-sheet n new h puts =
         let sheet = planSheet (planned (given .system)) in
         let start : 0 + length sheet ≡ length sheet = zero-add (length sheet) in

@@ -14,10 +14,12 @@ use Rattle.system.specs.Outcome.{Outcome, Source, accepted, refused, fromInput,
 use Rattle.loads.specs.declared.EngineLoad.{EngineLoad}
 use Rattle.partition.specs.Assignment.{Assignment}
 use Rattle.partition.specs.OwnWords.{overInstances, timeOn, memoryOn, sharedMemoryOn}
-use Rattle.partition.specs.Plain.{ceilingNo, columnsOut, LongEnough, EngineOf, placesNo, Partition, Impossible, hosts, usedTo}
+use Rattle.partition.specs.Plain.{ceilingNo, columnsOut, LongEnough, EngineOf, placesNo, Partition, Impossible, hosts, usedTo, recordNo}
 use Rattle.writer.specs.Meaning.{twoOut, fourOut}
 use Rattle.table.specs.Meaning.{FilledMeans}
 use Rattle.planner.specs.declared.EngineRecord.{EngineRecord}
+use Rattle.planner.specs.declared.Plan.{Plan}
+use Rattle.planner.specs.Demands.{PlanPromises}
 use Rattle.board.specs.Words.{countNo, SumsOut, FitsOut}
 use Rattle.sheets.specs.declared.SheetAnswer.{SheetAnswer}
 use Rattle.sheets.specs.Writing.{sheetVerdict, writeOutcome, writtenTo, writeTable}
@@ -135,35 +137,50 @@ pub record CheckPromises (x : Reading) (sheet table : List ℕ) (r : SheetAnswer
 -- The writer
 
 -- a good assignment of all instances on the fewest engines
-pub record OnFewest (y : System) (χ : Assignment) : Type 0 where
+pub record GoodOnFewest (y : System) (χ : Assignment) : Type 0 where
   pub good : GoodForAll y χ
   pub fewest : (χ′ : Assignment) → GoodForAll y χ′ → usedTo (y .engines) χ ≤ usedTo (y .engines) χ′
 
 -- 1 to 10 and 31, then 11, 12, 30: a sheet on u engines has 5 + u × (12 + 2k) bytes
-pub record WritesInOrder (x : Reading) (table buffer : List ℕ) (o : Outcome) : Type 0 where
+pub record SheetsInOrder (x : Reading) (table buffer : List ℕ) (o : Outcome) : Type 0 where
   pub fileFirst : (n : ℕ) → x ≡ unread n → o ≡ refused fromInput n
   pub thenTable : (y : System) → x ≡ opened y → (o ≡ refused fromInput 11) ↔ (length table < (y .engines + 1) * columnsOut y)
   pub thenPlace : (y : System) → x ≡ opened y → LongEnough y table → (o ≡ refused fromInput 12) ↔ Impossible y (EngineOf y) (ceilingNo y)
-  pub thenRoom : (y : System) → x ≡ opened y → LongEnough y table → (χ : Assignment) → OnFewest y χ
+  pub thenRoom : (y : System) → x ≡ opened y → LongEnough y table → (χ : Assignment) → GoodOnFewest y χ
       → (o ≡ refused fromInput 30) ↔ (length buffer < 5 + usedTo (y .engines) χ * (12 + 2 * y .typecount))
-  pub orWritten : (y : System) → x ≡ opened y → LongEnough y table → (χ : Assignment) → OnFewest y χ → 5 + usedTo (y .engines) χ * (12 + 2 * y .typecount) ≤ length buffer
+  pub orWritten : (y : System) → x ≡ opened y → LongEnough y table → (χ : Assignment) → GoodOnFewest y χ → 5 + usedTo (y .engines) χ * (12 + 2 * y .typecount) ≤ length buffer
       → o ≡ accepted ((5 + usedTo (y .engines) χ * (12 + 2 * y .typecount)) ∷ [])
 
 -- the first n bytes of the buffer are the sheet of a good assignment of all instances on the fewest engines, and later bytes are unchanged
 pub record SheetWritten (y : System) (n : ℕ) (old new : List ℕ) : Type 0 where
   pub mapping : Assignment
-  pub onFewest : OnFewest y mapping
+  pub onFewest : GoodOnFewest y mapping
   pub size : n ≡ length (sheetOut y mapping)
   pub bytes : new ≡ sheetOut y mapping ++ drop n old
 
--- What the call `write_sheet` promises: its answer, the table and the buffer, whole; the order of its refusals; demand 1; the bytes; and that the check finds them right, and no fewer engines
-pub record WritePromises (x : Reading) (table buffer : List ℕ) (r : Answer) (tableAfter bufferAfter : List ℕ) : Type 0 where
+-- the records of the engines 1 to u, each with the load that a plan gives to that engine
+unfoldable pub recordsTo : List EngineLoad → ℕ → List EngineRecord
+recordsTo loads zero = []
+recordsTo loads (suc e) = recordsTo loads e ++ (record { number = suc e; load = recordNo loads (suc e) } ∷ [])
+
+-- "We write our plans so": the bytes are the sheet of whatever plan `plan_of` gives for that file, over any table and with room for any number of records:
+-- the number of engines that it uses, and then the records of just these engines, 1 to that number
+abbrev pub OfPlan : Reading → List ℕ → Type 0
+OfPlan x sheet =
+    (y : System) (p : Plan) (table : List ℕ) (room : ℕ) (after : List ℕ) (used : ℕ) → x ≡ opened y → PlanPromises x table room p after → outcomeOf (p .answer) ≡ accepted (used ∷ [])
+    → sheet ≡ sheetWith (y .typecount) (recordsTo (p .loads) used)
+
+-- What the call `write_sheet` promises: its answer, the table and the buffer, whole; the order of its refusals; demand 1; the bytes; that the check finds them right, and no fewer engines;
+-- and that they are those of the plan that `plan_of` gives
+pub record WriteSheetPromises (x : Reading) (table buffer : List ℕ) (r : Answer) (tableAfter bufferAfter : List ℕ) : Type 0 where
   pub answers : outcomeOf r ≡ writeOutcome (sheetVerdict x table) (length buffer)
   pub leavesTable : tableAfter ≡ writeTable x table
   pub leavesBuffer : bufferAfter ≡ writtenTo (sheetVerdict x table) buffer
-  pub order : WritesInOrder x table buffer (outcomeOf r)
+  pub order : SheetsInOrder x table buffer (outcomeOf r)
   pub asLent : (s : Source) (n : ℕ) → outcomeOf r ≡ refused s n → bufferAfter ≡ buffer
   pub tableAsLent : (s : Source) (n : ℕ) → outcomeOf r ≡ refused s n → (n ≡ 12 → ⊥) → (n ≡ 30 → ⊥) → tableAfter ≡ table
+  pub unreadLent : (n : ℕ) → x ≡ unread n → tableAfter ≡ table
   pub tableFilled : (y : System) → x ≡ opened y → LongEnough y table → FilledMeans y (y .engines) table tableAfter
   pub writes : (y : System) (n : ℕ) → x ≡ opened y → outcomeOf r ≡ accepted (n ∷ []) → SheetWritten y n buffer bufferAfter
   pub isRight : (y : System) (n : ℕ) (other : List ℕ) → x ≡ opened y → outcomeOf r ≡ accepted (n ∷ []) → LongEnough y other → checkOutcome x (take n bufferAfter) other ≡ right false
+  pub samePlan : (n : ℕ) → outcomeOf r ≡ accepted (n ∷ []) → OfPlan x (take n bufferAfter)

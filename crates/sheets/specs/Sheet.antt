@@ -81,15 +81,15 @@ sheetSize k loads = fieldSize headerRule k + usedIn loads * fieldSize recordRule
 -- From any bytes to loads. Nothing is judged here, and past the end every byte is 0: whether the bytes are those of the loads is asked afterwards
 
 -- the count of the type at index t in a record at the start of s: it stands where a record of t types would end. 0 past k
-abbrev pub countIn : ℕ → List ℕ → ℕ → ℕ
-countIn k s t = cond (ltb t k) (word2 s (fieldSize recordRule t)) 0
+abbrev pub statedCount : ℕ → List ℕ → ℕ → ℕ
+statedCount k s t = cond (ltb t k) (word2 s (fieldSize recordRule t)) 0
 
-abbrev pub countsIn : ℕ → List ℕ → List ℕ
-countsIn k s = upTo (countIn k s) typeLimit
+abbrev pub statedCounts : ℕ → List ℕ → List ℕ
+statedCounts k s = upTo (statedCount k s) typeLimit
 
 -- what such a record states: its time stands after the head and the number, then its memory
-abbrev pub loadIn : ℕ → List ℕ → EngineLoad
-loadIn k s = record { time = word4 s 4; memory = word4 s 8; counts = countsIn k s }
+abbrev pub statedLoad : ℕ → List ℕ → EngineLoad
+statedLoad k s = record { time = word4 s 4; memory = word4 s 8; counts = statedCounts k s }
 
 -- the record at the start of s is that of engine e, one of 1 to m
 abbrev pub isNext : ℕ → List ℕ → ℕ → Bool
@@ -99,7 +99,7 @@ isNext m s e = eqb (byteAt s headSize) e && leb e m
 unfoldable pub takenAt : ℕ → ℕ → List ℕ → ℕ → ℕ → Taken
 takenAt m k sheet at e =
     cond (isNext m (drop at sheet) e)
-    (record { load = loadIn k (drop at sheet); next = at + fieldSize recordRule k })
+    (record { load = statedLoad k (drop at sheet); next = at + fieldSize recordRule k })
     (record { load = idleEngine; next = at })
 
 -- the loads of engines e, e + 1, .., as many as n, where the next record starts at `at`

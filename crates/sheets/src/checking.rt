@@ -10,7 +10,7 @@ ghost use Rattle.system.specs.Limits.{typeLimit};
 ghost use Rattle.system.specs.Layout.{readFile};
 ghost use Rattle.system.specs.Outcome.{checkedOf};
 ghost use Rattle.partition.specs.Listing.{sameList};
-ghost use Rattle.sheets.specs.Sheet.{countIn, countsIn, loadIn, takenAt, loadsIn};
+ghost use Rattle.sheets.specs.Sheet.{statedCount, statedCounts, statedLoad, takenAt, loadsIn};
 ghost use Rattle.sheets.specs.Checking.{layoutCheck, sumsCheck, totalsCheck, recordsCheck};
 ghost use Rattle.sheets.specs.Meaning.{CheckPromises};
 use crate::SHEET_BYTES;
@@ -45,7 +45,7 @@ const MEMORY: usize = 8;
 // The count of the type at index t in a record of k types: it stands where a record of t types would end. 0 past k.
 fn count_in(rest: &[u8], k: usize, t: usize) -> u16
     requires { ⌜ t < typeLimit ⌝ }
-    ensures { λ r. ⌜ r ≡ countIn k (now (rest .entry)) t ⌝ }
+    ensures { λ r. ⌜ r ≡ statedCount k (now (rest .entry)) t ⌝ }
 {
     if t < k {
         return two_bytes(rest, field_size(RECORD, t));
@@ -55,7 +55,7 @@ fn count_in(rest: &[u8], k: usize, t: usize) -> u16
 
 // The counts of a record of k types.
 fn counts_in(rest: &[u8], k: usize) -> [u16; TYPE_LIMIT]
-    ensures { λ r. ⌜ r ≡ countsIn k (now (rest .entry)) ⌝ }
+    ensures { λ r. ⌜ r ≡ statedCounts k (now (rest .entry)) ⌝ }
 {
     let mut counts: [u16; TYPE_LIMIT] = [0; TYPE_LIMIT];
     for t in 0..TYPE_LIMIT {
@@ -66,7 +66,7 @@ fn counts_in(rest: &[u8], k: usize) -> [u16; TYPE_LIMIT]
 
 // What a record states of its engine.
 fn load_in(rest: &[u8], k: usize) -> EngineLoad
-    ensures { λ r. ⌜ r ≡ loadIn k (now (rest .entry)) ⌝ }
+    ensures { λ r. ⌜ r ≡ statedLoad k (now (rest .entry)) ⌝ }
 {
     let counts = counts_in(rest, k);
     EngineLoad {

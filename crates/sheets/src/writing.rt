@@ -8,7 +8,7 @@ ghost use Rattle.system.specs.Limits.{typeLimit};
 ghost use Rattle.system.specs.Rules.{headSize};
 ghost use Rattle.system.specs.Layout.{readFile};
 ghost use Rattle.sheets.specs.Sheet.{recordRule, ruleAt, fieldSize, headBytes, countsBytes, recordBytes, engineBytes, engineSize, usedIn, recordsBytes, sheetBytes, sheetSize};
-ghost use Rattle.sheets.specs.Meaning.{WritePromises};
+ghost use Rattle.sheets.specs.Meaning.{WriteSheetPromises};
 use crate::rules::HEADER;
 use crate::rules::RECORD;
 use crate::rules::body_size;
@@ -98,7 +98,7 @@ pub(crate) fn put_sheet(out: &mut [u8], k: usize, loads: [EngineLoad; ENGINE_LIM
 // Writes the plan of a file as a sheet at the start of the buffer, and answers its length; or refused 1 to 10 and 31, then 11, 12, 30, and nothing is written.
 // The table need not be clean; it is left filled from 12 on. Bytes past the sheet stay as they were.
 pub fn write_sheet(file: &[u8], table: &mut [u16], buffer: &mut [u8]) -> Answer
-    ensures { λ r. ⌜ WritePromises (readFile (now (file .entry))) (now (table .entry)) (now (buffer .entry)) r (now (table .exit)) (now (buffer .exit)) ⌝ }
+    ensures { λ r. ⌜ WriteSheetPromises (readFile (now (file .entry))) (now (table .entry)) (now (buffer .entry)) r (now (table .exit)) (now (buffer .exit)) ⌝ }
 {
     let plan = planner::plan_of(file, table);
     let answer = plan.answer;

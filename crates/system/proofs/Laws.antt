@@ -22,6 +22,7 @@ use Rattle.system.specs.declared.reader.Head.the-variants.{Ruled, Stops}
 use Rattle.system.specs.declared.Opened.{Opened}
 use Rattle.system.specs.declared.Answer.{Answer}
 use Rattle.system.specs.declared.Answer.the-variants.{Accepted, Number, Refused}
+use Rattle.system.specs.declared.Refusal.{Refusal}
 use Rattle.system.specs.declared.Refusal.the-variants.{Input, State}
 use Rattle.system.specs.Inner.{partOf}
 use Rattle.system.specs.Values.{taskOf, withData, withMost, noTask, blank, withPlatform, withType, lastType, withLast, ceilingsOf}
@@ -30,8 +31,8 @@ use Rattle.system.specs.Limits.{sizeFault, platformFault, typeFault, mos
 use Rattle.system.specs.Layout.{Reading, opened, unread, byteAt, word2, word4, headSize, fieldSize, headedField, wholeField, bodyPart, fieldAt, bodyAt}
 use Rattle.system.specs.Layout.{platformRule, typeRule, dataRule, mostRule, fieldRules, ruleOf, follows, mayFollow, unlessFault}
 use Rattle.system.specs.Layout.{platformFrom, platformOf, typeFrom, typeOf, dataFrom, dataOf, mostFrom, mostOf}
-use Rattle.system.specs.Layout.{ruledHead, headFrom, headOf, bodyOf, ruledField, fieldOf, endOf, afterField, fieldsFrom, readFile, Reads}
-use Rattle.system.specs.Outcome.{accepted, refused, fromInput, outcomeOf}
+use Rattle.system.specs.Layout.{ruledHead, headFrom, headOf, bodyOf, ruledField, fieldOf, endOf, afterField, fieldsFrom, readFile, readOutcome, Reads}
+use Rattle.system.specs.Outcome.{accepted, refused, fromInput, refusalOf, outcomeOf}
 
 -- a test of two parts
 pub and-parts : (a b : Bool) → (a && b) ≡ true → (a ≡ true) × (b ≡ true)
@@ -595,3 +596,21 @@ reads-opened (unread n) r reads e =
 pub reads-unread : (x : Reading) (r : Opened) → Reads x r → (r .answer ≡ Accepted → ⊥) → (n : ℕ) × (x ≡ unread n)
 reads-unread (opened y) r reads e = absurd (e (only-accepted (r .answer) (reads .answer)))
 reads-unread (unread n) r reads e = (n, refl)
+
+-- an answer that is no refusal is that of a file that opens, and a refusal that of one that does not
+only-refused : (a : Answer) (n : ℕ) → outcomeOf a ≡ refused fromInput n → (why : Refusal) × (a ≡ Refused why)
+only-refused Accepted n e = let z : _≡_ {A = ℕ} 0 1 = cc in absurd (omega arith)
+only-refused (Number k) n e = let z : _≡_ {A = ℕ} 0 1 = cc in absurd (omega arith)
+only-refused (Refused why) n e = (why, refl)
+
+pub opened-unless : (x : Reading) (r : Opened) → Reads x r → ((why : Refusal) → r .answer ≡ Refused why → ⊥) → x ≡ opened (r .system)
+opened-unless (opened y) r reads h = ap opened (sym (reads .system))
+opened-unless (unread n) r reads h = let (why, is) = only-refused (r .answer) n (reads .answer) in absurd (h why is)
+
+opened-accepts : (y : System) (why : Refusal) → refusalOf why ≡ readOutcome (opened y) → ⊥
+opened-accepts y (Input m) e = let z : _≡_ {A = ℕ} 0 1 = cc in omega arith
+opened-accepts y (State m) e = let z : _≡_ {A = ℕ} 0 1 = cc in omega arith
+
+pub unread-with : (x : Reading) (r : Opened) → Reads x r → (why : Refusal) → r .answer ≡ Refused why → (n : ℕ) × (x ≡ unread n) × (refusalOf why ≡ refused fromInput n)
+unread-with (unread n) r reads why is = (n, refl, sym (ap outcomeOf is) ∙ reads .answer)
+unread-with (opened y) r reads why is = absurd (opened-accepts y why (sym (ap outcomeOf is) ∙ reads .answer))

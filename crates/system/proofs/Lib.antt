@@ -3,5 +3,6 @@ pub mod Checks
 pub mod Laws
 pub mod Fields
 pub mod Prefix
+pub mod Order
 mod Steps
 mod Goes

@@ -82,11 +82,11 @@ body-room r b last y z (a-data w) p e = rw (w, data-after-type last .0 (rw w at 
 body-room r b last y z (a-most w) p e = rw (w, rw w at p, most-types b y z (rw w at e)) (omega arith)
 
 -- so the reading goes on with less room, by the field's size
-record Goes (s : List ℕ) (last : ℕ) (y z : System) : Type 0 where
-  inside : fieldSize s ≤ length s
+pub record Goes (s : List ℕ) (last : ℕ) (y z : System) : Type 0 where
+  pub inside : fieldSize s ≤ length s
   less : fieldSize s + room (byteAt s 0) z ≤ room last y
 
-field-goes : (s : List ℕ) (last : ℕ) (y z : System) → fieldOf s last y ≡ opened z → Goes s last y z
+pub field-goes : (s : List ℕ) (last : ℕ) (y z : System) → fieldOf s last y ≡ opened z → Goes s last y z
 field-goes s last y z e =
     let a = fieldOf-opened s last y z e in
     let fewer = rw (a .passed .rule .same-tag) at (body-room (a .rule) (bodyPart s) last y z (a .passed .rule .which) (a .passed .place) (a .body)) in
@@ -120,13 +120,17 @@ fields-refused (suc f) (b ∷ s) last y enough long =
 pub longest-is : longestFile ≡ 163
 longest-is = refl
 
+-- request 2026-03: "`plan` reads 256 bytes", which every other number that is long enough would do as well
+pub reads-is : fileBytes ≡ 256
+reads-is = refl
+
 pub long-file-refused : (file : List ℕ) → longestFile < length file → (n : ℕ) × (readFile file ≡ unread n)
 unfolding readFile
 long-file-refused file long = fields-refused (length file) file 0 blank (le-refl (length file)) long
 
 -- A field in a cut
 
-drop-take : {A : Type 0} (m n : ℕ) (l : List A) → drop m (take n l) ≡ take (n - m) (drop m l)
+pub drop-take : {A : Type 0} (m n : ℕ) (l : List A) → drop m (take n l) ≡ take (n - m) (drop m l)
 drop-take zero n l = simp unary-clauses
 drop-take (suc m) n [] = ap (drop (suc m)) (take-nil n) ∙ sym (take-nil (n - suc m))
 drop-take (suc m) zero (a ∷ l) = simp zero-sub
@@ -141,16 +145,16 @@ module _ (n : ℕ) (s : List ℕ) where
       go false e = let l = leb-false k (length s) e in lt-leb k (length (take n s)) (omega (arith, length-take n s))
 
   module _ (wide : headSize ≤ n) where
-    byte-take : (i : ℕ) → i < headSize → byteAt (take n s) i ≡ byteAt s i
+    pub byte-take : (i : ℕ) → i < headSize → byteAt (take n s) i ≡ byteAt s i
     byte-take i h = getD-take n s i 0 (omega arith)
 
-    word-take : word2 (take n s) 1 ≡ word2 s 1
+    pub word-take : word2 (take n s) 1 ≡ word2 s 1
     word-take = rw (byte-take 1 (omega arith), byte-take 2 (omega arith))
 
     whole-take : fieldSize s ≤ n → wholeField (take n s) ≡ wholeField s
     whole-take h = rw (word-take, leb-take (fieldSize s) h)
 
-    part-take : fieldSize s ≤ n → bodyPart (take n s) ≡ bodyPart s
+    pub part-take : fieldSize s ≤ n → bodyPart (take n s) ≡ bodyPart s
     part-take h =
         rw (whole-take h, word-take, drop-take headSize n s)
         (ap (λ (l : List ℕ). cond (wholeField s) l []) (take-take (word2 s 1) (n - headSize) (drop headSize s) (omega arith)))

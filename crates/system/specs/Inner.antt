@@ -2,7 +2,6 @@
 use Prim.Native.Nat.{ℕ, _+_, _-_, _≤_, _<_, min}
 use mathlib.Core.List.{List, [], map}
 use mathlib.Core.Bool.{cond, _&&_}
-use mathlib.Core.Path.{_≡_}
 use lib.ListN.{length, take, drop}
 use lib.Dec.{leb}
 use Rattle.system.specs.declared.TaskType.{TaskType}

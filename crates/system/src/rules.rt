@@ -3,7 +3,7 @@ ghost use mathlib.Core.Path.{_≡_};
 ghost use Rattle.system.specs.Rules.{fieldRules, ruleOf, follows, mayFollow};
 use crate::TYPE_LIMIT;
 
-// One row of the table of fields: a tag, the length of its body, how many of it a file may have.
+// One row of the table of fields: a tag, the length of its body, how many of it a file may have. Only of types is that number asked (7): of the others the places allow no more.
 pub struct FieldRule {
     pub tag: u8,
     pub body: usize,

@@ -16,3 +16,4 @@ pub mod Placed
 pub mod Bound
 pub mod Reading
 pub mod Meaning
+pub mod RecoveredBy

@@ -1,11 +1,11 @@
 -- A filled table says what document 01's "Table" says of it, in plain words, and so do the calls that fill one.
-use Prim.Native.Nat.{ℕ, _+_, _-_, _*_, _≤_, _<_}
+use Prim.Native.Nat.{ℕ, zero, suc, _+_, _-_, _*_, _≤_, _<_}
 use mathlib.Core.Path.{_≡_, refl, sym, ap, subst, _∙_}
 use mathlib.Core.Bool.{Bool, true, false, cond, _&&_, and-true, false≢true}
 use mathlib.Core.List.{List, [], _∷_}
 use mathlib.Core.Logic.{_↔_}
 use native.Mathlib.Numerals.{add-one}
-use native.Mathlib.Nat.{le-refl, mul-le-mul-right, add-mul}
+use native.Mathlib.Nat.{le-refl, mul-le-mul-right, add-mul, add-zero, suc-inj}
 use native.Mathlib.Omega.{arith}
 use borrow.Author.Tests.{eqb-true, eqb-false, eq-eqb, ne-eqb, leb-true, leb-false, le-leb, lt-leb}
 use lib.ListN.{length, getD, drop}
@@ -18,28 +18,31 @@ use Rattle.system.specs.Limits.{columns, typeLimit}
 use Rattle.system.specs.Layout.{Reading, readFile, opened, unread}
 use Rattle.system.specs.Outcome.{Outcome, Source, accepted, refused, fromInput, outcomeOf}
 use Rattle.system.proofs.Laws.{Limits, read-limits}
-use Rattle.loads.specs.Load.{fitsEngine, within}
-use Rattle.loads.specs.Column.{loadOf}
-use Rattle.loads.proofs.Column.{length-loadOf}
+use Rattle.loads.specs.Load.{fitsEngine, within, less}
+use Rattle.loads.specs.Column.{columnFrom, columnOf, loadOf}
+use Rattle.loads.proofs.Order.{Below, none, more}
+use Rattle.loads.proofs.Column.{length-loadOf, loadOf-below, columnOf-loadOf, loadOf-difference, dominated-le}
 use Rattle.partition.specs.Assignment.{among, every, enginesTo}
 use Rattle.partition.specs.Cell.{saysYes, cell}
 use Rattle.partition.specs.ForSystem.{FeasibleOn, cellFor}
-use Rattle.partition.specs.Plain.{columnsOut, LongEnough, Impossible}
+use Rattle.partition.specs.Plain.{ceilingNo, columnsOut, LongEnough, Impossible}
 use Rattle.partition.proofs.Lists.{distinct-enginesTo, length-enginesTo, among-enginesTo, tested-among, not-both}
 use Rattle.partition.proofs.ForSystem.{length-ceilings, ground}
+use Rattle.partition.proofs.Cells.{cell-predecessor, cell-lowest}
 use Rattle.partition.proofs.Theorems.{cell-yes-iff-feasible}
-use Rattle.partition.proofs.Plain.{columns-out, impossible-out}
+use Rattle.partition.proofs.Plain.{columns-out, ceiling-out, impossible-out}
 use Rattle.table.specs.Pairs.{triedAt, pairsOf}
 use Rattle.table.specs.Table.{entries, longEnough, filledTo, fillOutcome, fillTable, entriesNeeded}
-use Rattle.table.specs.Meaning.{countIn, FilledMeans, sumBelow, noGreater, pairsOut, FillPromises, NeedPromises}
+use Rattle.table.specs.Meaning.{countIn, strideAfter, columnNo, noGreater, MayPrecede, FilledMeans, sumBelow, pairsOut, FillPromises, NeedPromises}
 use Rattle.table.proofs.Filled.{length-filledTo, filledTo-at, drop-filledTo}
 use Rattle.table.proofs.Sums.{sum-same}
 use Rattle.table.proofs.Pairs.{pairs-rows, EndsAt, tried-counted, cell-ends}
+use Rattle.table.proofs.Preceding.{cell-one}
 use Rattle.table.proofs.Bound.{pairs-bounded, pairs-met}
 
 -- intermediate: a cell that says no
 
-no-cell : (v : ℕ) → (v ≡ 65535) ↔ (saysYes v ≡ true → ⊥)
+pub no-cell : (v : ℕ) → (v ≡ 65535) ↔ (saysYes v ≡ true → ⊥)
 no-cell v = (there, back (eqb v 65535) refl)
   where
     there : v ≡ 65535 → saysYes v ≡ true → ⊥
@@ -48,6 +51,28 @@ no-cell v = (there, back (eqb v 65535) refl)
     back : (b : Bool) → eqb v 65535 ≡ b → (saysYes v ≡ true → ⊥) → v ≡ 65535
     back true q h = eqb-true v 65535 q
     back false q h = absurd (h (rw q))
+
+-- intermediate: a load less another, type by type, and a load below another
+
+pub getD-less : (x z : List ℕ) → length x ≡ length z → (i : ℕ) → getD (less x z) i 0 ≡ getD x i 0 - getD z i 0
+unfolding less
+getD-less [] [] l i = omega arith
+getD-less [] (b ∷ z) l i = absurd (omega arith)
+getD-less (a ∷ x) [] l i = absurd (omega arith)
+getD-less (a ∷ x) (b ∷ z) l zero = refl
+getD-less (a ∷ x) (b ∷ z) l (suc i) = getD-less x z (suc-inj l) i
+
+below-at : {x z : List ℕ} → Below x z → (i : ℕ) → getD x i 0 ≤ getD z i 0
+below-at none i = le-refl 0
+below-at (more h r) zero = h
+below-at (more h r) (suc i) = below-at r i
+
+pub yes-cell : (v : ℕ) → (v ≡ 65535 → ⊥) → saysYes v ≡ true
+yes-cell v n = go (eqb v 65535) refl
+  where
+    go : (b : Bool) → eqb v 65535 ≡ b → saysYes v ≡ true
+    go true q = absurd (n (eqb-true v 65535 q))
+    go false q = rw q
 
 -- intermediate: six tests of counts are one test of loads
 
@@ -82,6 +107,24 @@ six-within x z l k =
     six-tests (leb (getD x 0 0) (getD z 0 0)) (leb (getD x 1 0) (getD z 1 0)) (leb (getD x 2 0) (getD z 2 0)) (leb (getD x 3 0) (getD z 3 0)) (leb (getD x 4 0) (getD z 4 0)) (leb (getD x 5 0) (getD z 5 0))
     ∙ sym (λ i. within (six-counts x l i) (six-counts z k i))
 
+-- intermediate: the column of six counts, with the strides written out
+
+abbrev pub strided : (ℕ → ℕ) → (ℕ → ℕ) → ℕ
+strided n x =
+    x 1 * 1
+    + (x 2 * (1 * (n 1 + 1))
+    + (x 3 * (1 * (n 1 + 1) * (n 2 + 1))
+    + (x 4 * (1 * (n 1 + 1) * (n 2 + 1) * (n 3 + 1))
+    + (x 5 * (1 * (n 1 + 1) * (n 2 + 1) * (n 3 + 1) * (n 4 + 1))
+    + x 6 * (1 * (n 1 + 1) * (n 2 + 1) * (n 3 + 1) * (n 4 + 1) * (n 5 + 1))))))
+
+pub six-column : (ns x : List ℕ) → length ns ≡ 6 → length x ≡ 6 → strided (λ (t : ℕ). getD ns (t - 1) 0) (λ (t : ℕ). getD x (t - 1) 0) ≡ columnOf ns x
+unfolding columnFrom
+six-column ns x l k =
+    let n : ℕ → ℕ = λ (t : ℕ). getD ns (t - 1) 0 in
+    rw (← (add-zero (getD x 5 0 * (1 * (n 1 + 1) * (n 2 + 1) * (n 3 + 1) * (n 4 + 1) * (n 5 + 1)))))
+    (sym (λ i. columnOf (six-counts ns l i) (six-counts x k i)))
+
 module _ (y : System) (limits : Limits y) where
   -- main: a cell is 65,535 exactly when its load cannot be partitioned among as many engines as its row says
   cell-says : (i c : ℕ) → i ≤ y .engines → c < columns y → (cellFor y i c ≡ 65535) ↔ Impossible y (λ (e : ℕ). (1 ≤ e) × (e ≤ i)) (countIn y c)
@@ -96,17 +139,118 @@ module _ (y : System) (limits : Limits y) where
           tested-among (among (enginesTo (y .engines))) (enginesTo i)
           (λ e k. let b = among-enginesTo i e .0 k in among-enginesTo (y .engines) e .1 (b .0, omega (arith, b .1)))
 
+  no-greater : (p c : ℕ) → noGreater y p c ≡ within (loadOf (ceilingsOf y) p) (loadOf (ceilingsOf y) c)
+  no-greater p c = six-within (loadOf (ceilingsOf y) p) (loadOf (ceilingsOf y) c) (six p) (six c)
+    where
+      six : (q : ℕ) → length (loadOf (ceilingsOf y) q) ≡ 6
+      six q = length-loadOf (ceilingsOf y) q ∙ length-ceilings y limits
+
+  -- main: the columns as numbers
+
+  pub six-loads : (c : ℕ) → length (loadOf (ceilingsOf y) c) ≡ 6
+  six-loads c = length-loadOf (ceilingsOf y) c ∙ length-ceilings y limits
+
+  column-no : (c : ℕ) → c < columns y → columnNo y (countIn y c) ≡ c
+  unfolding strideAfter
+  column-no c small =
+      sym (ap (λ (n : ℕ → ℕ). strided n (countIn y c)) (λ i t. ceiling-out y t i))
+      ∙ six-column (ceilingsOf y) (loadOf (ceilingsOf y) c) (length-ceilings y limits) (six-loads c)
+      ∙ columnOf-loadOf (ceilingsOf y) c small
+
+  count-under : (c t : ℕ) → countIn y c t ≤ ceilingNo y t
+  count-under c t = rw (← (ceiling-out y t)) (below-at (loadOf-below (ceilingsOf y) c) (t - 1))
+
+  -- main: the cells by the table itself
+
+  -- what a column has more than one that may precede it fits exactly when one engine can hold it
+  fits-out : (c p : ℕ) → c < columns y → p < columns y → within (loadOf (ceilingsOf y) p) (loadOf (ceilingsOf y) c) ≡ true
+      → (fitsEngine y (less (loadOf (ceilingsOf y) c) (loadOf (ceilingsOf y) p)) ≡ true) ↔ (Impossible y (λ (e : ℕ). (1 ≤ e) × (e ≤ 1)) (λ (t : ℕ). countIn y c t - countIn y p t) → ⊥)
+  fits-out c p small smaller under = go (fitsEngine y (less (loadOf ns c) (loadOf ns p))) refl
+    where
+      ns : List ℕ
+      ns = ceilingsOf y
+
+      alone : ℕ → Type 0
+      alone e = (1 ≤ e) × (e ≤ 1)
+
+      difference : loadOf ns (c - p) ≡ less (loadOf ns c) (loadOf ns p)
+      difference = loadOf-difference ns c p small smaller under
+
+      counts : (t : ℕ) → countIn y (c - p) t ≡ countIn y c t - countIn y p t
+      counts t = ap (λ (x : List ℕ). getD x (t - 1) 0) difference ∙ getD-less (loadOf ns c) (loadOf ns p) (six-loads c ∙ sym (six-loads p)) (t - 1)
+
+      says : (cellFor y 1 (c - p) ≡ 65535) ↔ Impossible y alone (λ (t : ℕ). countIn y c t - countIn y p t)
+      says =
+          subst (λ (f : ℕ → ℕ). (cellFor y 1 (c - p) ≡ 65535) ↔ Impossible y alone f) (λ i t. counts t i)
+          (cell-says 1 (c - p) (limits .some-engine) (omega arith))
+
+      one : cellFor y 1 (c - p) ≡ cond (fitsEngine y (less (loadOf ns c) (loadOf ns p))) 0 65535
+      one = cell-one (fitsEngine y) ns (c - p) ∙ ap (λ (x : List ℕ). cond (fitsEngine y x) 0 65535) difference
+
+      go : (b : Bool) → fitsEngine y (less (loadOf ns c) (loadOf ns p)) ≡ b
+          → (b ≡ true) ↔ (Impossible y alone (λ (t : ℕ). countIn y c t - countIn y p t) → ⊥)
+      go true q = ((λ h n. let z : cellFor y 1 (c - p) ≡ 0 = rw q at one in absurd (omega (arith, z, says .1 n))), (λ h. refl))
+      go false q = ((λ h. absurd (false≢true h)), (λ h. absurd (h (says .0 (rw q at one)))))
+
+  module _ (rows : ℕ) (after : List ℕ) (shown : (i c : ℕ) → i ≤ rows → c < columnsOut y → getD after (i * columnsOut y + c) 0 ≡ cellFor y i c) where
+    narrow : (c : ℕ) → c < columnsOut y → c < columns y
+    narrow c k = rw (columns-out y (limits .six)) at k
+
+    next : (i c : ℕ) → i < rows → c < columnsOut y → getD after ((i + 1) * columnsOut y + c) 0 ≡ cellFor y (suc i) c
+    next i c h k = shown (i + 1) c (omega arith) k ∙ ap (λ (r : ℕ). cellFor y r c) (add-one i)
+
+    row-precedes : (i c : ℕ) → i < rows → c < columnsOut y → (getD after ((i + 1) * columnsOut y + c) 0 ≡ 65535 → ⊥) → MayPrecede y after i c (getD after ((i + 1) * columnsOut y + c) 0)
+    row-precedes i c h k says =
+        let e = next i c h k in
+        let p = cellFor y (suc i) c in
+        let r = cell-predecessor (fitsEngine y) (ceilingsOf y) i c (yes-cell p (λ z. says (e ∙ z))) in
+        let low : p < columnsOut y = omega (arith, r .notAbove) in
+        subst (MayPrecede y after i c) (sym e)
+        (record {
+          inside = low;
+          noMore = no-greater p c ∙ r .dominated;
+          yesBefore = λ z. no-cell (cellFor y i p) .0 (sym (shown i p (omega arith) low) ∙ z) (r .yesBefore);
+          fits = fits-out c p (narrow c k) (narrow p low) (r .dominated) .0 (r .differenceFits);
+        })
+
+    row-lowest : (i c p : ℕ) → i < rows → c < columnsOut y → MayPrecede y after i c p → getD after ((i + 1) * columnsOut y + c) 0 ≤ p
+    row-lowest i c p h k m =
+        let low = m .inside in
+        let under = sym (no-greater p c) ∙ m .noMore in
+        subst (λ (v : ℕ). v ≤ p) (sym (next i c h k))
+        (cell-lowest (fitsEngine y) (ceilingsOf y) i c p
+        (record {
+          dominated = under;
+          differenceFits = fits-out c p (narrow c k) (narrow p low) under .1 (m .fits);
+          yesBefore = yes-cell (cellFor y i p) (λ z. m .yesBefore (shown i p (omega arith) low ∙ z));
+          notAbove = dominated-le (ceilingsOf y) c p (narrow c k) (narrow p low) under;
+        }))
+
+    row-zero : (c : ℕ) → c < columnsOut y → getD after c 0 ≡ cond (eqb c 0) 0 65535
+    unfolding cell
+    row-zero c k =
+        let here : 0 * columnsOut y + c ≡ c = omega arith in
+        subst (λ (j : ℕ). getD after j 0 ≡ cond (eqb c 0) 0 65535) here (shown 0 c (omega arith) k)
+
   -- main: the whole table
   pub filled-means : (rows : ℕ) (table : List ℕ) → rows ≤ y .engines → LongEnough y table → FilledMeans y rows table (filledTo y rows table)
   filled-means rows table few long =
       let same = columns-out y (limits .six) in
       record {
-        cells = λ i c h k. rw same (filledTo-at y rows table i c h (rw same at k));
+        cells = shown;
+        ceilings = count-under;
+        numbered = λ c k. column-no c (rw same at k);
+        rowZero = row-zero rows (filledTo y rows table) shown;
+        precedes = row-precedes rows (filledTo y rows table) shown;
+        lowest = row-lowest rows (filledTo y rows table) shown;
         says = λ i c h k. rw (same, filledTo-at y rows table i c h (rw same at k)) (cell-says i c (omega arith) (rw same at k));
         past = λ k h. past k (rw same at h);
         asLong = length-filledTo y rows table room;
       }
     where
+      shown : (i c : ℕ) → i ≤ rows → c < columnsOut y → getD (filledTo y rows table) (i * columnsOut y + c) 0 ≡ cellFor y i c
+      shown i c h k = let same = columns-out y (limits .six) in rw same (filledTo-at y rows table i c h (rw same at k))
+
       room : entries y rows ≤ length table
       room =
           let same = columns-out y (limits .six) in
@@ -120,12 +264,6 @@ module _ (y : System) (limits : Limits y) where
           (sym (getD-drop n (filledTo y rows table) (k - n) 0) ∙ ap (λ (l : List ℕ). getD l (k - n) 0) (drop-filledTo y rows table) ∙ getD-drop n table (k - n) 0)
 
   -- main: the pairs tried, counted in the filled table
-
-  no-greater : (p c : ℕ) → noGreater y p c ≡ within (loadOf (ceilingsOf y) p) (loadOf (ceilingsOf y) c)
-  no-greater p c = six-within (loadOf (ceilingsOf y) p) (loadOf (ceilingsOf y) c) (six p) (six c)
-    where
-      six : (q : ℕ) → length (loadOf (ceilingsOf y) q) ≡ 6
-      six q = length-loadOf (ceilingsOf y) q ∙ length-ceilings y limits
 
   -- by the table, where a row has `width` columns, whether p is tried for row i, column c
   abbrev shownTried : List ℕ → ℕ → ℕ → ℕ → ℕ → ℕ

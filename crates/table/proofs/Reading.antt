@@ -1,6 +1,6 @@
 -- The answers of the calls that take a system file, from what the reader answered and what the check of the table did.
 use Prim.Native.Nat.{ℕ, _+_, _*_}
-use mathlib.Core.Path.{_≡_, sym, ap, _∙_}
+use mathlib.Core.Path.{_≡_, sym, _∙_}
 use mathlib.Core.Bool.{true}
 use mathlib.Core.List.{List, [], _∷_}
 use Rattle.system.specs.declared.Opened.{Opened}

@@ -3,7 +3,7 @@ use Prim.Native.Nat.{ℕ, zero, suc, _+_, _-_, _*_, _/_, _%_, _≤_, _<_}
 use mathlib.Core.Path.{_≡_, refl, sym, _∙_}
 use mathlib.Core.List.{List, [], _∷_, _++_, append-nil}
 use mathlib.Core.Logic.{_⊎_, inl, inr, ⊎-elim}
-use native.Mathlib.Nat.{add-mul, mul-add, mul-one, mul-suc, mul-comm, mul-assoc, mul-le-mul-right, le-mul-of-pos-right, zero-add, mul-le-mul-left, le-of-suc-le-suc, mod-lt, mod-add-div, mod-eq-of-lt, div-eq-of-lt, add-mul-mod-self-left, add-mul-div-left}
+use native.Mathlib.Nat.{add-mul, mul-add, mul-one, mul-suc, mul-comm, mul-assoc, mul-le-mul-right, le-mul-of-pos-right, mul-le-mul-left, le-of-suc-le-suc, mod-lt, mod-add-div}
 use native.Mathlib.Numerals.{add-one}
 use native.Mathlib.Omega.{arith}
 use borrow.Author.Tests.{lt-ltb, le-ltb, ltb-true, ltb-false}

@@ -51,7 +51,7 @@ filledTo y rows table = upTo (entryOf y) (entries y rows) ++ drop (entries y row
 abbrev pub filled : System → List ℕ → List ℕ → List ℕ
 filled y es table = filledTo y (length es) table
 
--- a call that only fills: 1 to 10, 11, else accepted with the number of pairs tried (request 2026-05)
+-- a call that only fills: 1 to 10 and 31, 11, else accepted with the number of pairs tried (request 2026-05)
 abbrev pub fillOutcome : Reading → List ℕ → Outcome
 fillOutcome (unread n) table = refused fromInput n
 fillOutcome (opened y) table = unlessFails (tableCheck y table) (accepted (pairsOf y (y .engines) ∷ []))

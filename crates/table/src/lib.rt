@@ -50,7 +50,7 @@ pub fn place(table: &mut [u16], y: System, engines: Engines, counts: [u16; TYPE_
     }
 }
 
-// Fills the table for a system file, and answers the number of pairs tried (request 2026-05): refused 1 to 10 as the file is read, 11 where the table is too short.
+// Fills the table for a system file, and answers the number of pairs tried (request 2026-05): refused 1 to 10 and 31 as the file is read, 11 where the table is too short.
 pub fn fill_table(file: &[u8], table: &mut [u16]) -> Answer
     ensures { λ r. ⌜ FillPromises (readFile (now (file .entry))) (now (table .entry)) r (now (table .exit)) ⌝ }
 {

@@ -39,7 +39,7 @@ pub fn table_check(y: System, room: usize) -> Check
     Check::Fails(Refusal::Input(11))
 }
 
-// The entries that the table of a system file must have, (m + 1) × columns: refused 1 to 10 as the file is read.
+// The entries that the table of a system file must have, (m + 1) × columns: refused 1 to 10 and 31 as the file is read.
 pub fn entries_needed(file: &[u8]) -> Answer
     ensures { λ r. ⌜ NeedPromises (readFile (now (file .entry))) r ⌝ }
 {

@@ -8,16 +8,16 @@ use crate::live::played;
 use crate::scripts::byte_of;
 use crate::scripts::kind_of;
 use crate::shown::shown;
-use brute::files;
 use brute::ledger::Call;
 use brute::recovery;
-use brute::say;
-use brute::spread;
-use brute::systems;
-use brute::tables;
 use std::num::wrapping_add_usize;
 use std::num::wrapping_sub_usize;
 use system::System;
+use trial::files;
+use trial::say;
+use trial::spread;
+use trial::systems;
+use trial::tables;
 
 // How many calls of each kind were accepted, at 0 to 5, how many refused with each number, how many showed each case of `shown`, and how
 // many were answered wrongly; with the seed that the next one is drawn from.

@@ -5,10 +5,10 @@ use brute::ledger;
 use brute::ledger::Call;
 use brute::ledger::Ledger;
 use brute::recovery;
-use brute::say;
-use brute::systems;
-use brute::tables;
 use system::System;
+use trial::say;
+use trial::systems;
+use trial::tables;
 
 // The board under test, the ledger beside it, and the table that is lent to the next call.
 pub struct Live {

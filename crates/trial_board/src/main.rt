@@ -1,24 +1,21 @@
 // The six calls against a ledger over brute search: document 01's cases W9 to W12, lists of calls that show what data memory an admit
 // takes and a retire frees, what a q leaves room for and what passes over an engine out of service, and lists made outside this project,
-// with the answers that they give; then many drawn lists of calls, over dirty tables, the same table again, and tables that are too short.
-// After every call the answer, the board with its marks and the table are compared. Prints the final board of each list that is given, the
-// counts of the drawn ones, and a line for each call that is answered otherwise.
+// with the answers that they give, all on standard input, so that a list more costs no proof; then many drawn lists of calls, over dirty
+// tables, the same table again, and tables that are too short. After every call the answer, the board with its marks and the table are
+// compared. Prints the final board of each list that is given, the counts of the drawn ones, and a line for each call that is answered
+// otherwise.
+use libc::STDIN_FILENO;
+
 mod drawn;
-mod given;
+mod lines;
 mod live;
-mod replicas;
 mod scripts;
 mod shown;
-mod vectors;
-mod withdrawn;
 
 fn main() {
-    given::say_given();
-    vectors::say_vectors();
-    replicas::say_replicas();
-    vectors::say_most_vectors();
-    withdrawn::say_withdrawn();
-    vectors::say_mark_vectors();
+    let mut input = [0u8; lines::TEXT_BYTES];
+    let read = io::read_full(STDIN_FILENO, &mut input);
+    lines::say_cases(&input[..read]);
     drawn::say_drawn();
     drawn::say_drawn_marks();
 }

@@ -1,15 +1,13 @@
 // Lists of calls that are given, with their answers: scripts of six bytes for each call. Its kind (a, s, r for retire, p for repack, w for
 // withdraw, b for restore, which puts an engine back), type and engine, then `@` and the engine that admit answers (0 for another call), or
-// the refusal's number; a space. `-` is no number, `x` is 255.
+// the refusal's number; a space, or a full stop after the last. `-` is no number, `x` is 255.
 use crate::live::live_of;
 use crate::live::played;
 use board::Board;
-use brute::files;
 use brute::ledger::Call;
-use brute::say;
 use std::num::wrapping_add_usize;
 use system::ENGINE_LIMIT;
-use system::System;
+use trial::say;
 
 // A byte of a text, 0 past its end.
 pub fn byte_of(script: &[u8], i: usize) -> u8 {
@@ -99,7 +97,7 @@ fn say_board(b: Board) {
 
 // A line for a list of at most 64 calls that is given: how many calls, how many of them wrong by the script or the ledger, and the final board.
 // With `cells` every cell of a filled table is compared too.
-fn say_list(name: &[u8], file: &[u8], script: &[u8], cells: bool) {
+pub fn say_list(name: &[u8], file: &[u8], script: &[u8], cells: bool) {
     let mut live = live_of(file);
     let mut wrong: usize = 0;
     for i in 0..64usize {
@@ -118,21 +116,4 @@ fn say_list(name: &[u8], file: &[u8], script: &[u8], cells: bool) {
     say::say_also(wrong);
     let b = live.board;
     say_board(b);
-}
-
-pub fn say_script(name: &[u8], file: &[u8], script: &[u8]) {
-    say_list(name, file, script, false);
-}
-
-pub fn say_script_of(name: &[u8], y: System, script: &[u8]) {
-    let f = files::file_of(y);
-    let bytes = f.bytes;
-    say_list(name, files::first_of(&bytes, f.size), script, false);
-}
-
-// The same with every cell.
-pub fn say_cells_of(name: &[u8], y: System, script: &[u8]) {
-    let f = files::file_of(y);
-    let bytes = f.bytes;
-    say_list(name, files::first_of(&bytes, f.size), script, true);
 }

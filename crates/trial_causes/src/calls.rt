@@ -5,9 +5,6 @@ use board::Board;
 use board::Turn;
 use board::admit;
 use board::seat;
-use brute::files::first_of;
-use brute::say::code_of;
-use brute::words::Bytes;
 use causes::Cause;
 use causes::CauseAnswer;
 use causes::cause_number;
@@ -17,6 +14,9 @@ use planner::Plan;
 use planner::plan_of;
 use system::Refusal;
 use system::TABLE_LIMIT;
+use trial::files::first_of;
+use trial::say::code_of;
+use trial::words::Bytes;
 
 // The number of a table that is as it was lent.
 pub const AS_LENT: usize = 0;
@@ -67,6 +67,28 @@ fn refused_code(r: Refusal) -> usize {
     }
 }
 
+// The request's number of a cause, by the name of its case.
+fn named_number(c: Cause) -> usize {
+    match c {
+        Cause::Possible => 0,
+        Cause::NoEngine => 1,
+        Cause::OneTooLarge(t) => 2,
+        Cause::TooMuchTime => 3,
+        Cause::TooMuchMemory => 4,
+        Cause::TooManyReplicas => 5,
+        Cause::NoArrangement => 6,
+    }
+}
+
+// The same, which `cause_number` must say too; 9 where it says another.
+fn number_of(c: Cause) -> usize {
+    let number = named_number(c);
+    if cause_number(c) as usize == number {
+        return number;
+    }
+    9
+}
+
 fn named_in(c: Cause) -> usize {
     match c {
         Cause::OneTooLarge(t) => t,
@@ -77,7 +99,7 @@ fn named_in(c: Cause) -> usize {
 fn told_as(a: CauseAnswer, table: usize) -> Told {
     match a {
         CauseAnswer::Because(c) => Told {
-            cause: cause_number(c) as usize,
+            cause: number_of(c),
             named: named_in(c),
             refused: 0,
             table,

@@ -4,9 +4,9 @@ use crate::calls::AS_LENT;
 use crate::calls::Told;
 use crate::text;
 use crate::text::Case;
-use brute::say::say;
-use brute::say::say_also;
-use brute::words::part;
+use trial::say::say;
+use trial::say::say_also;
+use trial::words::part;
 
 fn say_told(a: Told) {
     if a.refused == 0 {

@@ -1,10 +1,10 @@
 // The cases as they stand in the text, a word for each part.
-use brute::words::Bytes;
-use brute::words::after;
-use brute::words::byte_of;
-use brute::words::bytes_in;
-use brute::words::number_in;
-use brute::words::word_end;
+use trial::words::Bytes;
+use trial::words::after;
+use trial::words::byte_of;
+use trial::words::bytes_in;
+use trial::words::number_in;
+use trial::words::word_end;
 
 // The bytes of the text that are read at most.
 pub const TEXT_BYTES: usize = 131072;

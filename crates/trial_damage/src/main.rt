@@ -1,14 +1,14 @@
-// Files of 39, 49, 53, 63 and 163 bytes, cut at every place, and with every value at every byte: the reader against the one of crate `brute`. A
+// Files of 39, 49, 53, 63 and 163 bytes, cut at every place, and with every value at every byte: the reader against the one of crate `trial`. A
 // file that is read must give its system, and be the file of it where no tag 3 gives a d of 0; a refused one hands out the blank system.
 ghost use Prim.Native.Nat.{_<_};
-use brute::files;
-use brute::files::File;
-use brute::files::Reading;
-use brute::say;
-use brute::systems;
 use std::num::wrapping_add_usize;
 use system::Answer;
 use system::System;
+use trial::files;
+use trial::files::File;
+use trial::files::Reading;
+use trial::say;
+use trial::systems;
 
 // How many files were read, at 0, and refused with each number, 31 at 11; and how many answers were wrong.
 struct Tally {

@@ -13,12 +13,10 @@ use board::restore;
 use board::retire;
 use board::seat;
 use board::withdraw;
-use brute::files;
-use brute::say;
 use std::num::wrapping_add_usize;
 use system::ENGINE_LIMIT;
-use system::System;
 use system::TYPE_LIMIT;
+use trial::say;
 
 // The largest number of a type that a file may have, admitted one after the other: what the last of them answers.
 fn admit_all(b: Board, t: usize, table: &mut [u16]) -> Turn {
@@ -121,7 +119,7 @@ fn say_call(b: Board, script: &[u8], at: usize, table: &mut [u16]) -> Board {
     after
 }
 
-// The calls of a script of at most 64, four bytes each, of which the last is a space.
+// The calls of a script of at most 64, four bytes each, of which the last is a space, or the end.
 fn say_calls(b: Board, script: &[u8], table: &mut [u16]) {
     let mut board = b;
     for i in 0..64usize {
@@ -132,11 +130,9 @@ fn say_calls(b: Board, script: &[u8], table: &mut [u16]) {
 
 // A list of calls from the fresh board of a file, over the first entries of a table, that lends it while at most so many engines are in
 // service: the last line is of the rows for these.
-pub fn say_rows(y: System, rows: usize, lent: usize, script: &[u8]) {
-    let f = files::file_of(y);
-    let bytes = f.bytes;
+pub fn say_rows(file: &[u8], rows: usize, lent: usize, script: &[u8]) {
     let mut table: [u16; LONG] = [OLD; LONG];
-    let turn = open_board(files::first_of(&bytes, f.size));
+    let turn = open_board(file);
     let answer = turn.answer;
     let board = turn.board;
     say::say(b"open, lent");
@@ -148,12 +144,5 @@ pub fn say_rows(y: System, rows: usize, lent: usize, script: &[u8]) {
     } else {
         say_calls(board, script, &mut table);
     }
-    let mut filled = y;
-    filled.engines = rows;
-    say_table(&table, filled);
-}
-
-// The same with every engine in service now and then.
-pub fn say_script(y: System, lent: usize, script: &[u8]) {
-    say_rows(y, y.engines, lent, script);
+    say_table(&table, file, rows);
 }

@@ -1,8 +1,9 @@
 // Tables of 20,000 entries to lend, all the same before, and a line for what one holds after.
 use brute::recovery;
-use brute::say;
 use brute::search;
 use system::System;
+use trial::files;
+use trial::say;
 
 // The entries of the longest table: more than any system needs.
 pub const LONG: usize = 20000;
@@ -32,9 +33,17 @@ fn entry_before(table: &[u16; LONG], end: usize) -> usize {
     search::wide(table[end - 1])
 }
 
-// A line for a table: the last cell that a system of so many engines has there, and whether the entries past it are as they were.
-pub fn say_table(table: &[u16; LONG], y: System) {
-    let end = recovery::entries_of(y);
+// The system of a file, with so many engines.
+fn with_rows(file: &[u8], rows: usize) -> System {
+    let r = files::reading_of(file);
+    let mut y = r.system;
+    y.engines = rows;
+    y
+}
+
+// A line for a table: the last cell that a file's system of so many engines has there, and whether the entries past it are as they were.
+pub fn say_table(table: &[u16; LONG], file: &[u8], rows: usize) {
+    let end = recovery::entries_of(with_rows(file, rows));
     say::say(b"table");
     say::say_also(entry_before(table, end));
     if kept_from(table, end) {

@@ -1,20 +1,19 @@
 // The limits, both ends of each, through every call: m 1 and 16, k 1 and 6, n 0 and 1,023, 1 and 1,024 columns, numbers 0 and 1,000,000,
 // those of d among them, q 1 and 65,535; types and engines 0, the last, one past it and the largest number there is; one engine and all of
-// them out of service; tables that are just long enough, an entry too short, and of 20,000 entries. First files at the limits and one past
-// them: what opening, planning and filling answer. Then plans, with what each engine gets, and lists of calls, with each answer and what an
-// engine holds after it; a line at the end of each has the last cell of the table, and whether every entry past it is as it was lent. What
-// is expected was computed apart from the code.
+// them out of service; tables that are just long enough, an entry too short, and of 20,000 entries. A case on each line of standard input,
+// so that a case more costs no proof. First files at the limits and one past them: what opening, planning and filling answer. Then plans,
+// with what each engine gets, and lists of calls, with each answer and what an engine holds after it; a line at the end of each has the last
+// cell of the table, and whether every entry past it is as it was lent. What is expected was computed apart from the code.
+use libc::STDIN_FILENO;
+
 mod calls;
 mod lent;
-mod lists;
-mod made;
+mod lines;
 mod openings;
 mod plans;
-mod withdrawn;
 
 fn main() {
-    openings::say_openings();
-    plans::say_plans();
-    lists::say_lists();
-    withdrawn::say_withdrawn();
+    let mut input = [0u8; lines::TEXT_BYTES];
+    let read = io::read_full(STDIN_FILENO, &mut input);
+    lines::say_cases(&input[..read]);
 }

@@ -1,11 +1,7 @@
 // Listings, whole, as they are written: document 01's worked one; a file for each refusal that a file can come to, and a table that is
 // too short; files of the greatest length, with 1,024 columns and all 16 engines; files with bytes past a good one, up to and past the 256 that
 // program `plan` reads; and every refusal number through the listing of a refused plan. What is expected was computed apart from the code.
-use brute::files;
-use brute::files::File;
 use brute::recovery;
-use brute::say;
-use brute::systems;
 use listing::listing;
 use listing::listing_of;
 use listing::write_listing;
@@ -15,6 +11,10 @@ use system::ENGINE_LIMIT;
 use system::Refusal;
 use system::System;
 use system::TYPE_LIMIT;
+use trial::files;
+use trial::files::File;
+use trial::say;
+use trial::systems;
 
 // The listing of a file, after a line that names it.
 fn say_listing(name: &[u8], file: &[u8]) {

@@ -3,16 +3,16 @@
 ghost use mathlib.Core.Path.{_≡_};
 ghost use Prim.Native.Nat.{_≤_};
 ghost use lib.ListN.{length};
-use brute::files;
-use brute::say;
 use brute::search;
-use brute::systems;
 use loads::EngineLoad;
 use planner::EngineRecord;
 use planner::plan_into;
 use system::Answer;
 use system::System;
 use system::TYPE_LIMIT;
+use trial::files;
+use trial::say;
+use trial::systems;
 
 // The most records that are lent: one more than any system has engines.
 const MOST: usize = 17;

@@ -1,8 +1,8 @@
 // Systems that are given: those of document 01, and those of the most columns.
 use crate::fills;
-use brute::say;
-use brute::systems;
 use system::System;
+use trial::say;
+use trial::systems;
 
 // A line for a system: 1 where every answer was right, the pairs, and the bound.
 fn say_case(name: &[u8], y: System) {

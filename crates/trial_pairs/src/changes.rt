@@ -2,10 +2,10 @@
 // it is accepted with its number, and refused 11 over no table.
 use crate::fills::LONG;
 use crate::fills::answer_over;
-use brute::files;
-use brute::say;
-use brute::systems;
 use system::Most;
+use trial::files;
+use trial::say;
+use trial::systems;
 
 // Where the byte stands, the byte, and the size.
 struct Change(usize, u8, usize);

@@ -1,14 +1,14 @@
 // What a fill answers, over tables that held anything and are lent in several lengths, and whether that is the number counted one by one.
 use crate::count;
-use brute::files;
 use brute::recovery;
-use brute::say;
 use brute::search;
 use std::num::wrapping_add_usize;
 use std::num::wrapping_sub_usize;
 use system::System;
 use system::TYPE_LIMIT;
 use table::fill_table;
+use trial::files;
+use trial::say;
 
 // The entries of the longest table: more than any system needs.
 pub const LONG: usize = 17500;

@@ -1,10 +1,10 @@
 // Many drawn systems of one to six types, with d and q, under both rules, and what their fills came to.
 use crate::fills;
-use brute::say;
-use brute::spread;
-use brute::systems;
 use std::num::wrapping_add_usize;
 use system::System;
+use trial::say;
+use trial::spread;
+use trial::systems;
 
 // How many systems were tried; in how many every answer was right, no type fits, the pairs are the bound, and they are one for each cell; and the
 // sums of pairs and bounds.

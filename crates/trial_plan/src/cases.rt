@@ -1,14 +1,14 @@
 // Cases that are given: document 01's W1 to W8, system B with data memory under both rules, and plans that a q alone decides. A line for each.
 use crate::right::plan_over;
 use crate::right::trial_of;
-use brute::files;
-use brute::say;
 use brute::search;
-use brute::systems;
-use brute::tables;
 use system::ENGINE_LIMIT;
 use system::Most;
 use system::System;
+use trial::files;
+use trial::say;
+use trial::systems;
+use trial::tables;
 
 // A case that is given: the answer, then time, memory and counts of each used engine.
 fn say_case(name: &[u8], y: System) {

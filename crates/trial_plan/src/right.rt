@@ -1,11 +1,8 @@
 // A plan, by value and into a list, and filling alone, over tables that are longer than they need to be, and one entry too short: whether
 // each is what the brute search says.
-use brute::files;
 use brute::recovery;
 use brute::recovery::Recovery;
-use brute::say;
 use brute::search;
-use brute::tables;
 use loads::EngineLoad;
 use planner::EngineRecord;
 use planner::Plan;
@@ -14,6 +11,9 @@ use std::num::wrapping_sub_usize;
 use system::ENGINE_LIMIT;
 use system::System;
 use system::TYPE_LIMIT;
+use trial::files;
+use trial::say;
+use trial::tables;
 
 // A plan, and whether the entries of its table from some place on are as they were lent.
 pub struct Trial {

@@ -5,14 +5,14 @@ use crate::right::right_list;
 use crate::right::right_long;
 use crate::right::right_short;
 use brute::recovery;
-use brute::say;
-use brute::spread;
-use brute::spread::DrawnSystem;
-use brute::systems;
-use brute::tables;
 use std::num::wrapping_add_usize;
 use std::num::wrapping_sub_usize;
 use system::System;
+use trial::say;
+use trial::spread;
+use trial::spread::DrawnSystem;
+use trial::systems;
+use trial::tables;
 
 // How many systems were tried, planned, and answered wrongly.
 struct Tally {

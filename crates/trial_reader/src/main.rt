@@ -1,16 +1,15 @@
-// Runs the reader on files that document 01 and requests 2026-03 and 2026-04 decide: for each its name, then `refused` with the number, or
-// `read` with m, k, the columns, the six numbers d and the six limits q. Then the field step at some places of a file. What is expected was
-// computed apart from the code.
-mod fields;
-mod limits;
-mod made;
+// Runs the reader on files that document 01 and requests 2026-03 and 2026-04 decide: a case on each line of standard input, a name and the file's
+// bytes as text, so that a case more costs no proof. Prints for each its name, then `refused` with the number, or `read` with m, k, the columns,
+// the six numbers d and the six limits q. Then the field step at some places of a file. What is expected was computed apart from the code.
+use libc::STDIN_FILENO;
+
+mod lines;
 mod show;
-mod stacks;
 mod steps;
 
 fn main() {
-    fields::fields();
-    stacks::stacks();
-    limits::limits();
+    let mut input = [0u8; lines::TEXT_BYTES];
+    let read = io::read_full(STDIN_FILENO, &mut input);
+    lines::say_cases(&input[..read]);
     steps::steps();
 }

@@ -1,22 +1,22 @@
 // The field step at some places of a file: the field's tag, the place after it and the length of its body, or `none`.
-use crate::show::number;
-use libc::STDOUT_FILENO;
 use system::Cursor;
+use trial::say::say;
+use trial::say::say_also;
 
 // The field step at a place: its answer, and the part of the file that it hands on.
 fn step(name: &[u8], file: &[u8], at: usize) {
     let c = Cursor { at };
-    io::write_all(STDOUT_FILENO, name);
+    say(name);
     let field = system::field_at(file, c);
     let body = system::body_part(file, field);
     if field.whole {
-        number(b" ", field.tag as usize);
-        number(b" ", field.next.at);
+        say_also(field.tag as usize);
+        say_also(field.next.at);
     } else {
-        io::write_all(STDOUT_FILENO, b" none");
+        say(b" none");
     }
-    number(b" ", body.len());
-    io::write_all(STDOUT_FILENO, b"\n");
+    say_also(body.len());
+    say(b"\n");
 }
 
 // Two fields, of 2 bytes and of none, then the start of one.

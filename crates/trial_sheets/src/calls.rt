@@ -1,13 +1,13 @@
 // The two calls over tables and buffers that are dirty, and of which a first part is lent; and what was left in them.
 ghost use Prim.Native.Nat.{_<_};
-use brute::files::first_of;
-use brute::words::Bytes;
-use brute::words::CASE_BYTES;
 use sheets::SheetAnswer;
 use sheets::check_sheet;
 use sheets::write_sheet;
 use system::Answer;
 use system::Refusal;
+use trial::files::first_of;
+use trial::words::Bytes;
+use trial::words::CASE_BYTES;
 
 const TABLE: usize = 2048;
 

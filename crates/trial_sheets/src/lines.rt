@@ -7,15 +7,15 @@ use crate::calls::RIGHT;
 use crate::calls::WriteCall;
 use crate::text;
 use crate::text::Case;
-use brute::say::say;
-use brute::say::say_also;
-use brute::say::say_number;
-use brute::words::Bytes;
-use brute::words::CASE_BYTES;
-use brute::words::part;
 use std::num::wrapping_add_u8;
 use std::num::wrapping_add_usize;
 use system::Answer;
+use trial::say::say;
+use trial::say::say_also;
+use trial::say::say_number;
+use trial::words::Bytes;
+use trial::words::CASE_BYTES;
+use trial::words::part;
 
 fn say_check(answer: usize) {
     match answer {

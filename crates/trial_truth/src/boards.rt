@@ -1,13 +1,13 @@
 // The boards of the trial: true ones, and the same with another number somewhere.
 use board::Board;
 use brute::recovery;
-use brute::systems;
 use loads::EngineLoad;
 use system::ENGINE_LIMIT;
 use system::Most;
 use system::System;
 use system::TYPE_LIMIT;
 use system::TaskType;
+use trial::systems;
 
 // System A with two engines that hold (2, 0) and (1, 2).
 pub fn sound() -> Board {

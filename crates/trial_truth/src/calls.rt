@@ -2,8 +2,8 @@
 use board::Board;
 use board::Turn;
 use brute::recovery;
-use brute::say;
-use brute::systems;
+use trial::say;
+use trial::systems;
 
 fn same_board(a: Board, b: Board) -> bool {
     let x = a.system;

@@ -23,9 +23,9 @@ use boards::with_engines;
 use boards::with_rule;
 use boards::with_task;
 use boards::with_types;
-use brute::systems;
 use calls::say_board;
 use calls::say_true;
+use trial::systems;
 
 // The boards that the others were made from: on the first two calls are refused 21. Engine 1 holds something on each but the last.
 fn say_sound() {
@@ -55,6 +55,13 @@ fn say_systems() {
         empty(systems::with_type(systems::platform_of(2, 0, 10, 8), 1, 1, 1024)),
     );
     say_board(b"six n of 65,535", empty(enormous()));
+}
+
+// What opening a file that is refused hands out.
+fn say_unopened() {
+    let turn = board::open_board(b"\x01");
+    let b = turn.board;
+    say_board(b"the board of a refused file", b);
 }
 
 fn say_loads() {
@@ -104,6 +111,7 @@ fn main() {
     replicas::say_kept();
     marks::say_true_marks();
     say_systems();
+    say_unopened();
     say_loads();
     say_data();
     replicas::say_replicas();

@@ -11,7 +11,7 @@ use crate::calls::say_board;
 use crate::calls::say_true;
 use board::Board;
 use brute::recovery;
-use brute::systems;
+use trial::systems;
 
 // A board of system A with this many engines, on which nothing stands.
 fn idle(engines: usize) -> Board {

@@ -8,7 +8,7 @@ use crate::boards::with_task;
 use crate::calls::say_board;
 use crate::calls::say_true;
 use board::Board;
-use brute::systems;
+use trial::systems;
 
 // A board on which nothing stands, of system A with two engines and this q for the type at index t.
 fn idle_with(t: usize, q: u16) -> Board {

@@ -1,16 +1,16 @@
 // The line that program `why` writes: a case on each line of standard input, with a name and the bytes of a system file, as text. Prints for each case the line of
 // the whole file, and after it the line of what the program reads of that file. What is expected was computed apart from the code, by a model of documents 01 and 02.
-use brute::files::first_of;
-use brute::say::say;
-use brute::words::Bytes;
-use brute::words::CASE_BYTES;
-use brute::words::after;
-use brute::words::bytes_in;
-use brute::words::part;
-use brute::words::word_end;
 use buffer::put_bytes;
 use libc::STDIN_FILENO;
 use system::FILE_BYTES;
+use trial::files::first_of;
+use trial::say::say;
+use trial::words::Bytes;
+use trial::words::CASE_BYTES;
+use trial::words::after;
+use trial::words::bytes_in;
+use trial::words::part;
+use trial::words::word_end;
 use wording::why_of;
 use wording::why_read;
 

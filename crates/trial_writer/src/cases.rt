@@ -4,10 +4,10 @@ use crate::lines::say_call;
 use crate::lines::say_case;
 use crate::lines::say_file;
 use crate::made;
-use brute::say;
-use brute::systems;
 use system::System;
 use system::TYPE_LIMIT;
+use trial::say;
+use trial::systems;
 
 // The sound system of six types with another number in one place, for eight of them.
 fn say_numbers(name: &[u8], what: u8, t: usize, numbers: [usize; 8]) {

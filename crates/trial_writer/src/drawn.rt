@@ -1,12 +1,12 @@
 // Systems drawn from the numbers at both ends of every limit, in every field, those past the last type too; and for each a buffer that is a byte too
 // short, just long enough, a byte longer, or much longer.
 use crate::made;
-use brute::files;
-use brute::spread::draw;
 use std::num::wrapping_add_usize;
 use std::num::wrapping_sub_usize;
 use system::System;
 use system::blank_system;
+use trial::files;
+use trial::spread::draw;
 
 // What each number is drawn from: up to its limit, and past it.
 const COUNTS: [usize; 8] = [1, 1, 2, 3, 4, 5, 6, 6];

@@ -1,7 +1,7 @@
 // Which systems documents 01 and 02 let the writer write, decided apart from it.
 ghost use Prim.Native.Nat.{_≤_};
-use brute::systems;
 use system::System;
+use trial::systems;
 
 // u, s or d of the type at index t is over the limit, where the system has that type.
 fn oversized_type(y: System, t: usize) -> bool {

@@ -1,11 +1,11 @@
 // Buffers of 256 bytes, of which a first part is lent: what stands in them before a call of the writer, and whether the call left what it
 // must there.
 use crate::judge;
-use brute::files;
-use brute::say;
 use std::num::wrapping_add_usize;
 use system::Answer;
 use system::System;
+use trial::files;
+use trial::say;
 use writer::write_system;
 
 // What a call answered, and the whole buffer after it.

@@ -1,13 +1,13 @@
 // Lines on standard output: what a call of the writer answered, and that its buffer or a round trip is wrong where it is; and the bytes of a file.
 use crate::lent;
 use crate::rounds;
-use brute::files;
-use brute::files::File;
-use brute::say;
 use system::Answer;
 use system::Refusal;
 use system::System;
 use system::read_system;
+use trial::files;
+use trial::files::File;
+use trial::say;
 
 fn say_refusal(r: Refusal) {
     match r {

@@ -1,7 +1,7 @@
 // The systems of the trial: a sound one, with other numbers in some places.
-use brute::systems;
 use system::Most;
 use system::System;
+use trial::systems;
 
 // The number that stands for a q that is not given, here and in every number past the largest q.
 pub const NOT_GIVEN: usize = 65536;

@@ -7,11 +7,11 @@ use crate::lines::say_judged;
 use crate::lines::say_zero;
 use crate::made;
 use crate::zeros;
-use brute::say;
-use brute::systems;
 use std::num::wrapping_add_usize;
 use system::System;
 use system::TYPE_LIMIT;
+use trial::say;
+use trial::systems;
 
 // A q of 0 of type 2, the last, with what calls for a refusal.
 fn say_most_pair(second: usize) {

@@ -2,12 +2,12 @@
 use crate::judge;
 use crate::lent;
 use crate::zeros;
-use brute::files;
-use brute::files::File;
-use brute::say;
-use brute::systems;
 use system::System;
 use system::read_system;
+use trial::files;
+use trial::files::File;
+use trial::say;
+use trial::systems;
 
 // The system with the type at index t of another one, where that has it.
 fn with_known(z: System, y: System, t: usize) -> System {

@@ -7,14 +7,14 @@ use crate::lines::say_judged;
 use crate::lines::say_zero;
 use crate::made;
 use crate::zeros;
-use brute::files;
-use brute::files::File;
-use brute::say;
-use brute::systems;
 use std::num::wrapping_add_usize;
 use system::System;
 use system::TYPE_LIMIT;
 use system::read_system;
+use trial::files;
+use trial::files::File;
+use trial::say;
+use trial::systems;
 
 // A d that is over the limit, with what calls for a refusal.
 fn say_data_pair(second: usize) {

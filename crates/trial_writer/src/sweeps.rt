@@ -3,11 +3,11 @@ use crate::drawn::drawn_edges;
 use crate::lent;
 use crate::made;
 use crate::rounds;
-use brute::say;
-use brute::spread;
 use std::num::wrapping_add_usize;
 use system::Answer;
 use system::System;
+use trial::say;
+use trial::spread;
 
 // How many calls wrote the system, at 0, and how many were refused with each number, in the order in which they are asked; and how many were wrong.
 struct Tally {
@@ -134,7 +134,7 @@ fn next_drawn(r: Run, k: usize) -> Run {
     }
 }
 
-// Systems of 1 to 6 types in turn, drawn by crate `brute`.
+// Systems of 1 to 6 types in turn, drawn by crate `trial`.
 fn drawn() -> Tally {
     let mut r = first_run(2);
     for i in 0..6000usize {

@@ -1,9 +1,9 @@
 // Files with a tag 3 that gives a d of 0: the reader takes it as none, so that the file is not that of its system.
 use crate::made;
-use brute::files;
-use brute::files::File;
 use std::num::wrapping_add_usize;
 use system::System;
+use trial::files;
+use trial::files::File;
 
 // A byte of such a field.
 fn zero_byte(i: usize) -> u8 {

@@ -1,10 +1,9 @@
 // The line that program `why` writes for a system file: `placed`, the cause for which it has no plan, in words and with its number, or a refusal.
 // The line of a refusal, with its word, is crate `listing`'s. No literal here holds one of the words that the listing keeps in its one string, so that memory is called storage.
-ghost use mathlib.Core.Path.{_≡_};
-ghost use Prim.Native.Nat.{min};
 ghost use Rattle.buffer.specs.Written.{Written};
 ghost use Rattle.wording.specs.Line.{typeLine, causeLine, answerLine};
 ghost use Rattle.wording.specs.Meaning.{WhyPromises, ReadPromises};
+use buffer::least;
 use buffer::put_bytes;
 use causes::Cause;
 use causes::CauseAnswer;
@@ -13,13 +12,6 @@ use listing::put_number;
 use listing::write_refusal;
 use system::FILE_BYTES;
 use system::TABLE_LIMIT;
-
-// The smaller of two numbers.
-fn least(a: usize, b: usize) -> usize
-    ensures { λ r. ⌜ r ≡ min a b ⌝ }
-{
-    if a < b { a } else { b }
-}
 
 // Writes the line of a type of which not even one instance fits an empty engine.
 fn write_type(out: &mut [u8; 4096], t: usize) -> usize

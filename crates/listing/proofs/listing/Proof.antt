@@ -26,6 +26,7 @@ returns c =
       leavesTable = promises .leavesTable;
       refuses = rw text at (listing-refuses (args .file .now) (args .table .now) (planned .plan-of .result) (planned .plan-of .last .1 .0) promises (wrote .given));
       demand2 = rw text at (listing-demand2 (args .file .now) (args .table .now) (planned .plan-of .result) (planned .plan-of .last .1 .0) promises (wrote .given));
+      samePlan = λ p after promised. listing-planned promised;
     }
 
 pub listing-spec : {M : Type 1} → statement M

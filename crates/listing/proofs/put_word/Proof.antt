@@ -1,12 +1,9 @@
 -- `put_word`. The loop's invariant: the first i bytes of the word stand at `at`.
 use borrow.Author.Needs.{needs}
-use Prim.Native.Nat.{ℕ, _+_, _-_, _≤_, _<_}
-use mathlib.Core.Path.{_≡_, refl, sym, ap, _∙_}
-use mathlib.Core.List.{List, [], _∷_, _++_}
-use native.Mathlib.Numerals.{add-one}
+use Prim.Native.Nat.{_+_, _-_, _≤_}
+use mathlib.Core.Path.{_≡_, refl, _∙_}
 use native.Mathlib.Omega.{arith}
-use lib.ListN.{length, getD, take, drop, length-drop}
-use lib.Seq.{take-suc, getD-drop}
+use lib.ListN.{length, take, drop}
 use Rattle.buffer.specs.Written.{Puts}
 use Rattle.buffer.proofs.Laws.{puts-then, puts-none}
 use Rattle.listing.proofs.Laws.{words, word-suc}

@@ -1,5 +1,5 @@
 -- `wide_counts`. The loop's invariant: the numbers written, followed by the counts left, are the counts.
-use Prim.Native.Nat.{ℕ, _+_, _-_, _≤_, _<_}
+use Prim.Native.Nat.{_+_, _-_, _≤_}
 use mathlib.Core.Path.{_≡_, refl, sym, _∙_}
 use mathlib.Core.List.{_∷_, _++_}
 use native.Mathlib.Numerals.{add-one}

@@ -1,10 +1,10 @@
 -- The filled table shows the cells of the engines' rows, so what is placed by it, put on these engines, is the placement.
-use Prim.Native.Nat.{ℕ, _≤_}
-use mathlib.Core.Path.{_≡_, sym, ap, _∙_}
+use Prim.Native.Nat.{ℕ}
+use mathlib.Core.Path.{_≡_, _∙_}
 use mathlib.Core.List.{List}
 use native.Mathlib.Omega.{arith}
 use borrow.Author.Needs.{needs}
-use lib.ListN.{length, take}
+use lib.ListN.{length}
 use lib.Seq.{length-take-le}
 use Rattle.system.specs.declared.System.{System}
 use Rattle.system.specs.Limits.{columns, engineLimit}

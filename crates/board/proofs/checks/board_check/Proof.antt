@@ -8,10 +8,10 @@ true-board-requires : tie.Need-true-board-requires
 true-board-requires c κs = search needs
 
 returns : tie.Need-returns
-returns c = rw (sym (c .before .true-board .ensures) ∙ c .if1 .taken)
+returns c = rw (sym (c .before .true-board .ensures .0) ∙ c .if1 .taken)
 
 returns-2 : tie.Need-returns-2
-returns-2 c = rw (sym (c .before .true-board .ensures) ∙ c .if1 .left)
+returns-2 c = rw (sym (c .before .true-board .ensures .0) ∙ c .if1 .left)
 
 pub board-check-spec : {M : Type 1} → statement M
 board-check-spec = tie.close (tie.spec true-board-requires returns returns-2)

@@ -7,6 +7,7 @@ use borrow.Author.Needs.{needs}
 use Rattle.system.specs.Limits.{keepsLimits}
 use Rattle.loads.proofs.Steps.{length-mapped}
 use Rattle.board.specs.Truth.{trueBoard}
+use Rattle.board.proofs.TrueMeans.{truth-told}
 use Rattle.board.proofs.state.true_board.Statement.{statement}
 use Rattle.board.proofs.state.true_board.Tie as tie
 
@@ -30,7 +31,8 @@ unfolding trueBoard
 returns c =
     let b = c .before .before .before .before .before .before .before .before .args .b in
     let l : length (b .loads) ≡ 16 = search (needs, length-mapped) in
-    rw (
+    truth-told b _
+    (rw (
       eq-eqb _ _ l,
       and-true (keepsLimits (b .system)),
       c .before .before .before .keeps-limits .ensures,
@@ -38,7 +40,7 @@ returns c =
       c .before .under-ceilings .ensures,
       c .before .before .before .before .total .ensures,
       c .true-marks .ensures,
-    )
+    ))
 
 pub true-board-spec : {M : Type 1} → statement M
 true-board-spec =

@@ -10,12 +10,12 @@ use Rattle.system.specs.Limits.{keepsLimits, engineLimit}
 use Rattle.system.specs.Layout.{opened, readFile}
 use Rattle.system.specs.Outcome.{fromInput, passes, checkedOf}
 use Rattle.system.proofs.Checks.{check-passed}
-use Rattle.system.proofs.Laws.{limits-of, read-keeps-limits}
+use Rattle.system.proofs.Laws.{limits-of, read-keeps-limits, opened-unless}
 use Rattle.loads.proofs.Order.{within-refl}
 use Rattle.partition.specs.Assignment.{enginesTo}
 use Rattle.table.specs.Table.{longEnough, tableCheck, filled, placement}
 use Rattle.table.proofs.Placed.{may-place-on-all}
-use Rattle.causes.proofs.FromFile.{promises-of, unread-gives, opened-unless, lent-gives, cause-gives, cause-found}
+use Rattle.causes.proofs.FromFile.{promises-of, unread-gives, lent-gives, cause-gives, cause-found}
 use Rattle.causes.proofs.calls.why_no_plan.Statement.{statement}
 use Rattle.causes.proofs.calls.why_no_plan.Tie as tie
 

@@ -9,14 +9,14 @@ use Rattle.system.specs.Limits.{keepsLimits}
 use Rattle.system.specs.Layout.{opened, readFile}
 use Rattle.system.specs.Outcome.{fromInput, passes, checkedOf}
 use Rattle.system.proofs.Checks.{check-passed}
-use Rattle.system.proofs.Laws.{limits-of, read-keeps-limits}
+use Rattle.system.proofs.Laws.{limits-of, read-keeps-limits, opened-unless}
 use Rattle.loads.proofs.Order.{within-refl}
 use Rattle.table.specs.Table.{longEnough, tableCheck, filled, placement}
 use Rattle.table.proofs.Placed.{may-place-on-all}
 use Rattle.planner.specs.Plan.{planEngines}
 use Rattle.sheets.specs.Sheet.{usedIn}
 use Rattle.sheets.specs.Checking.{statedLoads, recordsCheck}
-use Rattle.sheets.proofs.Exits.{unread-checks, opened-unless, lent-checks, judged-checks, right-checks}
+use Rattle.sheets.proofs.Exits.{unread-checks, lent-checks, judged-checks, right-checks}
 use Rattle.sheets.proofs.Promises.{promises-of}
 use Rattle.sheets.proofs.checking.check_sheet.Statement.{statement}
 use Rattle.sheets.proofs.checking.check_sheet.Tie as tie

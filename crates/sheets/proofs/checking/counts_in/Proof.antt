@@ -6,13 +6,13 @@ use lib.ListN.{length, take, length-set}
 use lib.Seq.{take-all}
 use borrow.Author.Needs.{needs}
 use Rattle.table.specs.Table.{upTo}
-use Rattle.sheets.specs.Sheet.{countIn}
+use Rattle.sheets.specs.Sheet.{statedCount}
 use Rattle.sheets.proofs.Steps.{upTo-turn}
 use Rattle.sheets.proofs.checking.counts_in.Statement.{statement}
 use Rattle.sheets.proofs.checking.counts_in.Tie as tie
 
 abbrev Inv-loop : tie.InvT-loop
-Inv-loop rest k counts₀ t₀ counts t = (t ≤ 6) × (length counts ≡ 6) × (take t counts ≡ upTo (countIn k rest) t)
+Inv-loop rest k counts₀ t₀ counts t = (t ≤ 6) × (length counts ≡ 6) × (take t counts ≡ upTo (statedCount k rest) t)
 
 abbrev μ-loop : tie.MeasureT-loop
 μ-loop rest k counts₀ t₀ counts t = 6 - t
@@ -43,7 +43,7 @@ loop-again c =
     let six : length (here .counts) ≡ 6 = here .inv .1 in (
       omega arith,
       length-set (here .counts) (here .t) (c .count-in .result) ∙ six,
-      upTo-turn (countIn (start .args .k) (start .args .rest .now)) (here .counts) (here .t) (c .count-in .result) (omega arith) (c .count-in .ensures) (here .inv .2),
+      upTo-turn (statedCount (start .args .k) (start .args .rest .now)) (here .counts) (here .t) (c .count-in .result) (omega arith) (c .count-in .ensures) (here .inv .2),
     )
 
 returns : tie.Need-returns Inv-loop μ-loop
@@ -51,7 +51,7 @@ returns c =
     let here = c .before .loop in
     let start = c .before .before .before in
     let all : here .t ≡ 6 = omega arith in
-    sym (take-all (here .t) (here .counts) (omega (arith, here .inv .1))) ∙ here .inv .2 ∙ ap (upTo (countIn (start .args .k) (start .args .rest .now))) all
+    sym (take-all (here .t) (here .counts) (omega (arith, here .inv .1))) ∙ here .inv .2 ∙ ap (upTo (statedCount (start .args .k) (start .args .rest .now))) all
 
 pub counts-in-spec : {M : Type 1} → statement M
 counts-in-spec =

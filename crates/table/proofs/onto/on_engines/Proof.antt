@@ -1,5 +1,5 @@
 -- The loop's invariant: of the rows before i each is on its engine. It is stated for any number of listed engines, since the loop knows their numbers alone.
-use Prim.Native.Nat.{ℕ, suc, _+_, _-_, _≤_, _<_}
+use Prim.Native.Nat.{ℕ, _-_, _≤_, _<_}
 use mathlib.Core.Path.{_≡_, refl, sym, ap, _∙_}
 use mathlib.Core.Bool.{true}
 use mathlib.Core.List.{List, []}

@@ -1,6 +1,6 @@
 -- The column is one of the row's, the row is the lowest that says yes, and recovery from it onto idle rows is what is placed.
 use Prim.Native.Nat.{_<_}
-use mathlib.Core.Path.{_≡_, ap, _∙_}
+use mathlib.Core.Path.{_≡_, _∙_}
 use native.Mathlib.Omega.{arith}
 use borrow.Author.Needs.{needs}
 use Rattle.system.specs.Values.{ceilingsOf}

@@ -1,5 +1,5 @@
 -- A file that was refused, and one that opened: its system keeps the limits, so that its entries can be counted.
-use mathlib.Core.Path.{_≡_, ap, _∙_}
+use mathlib.Core.Path.{_≡_}
 use mathlib.Core.Logic.{⊎-elim}
 use native.Mathlib.Omega.{arith}
 use borrow.Author.Needs.{needs}

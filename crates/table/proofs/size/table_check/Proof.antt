@@ -1,7 +1,6 @@
 -- The test is that of the definition; where it is not met the number is 11.
 use borrow.Author.Needs.{needs}
 use borrow.Author.Tests.{le-leb, lt-leb}
-use Rattle.table.specs.Table.{entries}
 use Rattle.table.proofs.size.table_check.Statement.{statement}
 use Rattle.table.proofs.size.table_check.Tie as tie
 

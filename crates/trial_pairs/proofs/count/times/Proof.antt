@@ -1,5 +1,5 @@
 -- A product of two numbers below 2^32.
-use Prim.Native.Nat.{_*_, _≤_, _^_, _-_}
+use Prim.Native.Nat.{_*_, _≤_}
 use native.Mathlib.Nat.{mul-le-mul}
 use native.Mathlib.Omega.{arith}
 use borrow.Author.Needs.{needs}

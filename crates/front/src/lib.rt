@@ -1,0 +1,16 @@
+// What the programs `plan`, `sheet` and `why` read of a system file: its first `FILE_BYTES` bytes, from standard input. One function for the three, so that the input of
+// each tries it: `plan` and `sheet` have the longest file that opens, `why` one that is longer.
+use libc::STDIN_FILENO;
+use system::FILE_BYTES;
+
+// The bytes that were read, 0 past them, and how many they are.
+pub struct Front {
+    pub bytes: [u8; FILE_BYTES],
+    pub read: usize,
+}
+
+pub fn read_front() -> Front {
+    let mut bytes = [0u8; FILE_BYTES];
+    let read = io::read_full(STDIN_FILENO, &mut bytes);
+    Front { bytes, read }
+}

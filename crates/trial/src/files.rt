@@ -1,0 +1,329 @@
+// The bytes of a system file, made from a system; and a reader of system files of up to 256 bytes, which goes from field to field.
+ghost use Prim.Native.Nat.{_+_, _≤_, _<_};
+use crate::systems;
+use buffer::put_byte;
+use buffer::put_four;
+use buffer::put_two;
+use std::num::wrapping_add_usize;
+use system::Most;
+use system::System;
+use system::TYPE_LIMIT;
+use system::TaskType;
+
+// A file and its length.
+pub struct File {
+    pub bytes: [u8; 256],
+    pub size: usize,
+}
+
+// The field of a type's d, where it is not 0. Answers the place after it.
+fn put_data(bytes: &mut [u8; 256], at: usize, data: u32) -> usize
+    requires { ⌜ at ≤ 240 ⌝ }
+    ensures { λ r. ⌜ r ≤ at + 7 ⌝ }
+{
+    if data == 0 {
+        return at;
+    }
+    let tagged = put_byte(bytes, at, 3);
+    let sized = put_two(bytes, tagged, 4);
+    put_four(bytes, sized, data)
+}
+
+// The field of a type's q, where it is given. Answers the place after it.
+fn put_most(bytes: &mut [u8; 256], at: usize, most: Most) -> usize
+    requires { ⌜ at ≤ 240 ⌝ }
+    ensures { λ r. ⌜ r ≤ at + 5 ⌝ }
+{
+    let Most::AtMost(q) = most else {
+        return at;
+    };
+    let tagged = put_byte(bytes, at, 4);
+    let sized = put_two(bytes, tagged, 2);
+    put_two(bytes, sized, q)
+}
+
+// The fields of the type at index t, where the system has it. Answers the place after them.
+fn put_type(bytes: &mut [u8; 256], at: usize, y: System, t: usize) -> usize
+    requires { ⌜ at ≤ 220 ⌝ }
+    ensures { λ r. ⌜ r ≤ at + 25 ⌝ }
+{
+    if 6 <= t {
+        return at;
+    }
+    if y.typecount <= t {
+        return at;
+    }
+    let task = y.types[t];
+    let tagged = put_byte(bytes, at, 2);
+    let sized = put_two(bytes, tagged, 10);
+    let timed = put_four(bytes, sized, task.time);
+    let stored = put_four(bytes, timed, task.memory);
+    let counted = put_two(bytes, stored, task.ceiling);
+    let stacked = put_data(bytes, counted, task.data);
+    let most = task.most;
+    put_most(bytes, stacked, most)
+}
+
+fn put_platform(bytes: &mut [u8; 256], y: System) {
+    let tagged = put_byte(bytes, 0, 1);
+    let sized = put_two(bytes, tagged, 10);
+    let counted = put_byte(bytes, sized, (y.engines % 256) as u8);
+    let ruled = put_byte(bytes, counted, y.rule);
+    let timed = put_four(bytes, ruled, y.timecap);
+    put_four(bytes, timed, y.memorycap);
+}
+
+// The file of a system of at most six types.
+pub fn file_of(y: System) -> File {
+    let mut bytes: [u8; 256] = [0; 256];
+    put_platform(&mut bytes, y);
+    let one = put_type(&mut bytes, 13, y, 0);
+    let two = put_type(&mut bytes, one, y, 1);
+    let three = put_type(&mut bytes, two, y, 2);
+    let four = put_type(&mut bytes, three, y, 3);
+    let five = put_type(&mut bytes, four, y, 4);
+    let size = put_type(&mut bytes, five, y, 5);
+    File { bytes, size }
+}
+
+// The first n bytes of a file, all of them where it has fewer.
+pub fn first_of(file: &[u8], n: usize) -> &[u8] {
+    if n <= file.len() { &file[0..n] } else { file }
+}
+
+fn wide(byte: u8) -> usize
+    ensures { λ r. ⌜ r < 256 ⌝ }
+{
+    byte as usize
+}
+
+// The byte that stands so many bytes past a place, 0 where the file has none.
+fn byte_of(file: &[u8], at: usize, past: usize) -> usize
+    ensures { λ r. ⌜ r < 256 ⌝ }
+{
+    let i = wrapping_add_usize(at, past);
+    if i < file.len() {
+        return wide(file[i]);
+    }
+    0
+}
+
+fn two_of(file: &[u8], at: usize, past: usize) -> usize
+    requires { ⌜ past ≤ 16 ⌝ }
+    ensures { λ r. ⌜ r < 65536 ⌝ }
+{
+    byte_of(file, at, past) * 256 + byte_of(file, at, past + 1)
+}
+
+fn four_of(file: &[u8], at: usize, past: usize) -> u32
+    requires { ⌜ past ≤ 12 ⌝ }
+{
+    (two_of(file, at, past) * 65536 + two_of(file, at, past + 2)) as u32
+}
+
+// What was read up to a place: the tag of the field before it, 0 for none, the system so far, and whether a tag 3 gave a d of 0. A
+// refusal ends it, with its number.
+pub struct Reading {
+    pub at: usize,
+    pub last: usize,
+    pub system: System,
+    pub zero: bool,
+    pub refusal: usize,
+}
+
+// A field of this tag may follow one of tag `last`: the platform is first and nothing else is, a d follows its type directly, and a q its
+// type or the d of it.
+fn may_stand(tag: usize, last: usize) -> bool {
+    match tag {
+        1 => last == 0,
+        2 => last != 0,
+        3 => last == 2,
+        _ => (last == 2) | (last == 3),
+    }
+}
+
+// The bytes of a field with its head.
+fn span_of(tag: usize) -> usize {
+    match tag {
+        3 => 7,
+        4 => 5,
+        _ => 13,
+    }
+}
+
+// What the head of the field at a place is refused with, 0 for nothing: start cut 1, 2, 3, 4, body cut 1.
+fn head_refusal(file: &[u8], at: usize, last: usize) -> usize {
+    if file.len() < wrapping_add_usize(at, 3) {
+        return 1;
+    }
+    let tag = byte_of(file, at, 0);
+    if (tag < 1) | (4 < tag) {
+        return 2;
+    }
+    if !may_stand(tag, last) {
+        return 3;
+    }
+    if two_of(file, at, 1) + 3 != span_of(tag) {
+        return 4;
+    }
+    if file.len() < wrapping_add_usize(at, span_of(tag)) {
+        return 1;
+    }
+    0
+}
+
+// U, S, u, s or d is over its limit.
+fn oversized(size: u32) -> bool {
+    1000000 < size
+}
+
+// The platform: 5, 6, 8.
+fn platform_read(file: &[u8], at: usize) -> Reading {
+    let engines = byte_of(file, at, 3);
+    let rule = byte_of(file, at, 4);
+    let time = four_of(file, at, 5);
+    let memory = four_of(file, at, 9);
+    let refusal = if (engines < 1) | (16 < engines) {
+        5
+    } else if 1 < rule {
+        6
+    } else if oversized(time) | oversized(memory) {
+        8
+    } else {
+        0
+    };
+    Reading {
+        at: wrapping_add_usize(at, 13),
+        last: 1,
+        system: systems::platform_of(engines, rule as u8, time, memory),
+        zero: false,
+        refusal,
+    }
+}
+
+// A type: 7, 8.
+fn type_read(file: &[u8], r: Reading) -> Reading {
+    let y = r.system;
+    let time = four_of(file, r.at, 3);
+    let memory = four_of(file, r.at, 7);
+    let ceiling = two_of(file, r.at, 11);
+    let refusal = if 6 <= y.typecount {
+        7
+    } else if oversized(time) | oversized(memory) {
+        8
+    } else {
+        0
+    };
+    Reading {
+        at: wrapping_add_usize(r.at, 13),
+        last: 2,
+        system: systems::with_type(y, time, memory, ceiling as u16),
+        zero: r.zero,
+        refusal,
+    }
+}
+
+// A d: 8.
+fn data_read(file: &[u8], r: Reading) -> Reading {
+    let y = r.system;
+    let data = four_of(file, r.at, 3);
+    Reading {
+        at: wrapping_add_usize(r.at, 7),
+        last: 3,
+        system: systems::with_data(y, data),
+        zero: r.zero | (data == 0),
+        refusal: if oversized(data) { 8 } else { 0 },
+    }
+}
+
+// A q: 31.
+fn most_read(file: &[u8], r: Reading) -> Reading {
+    let y = r.system;
+    let q = two_of(file, r.at, 3);
+    Reading {
+        at: wrapping_add_usize(r.at, 5),
+        last: 4,
+        system: systems::with_most(y, q as u16),
+        zero: r.zero,
+        refusal: if q == 0 { 31 } else { 0 },
+    }
+}
+
+fn refused(r: Reading, refusal: usize) -> Reading {
+    let mut next = r;
+    next.refusal = refusal;
+    next
+}
+
+// The field at the place.
+fn field_read(file: &[u8], r: Reading) -> Reading {
+    let refusal = head_refusal(file, r.at, r.last);
+    if refusal != 0 {
+        return refused(r, refusal);
+    }
+    let tag = byte_of(file, r.at, 0);
+    if tag == 1 {
+        return platform_read(file, r.at);
+    }
+    if tag == 2 {
+        return type_read(file, r);
+    }
+    if tag == 3 {
+        return data_read(file, r);
+    }
+    most_read(file, r)
+}
+
+// The columns of the six ceilings are at most 1,024: dividing by each n + 1 in turn leaves something.
+fn within_columns(y: System) -> bool {
+    let types = y.types;
+    let mut left: usize = 1024;
+    for t in 0..TYPE_LIMIT {
+        let task = types[t];
+        left = left / (systems::wide(task.ceiling) + 1);
+    }
+    left != 0
+}
+
+// At the end of the file: 9, 10.
+fn ended(r: Reading) -> Reading {
+    let y = r.system;
+    if y.typecount == 0 {
+        return refused(r, 9);
+    }
+    if !within_columns(y) {
+        return refused(r, 10);
+    }
+    r
+}
+
+// What a file reads as. No file has a twentieth field that is read: the platform, and six types with a d and a q each, come before it.
+pub fn reading_of(file: &[u8]) -> Reading {
+    let mut r = Reading {
+        at: 0,
+        last: 0,
+        system: system::blank_system(),
+        zero: false,
+        refusal: 0,
+    };
+    for field in 0..20usize {
+        if (r.refusal == 0) & (r.at < file.len()) {
+            let next = field_read(file, r);
+            r = next;
+        }
+    }
+    if r.refusal != 0 {
+        return r;
+    }
+    ended(r)
+}
+
+// The slice is the whole file.
+pub fn same_file(f: File, file: &[u8]) -> bool {
+    let bytes = f.bytes;
+    let mut same = f.size == file.len();
+    for i in 0..256 {
+        same = same & (wide(bytes[i]) == byte_of(file, i, 0));
+    }
+    same
+}

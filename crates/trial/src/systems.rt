@@ -1,0 +1,172 @@
+// Systems made part by part, document 01's systems A and B, systems at the limits, and whether two systems are the same.
+ghost use Prim.Native.Nat.{_<_};
+use std::num::wrapping_sub_usize;
+use system::Most;
+use system::System;
+use system::TYPE_LIMIT;
+use system::TaskType;
+
+// A number of 16 bits, for sums that pass them.
+pub fn wide(n: u16) -> usize
+    ensures { λ r. ⌜ r < 65536 ⌝ }
+{
+    n as usize
+}
+
+// A system with no type yet: m, rule, U and S.
+pub fn platform_of(engines: usize, rule: u8, time: u32, memory: u32) -> System {
+    let mut y = system::blank_system();
+    y.engines = engines;
+    y.rule = rule;
+    y.timecap = time;
+    y.memorycap = memory;
+    y
+}
+
+// The system with one type more: u, s and n, d 0 and no q. As it is, where it has six.
+pub fn with_type(y: System, time: u32, memory: u32, ceiling: u16) -> System {
+    let mut z = y;
+    let k = y.typecount;
+    if k < 6 {
+        z.types[k] = TaskType {
+            time,
+            memory,
+            ceiling,
+            data: 0,
+            most: Most::NotGiven,
+        };
+        z.typecount = k + 1;
+    }
+    z
+}
+
+// The system with another d of its last type, where it has one to six.
+pub fn with_data(y: System, data: u32) -> System {
+    let mut z = y;
+    let k = y.typecount;
+    if k < 1 {
+        return z;
+    }
+    if 6 < k {
+        return z;
+    }
+    let last = y.types[k - 1];
+    let most = last.most;
+    z.types[k - 1] = TaskType {
+        time: last.time,
+        memory: last.memory,
+        ceiling: last.ceiling,
+        data,
+        most,
+    };
+    z
+}
+
+// The system with another q, or none, of the type at index t; that may be past the last one. As it is, where it has no such entry.
+pub fn with_most_at(y: System, t: usize, most: Most) -> System {
+    if 6 <= t {
+        return y;
+    }
+    let mut z = y;
+    let old = y.types[t];
+    z.types[t] = TaskType {
+        time: old.time,
+        memory: old.memory,
+        ceiling: old.ceiling,
+        data: old.data,
+        most,
+    };
+    z
+}
+
+// The system with this q of its last type, where it has one to six.
+pub fn with_most(y: System, q: u16) -> System {
+    with_most_at(y, wrapping_sub_usize(y.typecount, 1), Most::AtMost(q))
+}
+
+// Document 01's system A, with this many engines.
+pub fn system_a(engines: usize) -> System {
+    with_type(with_type(platform_of(engines, 0, 10, 8), 4, 3, 3), 3, 2, 2)
+}
+
+// Document 01's system B, with this many engines and this memory rule.
+pub fn system_b(engines: usize, rule: u8) -> System {
+    with_type(platform_of(engines, rule, 10, 8), 2, 5, 4)
+}
+
+// One type: m, rule, one capacity for time and memory, one cost for both, n.
+pub fn single(engines: usize, rule: u8, capacity: u32, cost: u32, ceiling: u16) -> System {
+    with_type(
+        platform_of(engines, rule, capacity, capacity),
+        cost,
+        cost,
+        ceiling,
+    )
+}
+
+// Six types of these ceilings, that cost nothing.
+pub fn six_of(engines: usize, ceilings: [u16; TYPE_LIMIT]) -> System {
+    let one = with_type(platform_of(engines, 0, 0, 0), 0, 0, ceilings[0]);
+    let two = with_type(one, 0, 0, ceilings[1]);
+    let three = with_type(two, 0, 0, ceilings[2]);
+    let four = with_type(three, 0, 0, ceilings[3]);
+    let five = with_type(four, 0, 0, ceilings[4]);
+    with_type(five, 0, 0, ceilings[5])
+}
+
+// Six types, 1,024 columns, 16 engines: two of type 1 take most of an engine's time, and the others go between them.
+pub fn system_full(rule: u8) -> System {
+    let one = with_type(platform_of(16, rule, 987654, 765432), 411111, 98765, 31);
+    let two = with_type(one, 432109, 87654, 1);
+    let three = with_type(two, 150001, 345678, 1);
+    let four = with_type(three, 123456, 456789, 1);
+    let five = with_type(four, 76543, 321098, 1);
+    with_type(five, 65432, 210987, 1)
+}
+
+// The same with a d for each type, by which types 5 and 6 no longer share an engine.
+pub fn system_stacked(rule: u8) -> System {
+    let one = with_type(platform_of(16, rule, 987654, 765432), 411111, 98765, 31);
+    let two = with_type(with_data(one, 12345), 432109, 87654, 1);
+    let three = with_type(with_data(two, 23456), 150001, 345678, 1);
+    let four = with_type(with_data(three, 34567), 123456, 456789, 1);
+    let five = with_type(with_data(four, 45678), 76543, 321098, 1);
+    with_data(with_type(with_data(five, 56789), 65432, 210987, 1), 67890)
+}
+
+// The same with a q for each type too, that of type 1 just met: no file that opens is longer.
+pub fn system_longest(rule: u8) -> System {
+    let one = with_most_at(system_stacked(rule), 0, Most::AtMost(2));
+    let two = with_most_at(one, 1, Most::AtMost(1));
+    let three = with_most_at(two, 2, Most::AtMost(65535));
+    let four = with_most_at(three, 3, Most::AtMost(256));
+    let five = with_most_at(four, 4, Most::AtMost(1));
+    with_most_at(five, 5, Most::AtMost(513))
+}
+
+// A q as a number, 65,536 where it is not given.
+pub fn most_number(most: Most) -> usize {
+    match most {
+        Most::NotGiven => 65536,
+        Most::AtMost(q) => q as usize,
+    }
+}
+
+// Two entries for a type say the same.
+fn same_task(a: TaskType, b: TaskType) -> bool {
+    let p = a.most;
+    let q = b.most;
+    let same = (a.time == b.time) & (a.memory == b.memory) & (a.ceiling == b.ceiling);
+    same & (a.data == b.data) & (most_number(p) == most_number(q))
+}
+
+pub fn same_system(a: System, b: System) -> bool {
+    let mut same = (a.engines == b.engines) & (a.rule == b.rule) & (a.typecount == b.typecount);
+    same = same & (a.timecap == b.timecap) & (a.memorycap == b.memorycap);
+    for t in 0..TYPE_LIMIT {
+        let x = a.types[t];
+        let y = b.types[t];
+        same = same & same_task(x, y);
+    }
+    same
+}
