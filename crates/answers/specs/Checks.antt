@@ -63,7 +63,12 @@ partBytes = 4096
 abbrev pub joined : List ℕ → List ℕ → List ℕ
 joined file sheet = twoOut (length file) ++ (file ++ sheet)
 
--- what the call `check_read` promises: the same of every file and every sheet, whatever their lengths, of each of which just the first 4,096 bytes were joined, and these were read
+-- what the call `check_joined` promises: the same of every file and every sheet, whatever their lengths, of each of which just the first 4,096 bytes were joined
 pub record JoinedPromises (read old new : List ℕ) (r : ℕ) : Type 0 where
   pub within : Counts r new
   pub ofBoth : (file sheet : List ℕ) → read ≡ joined (take partBytes file) (take partBytes sheet) → CheckPromises file sheet old new r
+
+-- what the call `check_read` promises: the same of what was read; and there is room for all that can be joined, two bytes and twice 4,096, so that nothing of it is cut off
+pub record ReadBothPromises (front : List ℕ) (read : ℕ) (old new : List ℕ) (r : ℕ) : Type 0 where
+  pub size : length front ≡ 8194
+  pub joins : JoinedPromises (take read front) old new r

@@ -4,7 +4,7 @@ ghost use lib.ListN.{take};
 ghost use Rattle.buffer.specs.Written.{Written};
 ghost use Rattle.sheets.specs.Checking.{sheetOutcomeOf};
 ghost use Rattle.answers.specs.Sheets.{SheetPromises, ReadPromises};
-ghost use Rattle.answers.specs.Checks.{rightText, lineOf, CheckPromises, JoinedPromises};
+ghost use Rattle.answers.specs.Checks.{rightText, lineOf, CheckPromises, JoinedPromises, ReadBothPromises};
 use buffer::least;
 use buffer::put_bytes;
 use listing::write_refusal;
@@ -89,7 +89,7 @@ fn check_joined(joined: &[u8], out: &mut [u8; 4096]) -> usize
 
 // The same for such an input of which `read` bytes were read. Of a longer file or a longer sheet the first `PART_BYTES` are joined; what is written is that of the whole two.
 pub fn check_read(front: [u8; JOINED_BYTES], read: usize, out: &mut [u8; 4096]) -> usize
-    ensures { λ r. ⌜ JoinedPromises (take read front) (now (out .entry)) (now (out .exit)) r ⌝ }
+    ensures { λ r. ⌜ ReadBothPromises front read (now (out .entry)) (now (out .exit)) r ⌝ }
 {
     let end = least(read, JOINED_BYTES);
     check_joined(&front[..end], out)

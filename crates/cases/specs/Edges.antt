@@ -132,6 +132,9 @@ edges =
     ∷ edge (withTypes (typeWith 1000001 3 1 ∷ field 5 2 [] ∷ [])) 8
     ∷ edge (withTypes (typeWith 4 1000001 1 ∷ (2 ∷ []) ∷ [])) 8
     ∷ edge (withTypes (goodType ∷ dataWith 1000001 ∷ dataWith 5 ∷ [])) 8
+    -- "at the end 9, 10": a fault of a later field comes before them
+    ∷ edge (withTypes (typeWith 4 3 1024 ∷ typeWith 1000001 3 1 ∷ [])) 8
+    ∷ edge (goodPlatform ++ field 5 2 []) 2
     ∷ []
 
 -- the number as an outcome

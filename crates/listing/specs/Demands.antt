@@ -125,10 +125,12 @@ pub record WriteListingPromises (p : Plan) (old new : List ℕ) (r : ℕ) : Type
       → ((e : ℕ) → 1 ≤ e → e ≤ p .used → p .typecount ≤ length (recordNo (p .loads) e .counts))
       → TellsRecords (p .used) (p .typecount) (p .loads) (planListing p)
 
--- what the call `listing` promises of its result, the buffer and the table, and with that the refusals and demand 2; the plan that it lists is the one that `plan_of` gives
+-- what the call `listing` promises of its result, the buffer and the table, and with that the refusals and demand 2; the plan that it lists is the one that `plan_of` gives,
+-- and it leaves the table as that call does
 pub record ListingPromises (file table old new : List ℕ) (r : ℕ) (tableAfter : List ℕ) : Type 0 where
   pub written : Written (fileListing file table) old new r
   pub leavesTable : tableAfter ≡ planTable (readFile file) table engineLimit
   pub refuses : ListingRefuses file table (fileListing file table)
   pub demand2 : ListingDemand2 file table (fileListing file table)
   pub samePlan : (p : Plan) (after : List ℕ) → PlanPromises (readFile file) table engineLimit p after → planListing p ≡ fileListing file table
+  pub sameTable : (p : Plan) (after : List ℕ) → PlanPromises (readFile file) table engineLimit p after → tableAfter ≡ after

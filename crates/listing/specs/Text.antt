@@ -40,7 +40,9 @@ pub record TextPromises (file old new : List ℕ) (r : ℕ) : Type 0 where
   pub tells : TellsFile file (fileText file)
   pub samePlan : (p : Plan) (table after : List ℕ) → ((y : System) → readFile file ≡ opened y → LongEnough y table) → PlanPromises (readFile file) table engineLimit p after → planListing p ≡ fileText file
 
--- what the call `listing_read` promises: the same of every file, whatever its length, of whose first bytes, as many as `front` has room for, just these were read
+-- what the call `listing_read` promises: the same of every file, whatever its length, of whose first bytes, as many as `front` has room for, just these were read;
+-- request 2026-03: there is room for 256
 pub record ReadPromises (front : List ℕ) (read : ℕ) (old new : List ℕ) (r : ℕ) : Type 0 where
+  pub size : length front ≡ 256
   pub within : Counts r new
   pub ofFile : (file : List ℕ) → take (length front) file ≡ take read front → TextPromises file old new r

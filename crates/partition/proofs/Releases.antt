@@ -51,8 +51,8 @@ sum-of a b both la lb l h =
 -- intermediate: a system within the limits, and its engines in service
 
 module _ (y : System) (limits : Limits y) where
-  inside : (x : List ℕ) → Within y x → within x (ceilingsOf y) ≡ true
-  inside x w = within-of x (ceilingsOf y) (w .six ∙ sym (length-ceilings y limits)) (λ t low. omega (arith, w .ceilings t low, ceiling-out y t))
+  pub within-ceilings : (x : List ℕ) → Within y x → within x (ceilingsOf y) ≡ true
+  within-ceilings x w = within-of x (ceilingsOf y) (w .six ∙ sym (length-ceilings y limits)) (λ t low. omega (arith, w .ceilings t low, ceiling-out y t))
 
   module _ (es : List ℕ) (s : Serving y es) where
     known : every (among (enginesTo (y .engines))) es ≡ true
@@ -66,7 +66,7 @@ module _ (y : System) (limits : Limits y) where
 
       pub row-fewest : rowFor y es x ≤ length es → Fewest y (On es) (instancesIn x) (rowFor y es x)
       row-fewest h =
-          let f = fewest-out y (limits .rule) es (s .once) known (On es) (λ e. ((λ k. k), (λ k. k))) x (w .six) (instancesIn x) (λ t low. refl) _ (rowFor y es x) (recovered-on-fewest y limits es (s .once) x (w .six) (inside x w) (placed h) (y .engines)) in
+          let f = fewest-out y (limits .rule) es (s .once) known (On es) (λ e. ((λ k. k), (λ k. k))) x (w .six) (instancesIn x) (λ t low. refl) _ (rowFor y es x) (recovered-on-fewest y limits es (s .once) x (w .six) (within-ceilings x w) (placed h) (y .engines)) in
           record { mapping = f .stands .mapping; partition = f .stands .partition; uses = f .uses; least = f .fewest }
 
       -- every partition uses at least as many engines, so that the row is not past them
@@ -75,12 +75,12 @@ module _ (y : System) (limits : Limits y) where
           let assigns = partition-assigns y (limits .rule) es (s .once) known (On es) (λ e. ((λ k. k), (λ k. k))) x (w .six) (instancesIn x) (λ t low. refl) χ p in
           let isGood = partition-good y (limits .rule) es (s .once) known (On es) (λ e. ((λ k. k), (λ k. k))) x (w .six) (instancesIn x) (λ t low. refl) χ p in
           rw (used-out y (limits .rule) es (s .once) known (On es) (λ e. ((λ k. k), (λ k. k))) x (w .six) (instancesIn x) (λ t low. refl) χ isGood)
-          (fewest-for y limits es (s .once) x (w .six) (inside x w) χ assigns isGood)
+          (fewest-for y limits es (s .once) x (w .six) (within-ceilings x w) χ assigns isGood)
 
       pub feasible-row : (χ : Assignment) → Partition y (On es) (instancesIn x) χ → rowFor y es x ≤ length es
       feasible-row χ p =
           let f = feasible-out y (limits .rule) es (s .once) known (On es) (λ e. ((λ k. k), (λ k. k))) x (w .six) (instancesIn x) (λ t low. refl) .1 (χ, p) in
-          leb-true (rowFor y es x) (length es) (feasible-iff-placeable y limits es (s .once) x (w .six) (inside x w) .0 f)
+          leb-true (rowFor y es x) (length es) (feasible-iff-placeable y limits es (s .once) x (w .six) (within-ceilings x w) .0 f)
 
       pub row-only : (r : ℕ) → Fewest y (On es) (instancesIn x) r → rowFor y es x ≡ r
       row-only r f =
@@ -118,10 +118,10 @@ module _ (y : System) (limits : Limits y) where
 
       -- the load of the column that stands for a load is that load
       loads : (x : List ℕ) → Within y x → loadOf (ceilingsOf y) (columnOf (ceilingsOf y) x) ≡ x
-      loads x v = column-load y limits es (s .once) x (v .six) (inside x v)
+      loads x v = column-load y limits es (s .once) x (v .six) (within-ceilings x v)
 
       small : (x : List ℕ) → Within y x → columnOf (ceilingsOf y) x < columnsOf (ceilingsOf y)
-      small x v = column-small y limits es (s .once) x (v .six) (inside x v)
+      small x v = column-small y limits es (s .once) x (v .six) (within-ceilings x v)
 
       part : (x : List ℕ) → Within y x → Below x both → rowFor y es x ≤ rowFor y es both
       part x v below =

@@ -1,13 +1,26 @@
 -- Worked examples of request 2026-09, by computation: the sum is met and the larger is met, so that neither bound can be closer; and what each rule needs of one load.
+use Prim.Native.Nat.{ℕ, zero, suc, _+_, _-_, _≤_, zero-le}
 use mathlib.Core.Path.{_≡_, refl}
+use mathlib.Core.Bool.{true, false, _||_, false≢true}
+use mathlib.Core.Logic.{⊎-elim}
+use native.Mathlib.Nat.{le-refl}
 use native.Mathlib.Omega.{arith}
+use borrow.Author.Tests.{eqb-true}
+use lib.ListN.{getD}
+use lib.Dec.{eqb}
 use Rattle.system.specs.Limits.{columnsOf}
-use Rattle.system.specs.Layout.{ruleOf, platformFrom, typeFrom, dataFrom, ruledHead, headOf, bodyOf, ruledField, fieldOf, endOf, fieldsFrom, readFile}
+use Rattle.system.specs.Layout.{ruleOf, platformFrom, typeFrom, dataFrom, ruledHead, headOf, bodyOf, ruledField, fieldOf, endOf, fieldsFrom, readFile, opened}
 use Rattle.loads.specs.Load.{sumOver, apart, fitsEngine, within, less}
 use Rattle.loads.specs.Column.{columnFrom, loadOf}
+use Rattle.partition.specs.Assignment.{among}
+use Rattle.partition.specs.OwnWords.{noType}
+use Rattle.partition.specs.Shares.{distinct}
 use Rattle.partition.specs.Cell.{lowest, precedes, cell, lowestRow}
-use Rattle.partition.specs.Releases.{Bounds, NoMore}
-use Rattle.partition.specs.ReleaseCases.{rowA, rowB, oneAndThree, allThree}
+use Rattle.partition.specs.Plain.{EngineOf}
+use Rattle.partition.specs.Releases.{Bounds, NoMore, Serving, AddsWithin}
+use Rattle.partition.specs.ReleaseCases.{fileA, systemA, loadWith, rowA, rowB, oneAndThree, allThree}
+use Rattle.partition.proofs.Lists.{or-cases}
+use Rattle.partition.proofs.Releases.{two-releases}
 
 -- system A with engine 2 out of service: two of type 1 need one engine, one of type 1 and two of type 2 need one; both need two, the sum
 rows-sum : (rowA oneAndThree 2 0 ≡ 1) × (rowA oneAndThree 1 2 ≡ 1) × (rowA oneAndThree 3 2 ≡ 2)
@@ -25,6 +38,53 @@ sum-met = rw (rows-sum .0, rows-sum .1, rows-sum .2) (record { atMost = omega ar
 
 pub larger-met : Bounds (rowA allThree 2 1) (rowA allThree 0 1) (rowA allThree 2 2)
 larger-met = rw (rows-larger .0, rows-larger .1, rows-larger .2) (record { atMost = omega arith; atLeast = omega arith })
+
+-- intermediate: the theorem applied to these numbers
+
+reads-A : readFile fileA ≡ opened systemA
+unfolding columnsOf ruleOf platformFrom typeFrom dataFrom ruledHead headOf bodyOf ruledField fieldOf endOf fieldsFrom readFile
+reads-A = refl
+
+one-or-three : (e : ℕ) → among oneAndThree e ≡ true → EngineOf systemA e
+unfolding columnsOf ruleOf platformFrom typeFrom dataFrom ruledHead headOf bodyOf ruledField fieldOf endOf fieldsFrom readFile among
+one-or-three e h =
+    ⊎-elim
+    (λ q. let is = eqb-true 1 e q in (omega arith, omega arith))
+    (λ r. ⊎-elim (λ q. let is = eqb-true 3 e q in (omega arith, omega arith)) (λ q. absurd (false≢true q)) (or-cases (eqb 3 e) false r))
+    (or-cases (eqb 1 e) (eqb 3 e || false) h)
+
+served-A : Serving systemA oneAndThree
+served-A = record { once = unfold distinct among in refl; engines = one-or-three }
+
+adds-at : (a b c d i : ℕ) → getD (loadWith (a + c) (b + d)) i 0 ≡ getD (loadWith a b) i 0 + getD (loadWith c d) i 0
+adds-at a b c d zero = refl
+adds-at a b c d (suc zero) = refl
+adds-at a b c d (suc (suc zero)) = refl
+adds-at a b c d (suc (suc (suc zero))) = refl
+adds-at a b c d (suc (suc (suc (suc zero)))) = refl
+adds-at a b c d (suc (suc (suc (suc (suc zero))))) = refl
+adds-at a b c d (suc (suc (suc (suc (suc (suc i)))))) = refl
+
+inside-at : (i : ℕ) → getD (loadWith 3 2) i 0 ≤ getD (systemA .types) i noType .ceiling
+unfolding columnsOf ruleOf platformFrom typeFrom dataFrom ruledHead headOf bodyOf ruledField fieldOf endOf fieldsFrom readFile
+inside-at zero = le-refl 3
+inside-at (suc zero) = le-refl 2
+inside-at (suc (suc zero)) = zero-le
+inside-at (suc (suc (suc zero))) = zero-le
+inside-at (suc (suc (suc (suc zero)))) = zero-le
+inside-at (suc (suc (suc (suc (suc zero))))) = zero-le
+inside-at (suc (suc (suc (suc (suc (suc i)))))) = zero-le
+
+adds-A : AddsWithin systemA (loadWith 2 0) (loadWith 1 2) (loadWith 3 2)
+adds-A = record {
+  six = (refl, refl);
+  sums = λ t low. adds-at 2 0 1 2 (t - 1);
+  inside = record { six = refl; ceilings = λ t low. inside-at (t - 1) };
+}
+
+-- main: two engines are in service and one each is needed, so that the sum is just the engines in service: the theorem says so much there
+pub sum-by : Bounds (rowA oneAndThree 2 0) (rowA oneAndThree 1 2) (rowA oneAndThree 3 2)
+sum-by = two-releases fileA systemA reads-A oneAndThree served-A .rows (loadWith 2 0) (loadWith 1 2) (loadWith 3 2) adds-A (rw (rows-sum .0, rows-sum .1) (omega arith))
 
 -- four instances of system B: own copies need four engines; shared code needs one without data, two with a d of 1, and four with a d of 3, as many as own copies
 rules-shown : ((rowB 0 0 ≡ 4) × (rowB 1 0 ≡ 1)) × ((rowB 0 1 ≡ 4) × (rowB 1 1 ≡ 2)) × ((rowB 0 3 ≡ 4) × (rowB 1 3 ≡ 4))

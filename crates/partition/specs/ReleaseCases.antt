@@ -6,13 +6,14 @@ use Rattle.system.specs.Layout.{readFile, readSystem}
 use Rattle.partition.specs.ForSystem.{rowFor}
 
 -- document 01's system A: m 3, rule 0, U 10, S 8; u 4, s 3, n 3; u 3, s 2, n 2
-abbrev pub systemA : System
-systemA =
-    readSystem (readFile (
+abbrev pub fileA : List ℕ
+fileA =
     1 ∷ 0 ∷ 10 ∷ 3 ∷ 0 ∷ 0 ∷ 0 ∷ 0 ∷ 10 ∷ 0 ∷ 0 ∷ 0 ∷ 8
     ∷ 2 ∷ 0 ∷ 10 ∷ 0 ∷ 0 ∷ 0 ∷ 4 ∷ 0 ∷ 0 ∷ 0 ∷ 3 ∷ 0 ∷ 3
     ∷ 2 ∷ 0 ∷ 10 ∷ 0 ∷ 0 ∷ 0 ∷ 3 ∷ 0 ∷ 0 ∷ 0 ∷ 2 ∷ 0 ∷ 2 ∷ []
-    ))
+
+abbrev pub systemA : System
+systemA = readSystem (readFile fileA)
 
 -- its system B, m 4, with the rule and d: U 10, S 8; u 2, s 5, n 4
 abbrev pub systemB : ℕ → ℕ → System

@@ -23,6 +23,10 @@ pub record Bounds (first second both : ℕ) : Type 0 where
   pub atMost : both ≤ first + second
   pub atLeast : larger first second ≤ both
 
+-- "their fewest engines together are at most the engines in service", or on a card without marks its engines
+abbrev pub TogetherAtMost : ℕ → ℕ → ℕ → Type 0
+TogetherAtMost first second engines = first + second ≤ engines
+
 -- "rule 1 never needs more engines than rule 0"
 abbrev pub NoMore : ℕ → ℕ → Type 0
 NoMore shared own = shared ≤ own
@@ -72,8 +76,8 @@ pub record RowIsFewest (y : System) (es : List ℕ) : Type 0 where
 
 -- "where two loads add up within the ceilings and their fewest engines together are at most the engines in service"
 pub record TwoReleases (y : System) (es : List ℕ) : Type 0 where
-  pub rows : (a b both : List ℕ) → AddsWithin y a b both → rowFor y es a + rowFor y es b ≤ length es → Bounds (rowFor y es a) (rowFor y es b) (rowFor y es both)
-  pub plainly : (a b both : List ℕ) (first second : ℕ) → AddsWithin y a b both → Fewest y (On es) (instancesIn a) first → Fewest y (On es) (instancesIn b) second → first + second ≤ length es
+  pub rows : (a b both : List ℕ) → AddsWithin y a b both → TogetherAtMost (rowFor y es a) (rowFor y es b) (length es) → Bounds (rowFor y es a) (rowFor y es b) (rowFor y es both)
+  pub plainly : (a b both : List ℕ) (first second : ℕ) → AddsWithin y a b both → Fewest y (On es) (instancesIn a) first → Fewest y (On es) (instancesIn b) second → TogetherAtMost first second (length es)
       → (together : ℕ) × Fewest y (On es) (instancesIn both) together × Bounds first second together
 
 -- two systems that differ in their n alone
@@ -97,7 +101,7 @@ pub record BothReleases (first second both : System) : Type 0 where
 -- so the numbers of two sheets: all n(t) instances of each, on all the engines of the card
 abbrev pub SheetsAdd : System → System → System → Type 0
 SheetsAdd first second both =
-    (a b : ℕ) → Fewest first (EngineOf first) (ceilingNo first) a → Fewest second (EngineOf second) (ceilingNo second) b → a + b ≤ both .engines
+    (a b : ℕ) → Fewest first (EngineOf first) (ceilingNo first) a → Fewest second (EngineOf second) (ceilingNo second) b → TogetherAtMost a b (both .engines)
     → (c : ℕ) × Fewest both (EngineOf both) (ceilingNo both) c × Bounds a b c
 
 -- The two rules

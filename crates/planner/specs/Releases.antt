@@ -1,6 +1,6 @@
 -- Request 2026-09 for purchasing: the number that a plan answers, of two releases and of both, and of the same file under either rule.
 -- It is said of whatever was answered and keeps demand 2, so of both plan calls, with whatever table and list long enough each was lent.
-use Prim.Native.Nat.{ℕ, _+_, _≤_}
+use Prim.Native.Nat.{ℕ, _≤_}
 use mathlib.Core.List.{List, [], _∷_}
 use mathlib.Core.Path.{_≡_}
 use Rattle.system.specs.declared.System.{System}
@@ -8,7 +8,7 @@ use Rattle.system.specs.Layout.{readFile, opened}
 use Rattle.system.specs.Outcome.{Outcome, accepted}
 use Rattle.loads.specs.declared.EngineLoad.{EngineLoad}
 use Rattle.partition.specs.Plain.{LongEnough}
-use Rattle.partition.specs.Releases.{Bounds, NoMore, BothReleases, SameButRule}
+use Rattle.partition.specs.Releases.{Bounds, TogetherAtMost, NoMore, BothReleases, SameButRule}
 use Rattle.planner.specs.Demands.{Demand2}
 
 -- `outcome` is what a plan of the file answered, table and list being long enough
@@ -24,7 +24,7 @@ pub record Asked (file : List ℕ) (y : System) (outcome : Outcome) : Type 0 whe
 -- two files that differ in their n alone and a third with the sums: where the plans of the two use a and b engines, and a + b is at most m, the third has a plan, within the bounds
 abbrev pub PlansAdd : (first second both : System) (one two three : Outcome) → Type 0
 PlansAdd first second both one two three =
-    (a b : ℕ) → BothReleases first second both → one ≡ accepted (a ∷ []) → two ≡ accepted (b ∷ []) → a + b ≤ both .engines
+    (a b : ℕ) → BothReleases first second both → one ≡ accepted (a ∷ []) → two ≡ accepted (b ∷ []) → TogetherAtMost a b (both .engines)
     → (c : ℕ) × (three ≡ accepted (c ∷ [])) × Bounds a b c
 
 -- two files that differ in the rule byte alone: where there is a plan under rule 0, there is one under rule 1, on no more engines

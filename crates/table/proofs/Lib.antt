@@ -17,3 +17,4 @@ pub mod Bound
 pub mod Reading
 pub mod Meaning
 pub mod RecoveredBy
+pub mod Releases

@@ -121,7 +121,7 @@ module _ (y : System) (limits : Limits y) (rows : ℕ) (after : List ℕ) (shown
   abbrev used : ℕ
   used = lowestRow (fitsEngine y) (ceilingsOf y) rows start
 
-  start-no : start ≡ columnNo y (λ (t : ℕ). getD x (t - 1) 0)
+  pub start-no : start ≡ columnNo y (λ (t : ℕ). getD x (t - 1) 0)
   unfolding strideAfter
   start-no =
       sym (six-column (ceilingsOf y) x (length-ceilings y limits) six)

@@ -4,3 +4,4 @@ pub mod Table
 pub mod Search
 pub mod Recovery
 pub mod Meaning
+pub mod Releases

@@ -5,7 +5,6 @@ use crate::live::Live;
 use crate::live::Step;
 use crate::live::live_of;
 use crate::live::played;
-use crate::scripts::byte_of;
 use crate::scripts::kind_of;
 use crate::shown::shown;
 use brute::ledger::Call;
@@ -18,6 +17,7 @@ use trial::say;
 use trial::spread;
 use trial::systems;
 use trial::tables;
+use trial::words::byte_of;
 
 // How many calls of each kind were accepted, at 0 to 5, how many refused with each number, how many showed each case of `shown`, and how
 // many were answered wrongly; with the seed that the next one is drawn from.

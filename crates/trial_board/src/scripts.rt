@@ -8,14 +8,7 @@ use brute::ledger::Call;
 use std::num::wrapping_add_usize;
 use system::ENGINE_LIMIT;
 use trial::say;
-
-// A byte of a text, 0 past its end.
-pub fn byte_of(script: &[u8], i: usize) -> u8 {
-    if i < script.len() {
-        return script[i];
-    }
-    0
-}
+use trial::words::byte_of;
 
 fn figure(b: u8) -> usize {
     if b == b'x' {

@@ -17,6 +17,7 @@ use std::num::wrapping_add_usize;
 use system::ENGINE_LIMIT;
 use system::TYPE_LIMIT;
 use trial::say;
+use trial::words::byte_of;
 
 // The largest number of a type that a file may have, admitted one after the other: what the last of them answers.
 fn admit_all(b: Board, t: usize, table: &mut [u16]) -> Turn {
@@ -50,13 +51,6 @@ fn called(b: Board, kind: u8, t: usize, e: usize, table: &mut [u16]) -> Turn {
         return withdraw(b, e);
     }
     restore(b, e)
-}
-
-fn byte_of(script: &[u8], i: usize) -> u8 {
-    if i < script.len() {
-        return script[i];
-    }
-    0
 }
 
 // The number that a byte stands for: `0` is 0, and so on to `@`, which is 16, and `A`, 17; `z` is the largest there is.

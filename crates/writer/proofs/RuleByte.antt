@@ -1,5 +1,5 @@
--- The rule is the fifth byte of a file that opens, and with another rule there the file opens as the same system under that rule.
-use Prim.Native.Nat.{ℕ, zero, suc}
+-- The rule is the fifth byte of a file that opens, and with the other rule there the file opens as the same system under that rule.
+use Prim.Native.Nat.{ℕ, zero, suc, _≤_}
 use mathlib.Core.List.{List}
 use mathlib.Core.Bool.{Bool}
 use mathlib.Core.Path.{_≡_, refl, ap, _∙_}
@@ -12,14 +12,14 @@ use Rattle.writer.specs.Meaning.{IsBytes, fileWith, typesOut}
 use Rattle.writer.specs.RuleByte.{RuleByte}
 use Rattle.writer.proofs.Exactly.{limits-reads, reads-exactly}
 
--- the system under shared code
-abbrev shared : System → System
-shared y = record { engines = y .engines; rule = 1; timecap = y .timecap; memorycap = y .memorycap; typecount = y .typecount; types = y .types }
+-- the system under another rule
+abbrev under : ℕ → System → System
+under rule y = record { engines = y .engines; rule = rule; timecap = y .timecap; memorycap = y .memorycap; typecount = y .typecount; types = y .types }
 
-shared-limits : (y : System) → LimitsOut y → LimitsOut (shared y)
-shared-limits y l = record {
+under-limits : (rule : ℕ) (y : System) → rule ≤ 1 → LimitsOut y → LimitsOut (under rule y)
+under-limits rule y small l = record {
   engines = l .engines;
-  rule = omega arith;
+  rule = small;
   capacities = l .capacities;
   known = l .known;
   six = l .six;
@@ -30,22 +30,31 @@ shared-limits y l = record {
 }
 
 -- no byte but the fifth says the rule
-module _ (told : ℕ → Bool) (y : System) where
-  types-shared : (n : ℕ) → typesOut told (shared y) n ≡ typesOut told y n
+module _ (rule : ℕ) (told : ℕ → Bool) (y : System) where
+  types-under : (n : ℕ) → typesOut told (under rule y) n ≡ typesOut told y n
   unfolding typesOut
-  types-shared zero = refl
-  types-shared (suc n) = rw (types-shared n)
+  types-under zero = refl
+  types-under (suc n) = rw (types-under n)
 
-  file-shared : set (fileWith told y) 4 1 ≡ fileWith told (shared y)
-  file-shared = rw (types-shared (y .typecount))
+  file-under : set (fileWith told y) 4 rule ≡ fileWith told (under rule y)
+  file-under = rw (types-under (y .typecount))
+
+  -- so the file with that byte reads as the system under that rule
+  byte-read : rule ≤ 1 → LimitsOut y → readFile (set (fileWith told y) 4 rule) ≡ opened (under rule y)
+  byte-read small l = ap readFile file-under ∙ limits-reads told (under rule y) (under-limits rule y small l)
 
 pub rule-byte : (file : List ℕ) (y : System) → IsBytes file → readFile file ≡ opened y → RuleByte file y
 rule-byte file y bytes reads = record {
   fifth = ap (λ (l : List ℕ). getD l 4 0) (is .0 .1);
   changed = λ own. (
-    shared y,
-    ap readFile (ap (λ (l : List ℕ). set l 4 1) (is .0 .1) ∙ file-shared (is .0 .0) y) ∙ limits-reads (is .0 .0) (shared y) (shared-limits y (is .1)),
+    under 1 y,
+    ap (λ (l : List ℕ). readFile (set l 4 1)) (is .0 .1) ∙ byte-read 1 (is .0 .0) y (omega arith) (is .1),
     record { ownCopies = own; sharedCode = refl; engines = refl; timecap = refl; memorycap = refl; typecount = refl; types = refl },
+  );
+  back = λ common. (
+    under 0 y,
+    ap (λ (l : List ℕ). readFile (set l 4 0)) (is .0 .1) ∙ byte-read 0 (is .0 .0) y (omega arith) (is .1),
+    record { ownCopies = refl; sharedCode = common; engines = refl; timecap = refl; memorycap = refl; typecount = refl; types = refl },
   );
 }
   where

@@ -32,7 +32,7 @@ returns c =
     let least = c .before .before .before .least in
     let end : least .result ≡ min (start .args .read) (length front) = least .ensures ∙ ap (min (start .args .read)) (sym l) in
     let read : take (least .result) front ≡ take (start .args .read) front = ap (λ (n : ℕ). take n front) end ∙ take-min (start .args .read) front in
-    rw read at (c .check-joined .ensures)
+    record { size = l; joins = rw read at (c .check-joined .ensures) }
 
 pub check-read-spec : {M : Type 1} → statement M
 check-read-spec =

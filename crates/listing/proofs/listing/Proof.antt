@@ -1,4 +1,5 @@
 -- `listing`: the listing of the plan is that of the file, by what a plan promises.
+use mathlib.Core.Path.{sym, _∙_}
 use Rattle.listing.proofs.Laws.{listing-planned}
 use Rattle.listing.proofs.Demands.{listing-demand2, listing-refuses}
 use borrow.Author.Needs.{needs}
@@ -27,6 +28,7 @@ returns c =
       refuses = rw text at (listing-refuses (args .file .now) (args .table .now) (planned .plan-of .result) (planned .plan-of .last .1 .0) promises (wrote .given));
       demand2 = rw text at (listing-demand2 (args .file .now) (args .table .now) (planned .plan-of .result) (planned .plan-of .last .1 .0) promises (wrote .given));
       samePlan = λ p after promised. listing-planned promised;
+      sameTable = λ p after promised. promises .leavesTable ∙ sym (promised .leavesTable);
     }
 
 pub listing-spec : {M : Type 1} → statement M

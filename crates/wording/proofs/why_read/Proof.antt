@@ -34,6 +34,7 @@ returns c =
     let end : least .result ≡ min (start .args .read) (length front) = least .ensures ∙ ap (min (start .args .read)) (sym l) in
     let read : take (least .result) front ≡ take (start .args .read) front = ap (λ (n : ℕ). take n front) end ∙ take-min (start .args .read) front in
     record {
+      size = l;
       within = c .why-of .ensures .written .within;
       ofFile = λ file same. prefix-promised (read ∙ sym same ∙ ap (λ (n : ℕ). take n file) l) (c .why-of .ensures);
     }
