@@ -1,13 +1,13 @@
 -- What each call promises besides the equation with its definition: demand 1, the order of the refusals, and its meaning for a true board. All hold of the definition,
 -- so of what the call gave.
 use Prim.Native.Nat.{ℕ, _≤_}
-use mathlib.Core.Path.{_≡_, sym, ap, subst, _∙_}
+use mathlib.Core.Path.{_≡_, refl, sym, ap, subst, _∙_}
 use mathlib.Core.List.{List, []}
 use native.Mathlib.Omega.{arith}
 use Rattle.system.specs.declared.System.{System}
 use Rattle.system.specs.Values.{blank}
 use Rattle.system.specs.Layout.{readFile, readOutcome, opened}
-use Rattle.system.specs.Outcome.{Outcome}
+use Rattle.system.specs.Outcome.{Outcome, outcomeOf}
 use Rattle.system.proofs.Laws.{read-keeps-limits}
 use Rattle.board.specs.declared.Board.{Board}
 use Rattle.board.specs.declared.Turn.{Turn}
@@ -20,6 +20,10 @@ use Rattle.board.proofs.TrueMeans.{fresh-is, fresh-true}
 use Rattle.board.proofs.Means.{admit-means, seat-means, retire-means, repack-means, withdraw-means, restore-means}
 use Rattle.board.proofs.Order.{admit-in-order, seat-in-order, retire-in-order, repack-in-order, withdraw-in-order, restore-in-order}
 use Rattle.board.proofs.Exits.{of-given}
+
+-- what a call gave is its answer, its board and the table after it, and nothing else: the promises of all six calls are read through this
+pub gave-is : (r : Turn) (after : List ℕ) → (gave r after .outcome ≡ outcomeOf (r .answer)) × (gave r after .board ≡ r .board) × (gave r after .table ≡ after)
+gave-is r after = (refl, refl, refl)
 
 -- opening
 

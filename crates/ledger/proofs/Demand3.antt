@@ -1,18 +1,18 @@
 -- Demand 3: by induction on the list of calls. The invariant: board and ledger hold the same valid loads and marks on the engines 1 to m.
 -- What the code gave is what the definitions give, since each contract promises that; so the demand holds of it too.
-use Prim.Native.Nat.{ℕ, _+_, _-_, _≤_}
+use Prim.Native.Nat.{ℕ, _+_, _-_, _*_, _≤_}
 use mathlib.Core.Path.{_≡_, refl, sym, ap, subst, _∙_}
 use mathlib.Core.List.{List, [], _∷_, _++_, map, head-eq-of-cons-eq, tail-eq-of-cons-eq, nil≢cons}
 use mathlib.Core.Bool.{Bool, true, false}
 use native.Mathlib.Omega.{arith}
-use lib.ListN.{getD, replicate}
+use lib.ListN.{length, getD, replicate}
 use Rattle.system.specs.declared.System.{System}
 use Rattle.system.specs.Limits.{keepsLimits, typeLimit}
 use Rattle.system.specs.Layout.{readFile, opened}
 use Rattle.system.proofs.Laws.{Limits, limits-of, read-keeps-limits}
 use Rattle.loads.specs.Load.{emptyLoad}
 use Rattle.loads.proofs.Order.{cons-path}
-use Rattle.partition.specs.Plain.{LongEnough, EngineOf, Stands}
+use Rattle.partition.specs.Plain.{columnsOut, LongEnough, EngineOf, Stands}
 use Rattle.partition.proofs.Lists.{getD-padded}
 use Rattle.partition.proofs.Standing.{Valid, total, total-empty, valid-empty}
 use Rattle.board.specs.declared.Board.{Board}
@@ -22,7 +22,7 @@ use Rattle.board.specs.Calls.{Result, gave, Opens, Does}
 use Rattle.board.specs.Words.{countAt, standsNo, markNo, EngineIn, IsTrue, IsFresh}
 use Rattle.board.proofs.Truth.{boardOn, Served, marked-on}
 use Rattle.board.proofs.TrueMeans.{count-out, stands-on, true-on, parted-on, parted-whole, fresh-on, served-clear, fresh-is}
-use Rattle.ledger.specs.Ledger.{Ledger, ledgerWith, countsAt, isMarked, freshLedger, ledgerAfter, ledgerAnswers}
+use Rattle.ledger.specs.Ledger.{Ledger, retire, withdraw, restore, ledgerWith, countsAt, isMarked, freshLedger, ledgerAfter, ledgerAnswers}
 use Rattle.ledger.specs.Demand3.{Request, Made, boardAfter, requestsOf, callsOf, answersOf, addsType, retiresType, acceptedOf, lendsTable, LongTables, CallKept, Demand3, answerOn, played, Ran, madeBy, Promised, none, next}
 use Rattle.ledger.proofs.Step.{Step, step-of, kept-of}
 
@@ -181,3 +181,10 @@ pub demand3-runs : (file : List ℕ) (y : System) (start : Turn) (rs : List Ran)
 demand3-runs file y start rs opens starts promised long =
     subst (Demand3 y (start .board)) (sym (promised-played (start .board) rs promised))
     (subst (λ (a : Board). Demand3 y a (played a (askedBy rs))) (sym (starts .board)) (demand3 file y (askedBy rs) opens long))
+
+-- what is supposed of the tables, in numbers: an admit, a seat and a repack are lent (m+1) × columns entries or more, whatever they hold; nothing is asked of the other calls
+pub long-tables : (y : System) (rs : List Request) → ((before after : List Request) (r : Request) → rs ≡ before ++ r ∷ after → lendsTable (r .call) ≡ true → (y .engines + 1) * columnsOut y ≤ length (r .table)) → LongTables y rs
+long-tables y rs h = h
+
+pub lends-none : (t e : ℕ) → (lendsTable (retire t e) ≡ false) × (lendsTable (withdraw e) ≡ false) × (lendsTable (restore e) ≡ false)
+lends-none t e = (refl, refl, refl)

@@ -9,18 +9,19 @@ use borrow.Author.Tests.{eqb-true}
 use lib.ListN.{getD}
 use lib.Dec.{eqb}
 use Rattle.system.specs.Limits.{columnsOf}
-use Rattle.system.specs.Layout.{ruleOf, platformFrom, typeFrom, dataFrom, ruledHead, headOf, bodyOf, ruledField, fieldOf, endOf, fieldsFrom, readFile, opened}
+use Rattle.system.specs.Layout.{ruleOf, platformFrom, typeFrom, dataFrom, mostFrom, ruledHead, headOf, bodyOf, ruledField, fieldOf, endOf, fieldsFrom, readFile, opened}
 use Rattle.loads.specs.Load.{sumOver, apart, fitsEngine, within, less}
 use Rattle.loads.specs.Column.{columnFrom, loadOf}
 use Rattle.partition.specs.Assignment.{among}
-use Rattle.partition.specs.OwnWords.{noType}
+use Rattle.partition.specs.OwnWords.{noType, typeAt}
 use Rattle.partition.specs.Shares.{distinct}
 use Rattle.partition.specs.Cell.{lowest, precedes, cell, lowestRow}
 use Rattle.partition.specs.Plain.{EngineOf}
-use Rattle.partition.specs.Releases.{Bounds, NoMore, Serving, AddsWithin}
-use Rattle.partition.specs.ReleaseCases.{fileA, systemA, loadWith, rowA, rowB, oneAndThree, allThree}
+use Rattle.partition.specs.Releases.{Bounds, NoMore, Serving, AddsWithin, SameButCeilings, BothReleases, SheetsAdd}
+use Rattle.partition.specs.ReleaseCases.{fileA, systemA, loadWith, rowA, rowB, oneAndThree, allThree, fileOfQ, fileQ, systemQ, halfQ, rowQ}
 use Rattle.partition.proofs.Lists.{or-cases}
 use Rattle.partition.proofs.Releases.{two-releases}
+use Rattle.partition.proofs.ReleaseSheets.{sheets-add}
 
 -- system A with engine 2 out of service: two of type 1 need one engine, one of type 1 and two of type 2 need one; both need two, the sum
 rows-sum : (rowA oneAndThree 2 0 ≡ 1) × (rowA oneAndThree 1 2 ≡ 1) × (rowA oneAndThree 3 2 ≡ 2)
@@ -95,3 +96,117 @@ pub rules-met : NoMore (rowB 1 0) (rowB 0 0) × NoMore (rowB 1 1) (rowB 0 1) × 
 rules-met =
     let r = rules-shown in
     (rw (r .0 .0, r .0 .1) (omega arith), rw (r .1 .0, r .1 .1) (omega arith), rw (r .2 .0, r .2 .1) (omega arith))
+
+-- the same under rule 1, of a type with d and with q 2: two of it need one engine, and four just the two in service
+rows-Q : (rowQ 2 ≡ 1) × (rowQ 4 ≡ 2)
+unfolding columnsOf ruleOf platformFrom typeFrom dataFrom mostFrom ruledHead headOf bodyOf ruledField fieldOf endOf fieldsFrom readFile sumOver apart fitsEngine within less columnFrom loadOf lowest precedes cell lowestRow
+rows-Q = (refl, refl)
+
+reads-Q : readFile fileQ ≡ opened systemQ
+unfolding columnsOf ruleOf platformFrom typeFrom dataFrom mostFrom ruledHead headOf bodyOf ruledField fieldOf endOf fieldsFrom readFile
+reads-Q = refl
+
+one-or-three-Q : (e : ℕ) → among oneAndThree e ≡ true → EngineOf systemQ e
+unfolding columnsOf ruleOf platformFrom typeFrom dataFrom mostFrom ruledHead headOf bodyOf ruledField fieldOf endOf fieldsFrom readFile among
+one-or-three-Q e h =
+    ⊎-elim
+    (λ q. let is = eqb-true 1 e q in (omega arith, omega arith))
+    (λ r. ⊎-elim (λ q. let is = eqb-true 3 e q in (omega arith, omega arith)) (λ q. absurd (false≢true q)) (or-cases (eqb 3 e) false r))
+    (or-cases (eqb 1 e) (eqb 3 e || false) h)
+
+served-Q : Serving systemQ oneAndThree
+served-Q = record { once = unfold distinct among in refl; engines = one-or-three-Q }
+
+inside-Q : (i : ℕ) → getD (loadWith 4 0) i 0 ≤ getD (systemQ .types) i noType .ceiling
+unfolding columnsOf ruleOf platformFrom typeFrom dataFrom mostFrom ruledHead headOf bodyOf ruledField fieldOf endOf fieldsFrom readFile
+inside-Q zero = le-refl 4
+inside-Q (suc zero) = zero-le
+inside-Q (suc (suc zero)) = zero-le
+inside-Q (suc (suc (suc zero))) = zero-le
+inside-Q (suc (suc (suc (suc zero)))) = zero-le
+inside-Q (suc (suc (suc (suc (suc zero))))) = zero-le
+inside-Q (suc (suc (suc (suc (suc (suc i)))))) = zero-le
+
+adds-Q : AddsWithin systemQ (loadWith 2 0) (loadWith 2 0) (loadWith 4 0)
+adds-Q = record {
+  six = (refl, refl);
+  sums = λ t low. adds-at 2 0 2 0 (t - 1);
+  inside = record { six = refl; ceilings = λ t low. inside-Q (t - 1) };
+}
+
+pub sum-by-Q : Bounds (rowQ 2) (rowQ 2) (rowQ 4)
+sum-by-Q = two-releases fileQ systemQ reads-Q oneAndThree served-Q .rows (loadWith 2 0) (loadWith 2 0) (loadWith 4 0) adds-Q (rw (rows-Q .0) (omega arith))
+
+-- two files of half the instances each and the one with all of them: what `sheets-add` asks of them is no more than this
+time-Q : (i : ℕ) → typeAt halfQ i .time ≡ typeAt systemQ i .time
+unfolding columnsOf ruleOf platformFrom typeFrom dataFrom mostFrom ruledHead headOf bodyOf ruledField fieldOf endOf fieldsFrom readFile
+time-Q zero = refl
+time-Q (suc zero) = refl
+time-Q (suc (suc zero)) = refl
+time-Q (suc (suc (suc zero))) = refl
+time-Q (suc (suc (suc (suc zero)))) = refl
+time-Q (suc (suc (suc (suc (suc zero))))) = refl
+time-Q (suc (suc (suc (suc (suc (suc i)))))) = refl
+
+memory-Q : (i : ℕ) → typeAt halfQ i .memory ≡ typeAt systemQ i .memory
+unfolding columnsOf ruleOf platformFrom typeFrom dataFrom mostFrom ruledHead headOf bodyOf ruledField fieldOf endOf fieldsFrom readFile
+memory-Q zero = refl
+memory-Q (suc zero) = refl
+memory-Q (suc (suc zero)) = refl
+memory-Q (suc (suc (suc zero))) = refl
+memory-Q (suc (suc (suc (suc zero)))) = refl
+memory-Q (suc (suc (suc (suc (suc zero))))) = refl
+memory-Q (suc (suc (suc (suc (suc (suc i)))))) = refl
+
+data-Q : (i : ℕ) → typeAt halfQ i .data ≡ typeAt systemQ i .data
+unfolding columnsOf ruleOf platformFrom typeFrom dataFrom mostFrom ruledHead headOf bodyOf ruledField fieldOf endOf fieldsFrom readFile
+data-Q zero = refl
+data-Q (suc zero) = refl
+data-Q (suc (suc zero)) = refl
+data-Q (suc (suc (suc zero))) = refl
+data-Q (suc (suc (suc (suc zero)))) = refl
+data-Q (suc (suc (suc (suc (suc zero))))) = refl
+data-Q (suc (suc (suc (suc (suc (suc i)))))) = refl
+
+most-Q : (i : ℕ) → typeAt halfQ i .most ≡ typeAt systemQ i .most
+unfolding columnsOf ruleOf platformFrom typeFrom dataFrom mostFrom ruledHead headOf bodyOf ruledField fieldOf endOf fieldsFrom readFile
+most-Q zero = refl
+most-Q (suc zero) = refl
+most-Q (suc (suc zero)) = refl
+most-Q (suc (suc (suc zero))) = refl
+most-Q (suc (suc (suc (suc zero)))) = refl
+most-Q (suc (suc (suc (suc (suc zero))))) = refl
+most-Q (suc (suc (suc (suc (suc (suc i)))))) = refl
+
+sums-Q : (i : ℕ) → typeAt systemQ i .ceiling ≡ typeAt halfQ i .ceiling + typeAt halfQ i .ceiling
+unfolding columnsOf ruleOf platformFrom typeFrom dataFrom mostFrom ruledHead headOf bodyOf ruledField fieldOf endOf fieldsFrom readFile
+sums-Q zero = refl
+sums-Q (suc zero) = refl
+sums-Q (suc (suc zero)) = refl
+sums-Q (suc (suc (suc zero))) = refl
+sums-Q (suc (suc (suc (suc zero)))) = refl
+sums-Q (suc (suc (suc (suc (suc zero))))) = refl
+sums-Q (suc (suc (suc (suc (suc (suc i)))))) = refl
+
+alike-Q : SameButCeilings systemQ halfQ
+unfolding columnsOf ruleOf platformFrom typeFrom dataFrom mostFrom ruledHead headOf bodyOf ruledField fieldOf endOf fieldsFrom readFile
+alike-Q = record {
+  engines = refl;
+  rule = refl;
+  timecap = refl;
+  memorycap = refl;
+  typecount = refl;
+  times = λ t low. time-Q (t - 1);
+  codes = λ t low. memory-Q (t - 1);
+  datas = λ t low. data-Q (t - 1);
+  mosts = λ t low. most-Q (t - 1);
+}
+
+reads-half : readFile (fileOfQ 2) ≡ opened halfQ
+unfolding columnsOf ruleOf platformFrom typeFrom dataFrom mostFrom ruledHead headOf bodyOf ruledField fieldOf endOf fieldsFrom readFile
+reads-half = refl
+
+pub sheets-by-Q : SheetsAdd halfQ halfQ systemQ
+sheets-by-Q =
+    sheets-add (fileOfQ 2) (fileOfQ 2) fileQ halfQ halfQ systemQ reads-half reads-half reads-Q
+    (record { alikeFirst = alike-Q; alikeSecond = alike-Q; sums = λ t low. sums-Q (t - 1) })

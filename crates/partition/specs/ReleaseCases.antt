@@ -42,3 +42,25 @@ allThree = 1 ∷ 2 ∷ 3 ∷ []
 -- the fewest engines of all four instances of system B
 abbrev pub rowB : ℕ → ℕ → ℕ
 rowB rule d = rowFor (systemB rule d) (1 ∷ 2 ∷ 3 ∷ 4 ∷ []) (loadWith 4 0)
+
+-- a card of rule 1 with a type that has d and q: m 3, U 10, S 8; u 2, s 3, d 1, q 2, with n, which is 4
+abbrev pub fileOfQ : ℕ → List ℕ
+fileOfQ n =
+    1 ∷ 0 ∷ 10 ∷ 3 ∷ 1 ∷ 0 ∷ 0 ∷ 0 ∷ 10 ∷ 0 ∷ 0 ∷ 0 ∷ 8
+    ∷ 2 ∷ 0 ∷ 10 ∷ 0 ∷ 0 ∷ 0 ∷ 2 ∷ 0 ∷ 0 ∷ 0 ∷ 3 ∷ 0 ∷ n
+    ∷ 3 ∷ 0 ∷ 4 ∷ 0 ∷ 0 ∷ 0 ∷ 1
+    ∷ 4 ∷ 0 ∷ 2 ∷ 0 ∷ 2 ∷ []
+
+abbrev pub fileQ : List ℕ
+fileQ = fileOfQ 4
+
+abbrev pub systemQ : System
+systemQ = readSystem (readFile fileQ)
+
+-- one of two releases that are half of it each
+abbrev pub halfQ : System
+halfQ = readSystem (readFile (fileOfQ 2))
+
+-- the fewest engines of x instances there, with engine 2 out of service
+abbrev pub rowQ : ℕ → ℕ
+rowQ x = rowFor systemQ oneAndThree (loadWith x 0)

@@ -4,5 +4,6 @@ pub mod Laws
 pub mod Fields
 pub mod Prefix
 pub mod Order
+pub mod Later
 mod Steps
 mod Goes

@@ -159,7 +159,7 @@ module _ (m r u1 u2 u3 u4 s1 s2 s3 s4 : ℕ) (rest : List ℕ) where
   unfolding bodyOf platformFrom
   first-body = rw (le-leb 13 (length platformFile) (omega arith))
 
-  first-field : fieldOf platformFile 0 blank ≡ unlessFault (platformFault m r sizeU sizeS) (withPlatform m r sizeU sizeS blank)
+  pub first-field : fieldOf platformFile 0 blank ≡ unlessFault (platformFault m r sizeU sizeS) (withPlatform m r sizeU sizeS blank)
   unfolding fieldOf ruledField
   first-field = ap (λ (h : Head). ruledField h (bodyPart platformFile) blank) first-head ∙ first-body
 
@@ -193,7 +193,7 @@ pub first-two-bytes : (a b : ℕ) → readFile (a ∷ b ∷ []) ≡ unread 1
 first-two-bytes a b = first-stops a (b ∷ []) 1 (unfold fieldOf ruledField headOf in refl)
 
 module _ (h l : ℕ) (rest : List ℕ) where
-  starts : (t : ℕ) → leb headSize (length (t ∷ h ∷ l ∷ rest)) ≡ true
+  pub starts : (t : ℕ) → leb headSize (length (t ∷ h ∷ l ∷ rest)) ≡ true
   starts t = le-leb headSize (length (t ∷ h ∷ l ∷ rest)) (omega arith)
 
   no-tag-field : (t : ℕ) → (t ≡ 1 → ⊥) → (t ≡ 2 → ⊥) → (t ≡ 3 → ⊥) → (t ≡ 4 → ⊥) → fieldOf (t ∷ h ∷ l ∷ rest) 0 blank ≡ unread 2

@@ -5,4 +5,5 @@ pub mod Outcome
 pub mod Limits
 pub mod Rules
 pub mod Layout
+pub mod Fields
 pub mod Inner

@@ -75,13 +75,13 @@ pub fn bytes_in(text: &[u8], start: usize, end: usize) -> Bytes {
     Bytes { bytes, size }
 }
 
-// The number of a word of up to six digits.
+// The number of a word of up to twenty digits, below 2^64. The remainder changes no such number: it bounds what is multiplied.
 pub fn number_in(text: &[u8], start: usize, end: usize) -> usize {
     let mut n: usize = 0;
-    for i in 0..6usize {
+    for i in 0..20usize {
         let at = wrapping_add_usize(start, i);
         if at < end {
-            n = (n % 100000) * 10 + digit(byte_of(text, at));
+            n = wrapping_add_usize((n % 1844674407370955162) * 10, digit(byte_of(text, at)));
         }
     }
     n

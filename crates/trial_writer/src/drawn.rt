@@ -1,10 +1,10 @@
 // Systems drawn from the numbers at both ends of every limit, in every field, those past the last type too; and for each a buffer that is a byte too
 // short, just long enough, a byte longer, or much longer.
-use crate::made;
 use std::num::wrapping_add_usize;
 use std::num::wrapping_sub_usize;
 use system::System;
 use system::blank_system;
+use trial::changes::with_number;
 use trial::files;
 use trial::spread::draw;
 
@@ -53,7 +53,7 @@ fn with_drawn(d: Drawn, what: u8, t: usize, within: [usize; 8], past: [usize; 4]
     let y = d.system;
     Drawn {
         seed: drawn.seed,
-        system: made::with_number(y, what, t, n),
+        system: with_number(y, what, t, n),
         room: d.room,
     }
 }

@@ -5,6 +5,7 @@ use system::Answer;
 use system::Refusal;
 use system::System;
 use system::read_system;
+use trial::changes::with_number;
 use trial::files;
 use trial::files::File;
 use trial::say;
@@ -49,17 +50,13 @@ pub fn say_call(y: System, room: usize) {
     say::say(b"\n");
 }
 
-// A line for a system: a name and a number, then what was answered.
-pub fn say_case(name: &[u8], n: usize, y: System) {
-    say::say(name);
-    say::say_also(n);
-    say::say(b":");
-    say_call(y, 256);
-}
-
-// The buffer that a refusal asks for: one that is too short for any file for 30, else one that is long enough for all.
-pub fn room_for(number: usize) -> usize {
-    if number == 30 { 12 } else { 256 }
+// The same for five numbers in one place of the type at index t.
+pub fn say_five(y: System, what: u8, t: usize, numbers: [usize; 5]) {
+    for i in 0..5 {
+        let n = numbers[i];
+        say_judged(with_number(y, what, t, n), 256);
+    }
+    say::say(b"\n");
 }
 
 fn say_byte(b: u8) {
@@ -67,7 +64,7 @@ fn say_byte(b: u8) {
 }
 
 // The bytes of a file as they stand in the buffer, up to the answer's number.
-pub fn say_bytes(bytes: [u8; 256], n: usize) {
+fn say_bytes(bytes: [u8; 256], n: usize) {
     for i in 0..256 {
         if i < n {
             say_byte(bytes[i]);
@@ -76,23 +73,36 @@ pub fn say_bytes(bytes: [u8; 256], n: usize) {
     say::say(b"\n");
 }
 
-pub fn say_file(name: &[u8], y: System) {
+pub fn say_whole(f: File) {
+    let bytes = f.bytes;
+    say_bytes(bytes, f.size);
+}
+
+pub fn say_file(y: System) {
     let c = lent::called(y, 256, 33);
     let answer = c.answer;
     let bytes = c.bytes;
-    say::say(name);
     say_answer(answer);
     if let Answer::Number(n) = answer {
         say_bytes(bytes, n);
     }
 }
 
-// A file with a tag 3 of d 0: how long it is, and how long the one is that is written for what was read.
-pub fn say_zero(f: File) {
+// What a file reads as.
+fn system_of(f: File) -> System {
     let bytes = f.bytes;
     let o = read_system(files::first_of(&bytes, f.size));
-    let z = o.system;
+    o.system
+}
+
+// A file with a tag 3 of d 0: how long it is, and how long the one is that is written for what was read.
+pub fn say_zero(f: File) {
     say::say_also(f.size);
     say::say(b" bytes,");
-    say_call(z, 256);
+    say_call(system_of(f), 256);
+}
+
+// The bytes that are written for what such a file reads as.
+pub fn say_again(f: File) {
+    say_file(system_of(f));
 }

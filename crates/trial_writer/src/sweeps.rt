@@ -1,7 +1,6 @@
 // Many calls, each judged, and counted by what it answered.
 use crate::drawn::drawn_edges;
 use crate::lent;
-use crate::made;
 use crate::rounds;
 use std::num::wrapping_add_usize;
 use system::Answer;
@@ -144,85 +143,20 @@ fn drawn() -> Tally {
     r.tally
 }
 
-// A line for some calls; answers how many were wrong, among them and before them.
-fn say_tally(wrong: usize, name: &[u8], t: Tally) -> usize {
+// A line for some calls; answers how many of them were wrong.
+fn say_tally(name: &[u8], t: Tally) -> usize {
     let row = t.answers;
     say::say_row(name, row, 10);
-    wrapping_add_usize(wrong, t.wrong)
+    t.wrong
 }
 
-fn say_lengths(wrong: usize, name: &[u8], y: System) -> usize {
-    say_tally(wrong, name, lengths(y))
+pub fn say_lengths(name: &[u8], y: System) -> usize {
+    say_tally(name, lengths(y))
 }
 
-// The systems of k types, with junk past the last one.
-fn say_written_lengths(wrong: usize, k: usize) -> usize {
-    say::say(b"k");
-    say::say_also(k);
-    let none = say_lengths(wrong, b", no d:", made::junk_past(made::sound(k)));
-    say::say(b"k");
-    say::say_also(k);
-    let some = say_lengths(none, b", some d:", made::junk_past(made::some_data(k)));
-    say::say(b"k");
-    say::say_also(k);
-    say_lengths(some, b", each d:", made::junk_past(made::each_data(k)))
-}
-
-// The same with a q.
-fn say_most_lengths(wrong: usize, k: usize) -> usize {
-    say::say(b"k");
-    say::say_also(k);
-    let one = say_lengths(wrong, b", each q:", made::junk_past(made::each_most(k)));
-    say::say(b"k");
-    say::say_also(k);
-    let some = say_lengths(one, b", some d and q:", made::junk_past(made::some_both(k)));
-    say::say(b"k");
-    say::say_also(k);
-    say_lengths(
-        some,
-        b", each d and q:",
-        made::junk_past(made::each_both(k)),
-    )
-}
-
-// Systems that are written where the buffer is long enough.
-fn say_all_written_lengths(wrong: usize) -> usize {
-    let one = say_written_lengths(wrong, 1);
-    let two = say_written_lengths(one, 2);
-    let three = say_written_lengths(two, 3);
-    let four = say_written_lengths(three, 4);
-    let five = say_written_lengths(four, 5);
-    say_written_lengths(five, 6)
-}
-
-fn say_all_most_lengths(wrong: usize) -> usize {
-    let one = say_most_lengths(wrong, 1);
-    let two = say_most_lengths(one, 2);
-    let three = say_most_lengths(two, 3);
-    let four = say_most_lengths(three, 4);
-    let five = say_most_lengths(four, 5);
-    say_most_lengths(five, 6)
-}
-
-// Systems that are refused, whatever the buffer is.
-fn say_refused_lengths(wrong: usize) -> usize {
-    let y = made::sound(2);
-    let seven = say_lengths(wrong, b"refused 7:", made::with_fault(y, 7));
-    let nine = say_lengths(seven, b"refused 9:", made::with_fault(y, 9));
-    let five = say_lengths(nine, b"refused 5:", made::with_fault(y, 5));
-    let six = say_lengths(five, b"refused 6:", made::with_fault(y, 6));
-    let eight = say_lengths(six, b"refused 8:", made::with_fault(y, 8));
-    let data = say_lengths(eight, b"refused 8 for d:", made::with_data_fault(y));
-    let most = say_lengths(data, b"refused 31:", made::with_fault(y, 31));
-    say_lengths(most, b"refused 10:", made::with_fault(y, 10))
-}
-
-pub fn say_sweeps() {
-    say::say(b"calls: written, refused 7, 9, 5, 6, 8, 31, 10, 30, anything else\n");
-    let written = say_all_written_lengths(0);
-    let limited = say_all_most_lengths(written);
-    let refused = say_refused_lengths(limited);
-    let ends = say_tally(refused, b"ends of the limits:", edges());
-    let all = say_tally(ends, b"drawn:", drawn());
+// The drawn systems, and how many calls were wrong, among them and before them.
+pub fn say_sweeps(wrong: usize) {
+    let ends = wrapping_add_usize(wrong, say_tally(b"ends of the limits:", edges()));
+    let all = wrapping_add_usize(ends, say_tally(b"drawn:", drawn()));
     say::say_count(b"mismatches", all);
 }

@@ -1,7 +1,8 @@
 // Files with a tag 3 that gives a d of 0: the reader takes it as none, so that the file is not that of its system.
-use crate::made;
 use std::num::wrapping_add_usize;
 use system::System;
+use trial::changes::NOT_GIVEN;
+use trial::changes::with_number;
 use trial::files;
 use trial::files::File;
 
@@ -49,8 +50,8 @@ fn with_field(f: File, at: usize) -> File {
 // The place in the file of a system where the field of its type at index t ends, before that of its q: how long the file of the types up to
 // that one is without it.
 fn end_of(y: System, t: usize) -> usize {
-    let first = made::with_number(y, b'k', 0, wrapping_add_usize(t, 1));
-    let f = files::file_of(made::with_number(first, b'q', t, made::NOT_GIVEN));
+    let first = with_number(y, b'k', 0, wrapping_add_usize(t, 1));
+    let f = files::file_of(with_number(first, b'q', t, NOT_GIVEN));
     f.size
 }
 

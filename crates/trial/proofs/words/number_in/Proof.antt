@@ -1,14 +1,14 @@
--- The loop's invariant: `i` is at most 6.
+-- The loop's invariant: `i` is at most 20.
 use Prim.Native.Nat.{_-_, _≤_}
 use borrow.Author.Needs.{needs}
 use Rattle.trial.proofs.words.number_in.Statement.{statement}
 use Rattle.trial.proofs.words.number_in.Tie as tie
 
 abbrev Inv-loop : tie.InvT-loop
-Inv-loop text start end n₀ i₀ n i = i ≤ 6
+Inv-loop text start end n₀ i₀ n i = i ≤ 20
 
 abbrev μ-loop : tie.MeasureT-loop
-μ-loop text start end n₀ i₀ n i = 6 - i
+μ-loop text start end n₀ i₀ n i = 20 - i
 
 loop-holds : tie.Need-loop-holds Inv-loop μ-loop
 loop-holds c = search needs
@@ -16,8 +16,8 @@ loop-holds c = search needs
 wrapping-add-usize-requires : tie.Need-wrapping-add-usize-requires Inv-loop μ-loop
 wrapping-add-usize-requires c κs = search needs
 
-mul-n : tie.Need-mul-n Inv-loop μ-loop
-mul-n c = search needs
+mul-wrapping-add-usize : tie.Need-mul-wrapping-add-usize Inv-loop μ-loop
+mul-wrapping-add-usize c = search needs
 
 byte-of-requires : tie.Need-byte-of-requires Inv-loop μ-loop
 byte-of-requires c κs = search needs
@@ -25,8 +25,8 @@ byte-of-requires c κs = search needs
 digit-requires : tie.Need-digit-requires Inv-loop μ-loop
 digit-requires c κs = search needs
 
-add-n : tie.Need-add-n Inv-loop μ-loop
-add-n c = search needs
+wrapping-add-usize-requires-2 : tie.Need-wrapping-add-usize-requires-2 Inv-loop μ-loop
+wrapping-add-usize-requires-2 c κs = search needs
 
 add-i : tie.Need-add-i Inv-loop μ-loop
 add-i c = search needs
@@ -48,10 +48,10 @@ number-in-spec =
     μ-loop
     loop-holds
     wrapping-add-usize-requires
-    mul-n
+    mul-wrapping-add-usize
     byte-of-requires
     digit-requires
-    add-n
+    wrapping-add-usize-requires-2
     add-i
     loop-less
     loop-again

@@ -1,20 +1,20 @@
 -- The loop's invariant: `t` is at most 6.
 use Prim.Native.Nat.{_-_, _≤_}
 use borrow.Author.Needs.{needs}
-use Rattle.trial_writer.proofs.stacks.say_data.Statement.{statement}
-use Rattle.trial_writer.proofs.stacks.say_data.Tie as tie
+use Rattle.trial_writer.proofs.made.with_junk.Statement.{statement}
+use Rattle.trial_writer.proofs.made.with_junk.Tie as tie
 
 abbrev Inv-loop : tie.InvT-loop
-Inv-loop name y t₀ t = t ≤ 6
+Inv-loop z₀ t₀ z t = t ≤ 6
 
 abbrev μ-loop : tie.MeasureT-loop
-μ-loop name y t₀ t = 6 - t
+μ-loop z₀ t₀ z t = 6 - t
 
 loop-holds : tie.Need-loop-holds Inv-loop μ-loop
 loop-holds c = search needs
 
-say-type-data-requires : tie.Need-say-type-data-requires Inv-loop μ-loop
-say-type-data-requires c κs = search needs
+with-junk-at-requires : tie.Need-with-junk-at-requires Inv-loop μ-loop
+with-junk-at-requires c κs = search needs
 
 add-t : tie.Need-add-t Inv-loop μ-loop
 add-t c = search needs
@@ -28,14 +28,14 @@ loop-again c = search needs
 returns : tie.Need-returns Inv-loop μ-loop
 returns c = search needs
 
-pub say-data-spec : {M : Type 1} → statement M
-say-data-spec =
+pub with-junk-spec : {M : Type 1} → statement M
+with-junk-spec =
     tie.close
     (tie.spec
     Inv-loop
     μ-loop
     loop-holds
-    say-type-data-requires
+    with-junk-at-requires
     add-t
     loop-less
     loop-again
