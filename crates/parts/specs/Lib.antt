@@ -1,0 +1,11 @@
+-- The definitions of crate `parts`, in reading order.
+pub mod Lent
+pub mod Parts
+pub mod Pairs
+pub mod Table
+pub mod Under
+pub mod Scan
+pub mod Chain
+pub mod Meaning
+pub mod Releases
+pub mod Document01

@@ -1,0 +1,45 @@
+// How much of a lent table a system needs.
+ghost use mathlib.Core.Path.{_≡_};
+ghost use mathlib.Core.Bool.{true};
+ghost use Rattle.system.specs.Limits.{columns, keepsLimits};
+ghost use Rattle.system.specs.Layout.{readFile};
+ghost use Rattle.system.specs.Outcome.{checkedOf};
+ghost use Rattle.parts.specs.Table.{roomCheck};
+ghost use Rattle.parts.specs.Meaning.{NeedPromises};
+use system::Answer;
+use system::Check;
+use system::Refusal;
+use system::System;
+
+// The columns of a system within the limits.
+pub(crate) fn columns_of(y: System) -> usize
+    requires { ⌜ keepsLimits y ≡ true ⌝ }
+    ensures { λ r. ⌜ r ≡ columns y ⌝ }
+{
+    let types = y.types;
+    system::columns_within(types)
+}
+
+// Refusal 11: parts of `rows` and of `predecessors` entries, of which one is shorter than the columns.
+pub fn table_check(y: System, rows: usize, predecessors: usize) -> Check
+    requires { ⌜ keepsLimits y ≡ true ⌝ }
+    ensures { λ r. ⌜ checkedOf r ≡ roomCheck y rows predecessors ⌝ }
+{
+    let columns = columns_of(y);
+    if (columns <= rows) & (columns <= predecessors) {
+        return Check::Passes;
+    }
+    Check::Fails(Refusal::Input(11))
+}
+
+// The entries that each part of the table of a system file must have, one for each column: refused 1 to 10 and 31 as the file is read.
+pub fn columns_needed(file: &[u8]) -> Answer
+    ensures { λ r. ⌜ NeedPromises (readFile (now (file .entry))) r ⌝ }
+{
+    let opened = system::read_system(file);
+    let answer = opened.answer;
+    let Answer::Accepted = answer else {
+        return answer;
+    };
+    Answer::Number(columns_of(opened.system))
+}
