@@ -19,13 +19,13 @@ fn step(name: &[u8], file: &[u8], at: usize) {
     say(b"\n");
 }
 
-// Two fields, of 2 bytes and of none, then the start of one.
+// Two fields, of 40 bytes, more than any field of a system file has, and of none, then the start of one.
 pub fn steps() {
-    let file = b"\x01\x00\x02\xAA\xBB\x09\x00\x00\x02\x00\x05\xCC";
+    let file = b"\x01\x00\x28a field whose body has just forty bytes.\x09\x00\x00\x02\x00\x05\xCC";
     step(b"step-at-0", file, 0);
-    step(b"step-at-5", file, 5);
-    step(b"step-at-8", file, 8);
-    step(b"step-at-11", file, 11);
-    step(b"step-at-the-end", file, 12);
+    step(b"step-at-43", file, 43);
+    step(b"step-at-46", file, 46);
+    step(b"step-at-49", file, 49);
+    step(b"step-at-the-end", file, 50);
     step(b"step-past-the-end", file, 18446744073709551615);
 }
