@@ -1,20 +1,21 @@
 -- What is said of a file and a sheet, in plain words: what a check promises over a table that is long enough, told by its line.
-use Prim.Native.Nat.{ℕ, _*_, _≤_}
+use Prim.Native.Nat.{ℕ}
 use mathlib.Core.Path.{_≡_, refl, sym, ap, subst, _∙_}
 use mathlib.Core.List.{List}
 use mathlib.Core.Bool.{Bool, true, false}
 use mathlib.Core.Logic.{_↔_}
 use native.Mathlib.Omega.{arith}
-use lib.ListN.{length, replicate, length-replicate}
+use lib.ListN.{replicate, length-replicate}
 use Rattle.buffer.specs.Written.{Written}
 use Rattle.system.specs.declared.System.{System}
 use Rattle.system.specs.declared.Refusal.the-variants.{Input, State}
 use Rattle.system.specs.Layout.{Reading, readFile, opened, unread}
 use Rattle.system.specs.Outcome.{Source, fromInput, fromState, check, andThen}
 use Rattle.system.proofs.Laws.{read-keeps-limits}
+use Rattle.partition.specs.Lent.{Lent, lent}
 use Rattle.partition.specs.Plain.{LongEnough}
 use Rattle.table.specs.Table.{longEnough}
-use Rattle.table.proofs.Shown.{long-enough-out}
+use Rattle.table.proofs.Room.{long-enough-out}
 use Rattle.sheets.specs.declared.SheetAnswer.{SheetAnswer}
 use Rattle.sheets.specs.declared.SheetAnswer.the-variants.{Right, Refused}
 use Rattle.sheets.specs.Checking.{SheetOutcome, right, wrong, sheetOutcomeOf, laidOut, summedUp, addedUp, recordsCheck, sheetCheck, statedLoads, fewerDo, judgedSheet, checkOutcome, checkTable}
@@ -22,25 +23,29 @@ use Rattle.sheets.specs.Meaning.{CheckPromises as SheetCheckPromises}
 use Rattle.sheets.proofs.Promises.{promises-of}
 use Rattle.listing.specs.Demands.{TellsRefusal}
 use Rattle.listing.proofs.Lines.{number-told}
-use Rattle.listing.proofs.Text.{long-for-all}
+use Rattle.listing.proofs.Text.{LongForAll, long-for-all}
 use Rattle.answers.specs.Checks.{lineOf, readingCheck, checkText, TellsCheck, CheckPromises}
 use Rattle.answers.proofs.Lines.{refused-line, right-line}
 
--- a table that is long enough for every system
-pub spare : List ℕ
-spare = replicate 17408 0
+-- two parts of 4,096 entries are long enough for every system
+pub zeros-long : LongForAll (lent (replicate 4096 0) (replicate 4096 0))
+zeros-long = let l = length-replicate {A = ℕ} 4096 0 in (omega (arith, l), omega (arith, l))
 
-pub spare-long : 17 * 1024 ≤ length spare
+-- such a table
+pub spare : Lent
+spare = lent (replicate 4096 0) (replicate 4096 0)
+
+pub spare-long : LongForAll spare
 unfolding spare
-spare-long = omega (arith, length-replicate {A = ℕ} 17408 0)
+spare-long = zeros-long
 
 -- where 11 passes, the answer does not know the table
-pub check-alone : (x : Reading) (sheet table : List ℕ) → ((y : System) → x ≡ opened y → longEnough y table ≡ true) → checkOutcome x sheet table ≡ readingCheck x sheet
+pub check-alone : (x : Reading) (sheet : List ℕ) (table : Lent) → ((y : System) → x ≡ opened y → longEnough y table ≡ true) → checkOutcome x sheet table ≡ readingCheck x sheet
 unfolding readingCheck sheetCheck
 check-alone (unread n) sheet table h = refl
 check-alone (opened y) sheet table h = rw (h y refl)
 
-pub check-any-table : (file sheet table : List ℕ) → 17 * 1024 ≤ length table → checkOutcome (readFile file) sheet table ≡ readingCheck (readFile file) sheet
+pub check-any-table : (file sheet : List ℕ) (table : Lent) → LongForAll table → checkOutcome (readFile file) sheet table ≡ readingCheck (readFile file) sheet
 check-any-table file sheet table size =
     check-alone (readFile file) sheet table (λ y e. long-enough-out y table (read-keeps-limits file y e) .1 (long-for-all file y table e size))
 
@@ -69,7 +74,7 @@ answer-of (right fewer) = refl
 answer-of (wrong fromInput n) = refl
 answer-of (wrong fromState n) = refl
 
-module _ (file sheet table : List ℕ) (size : 17 * 1024 ≤ length table) (r : SheetAnswer) (after : List ℕ) (p : SheetCheckPromises (readFile file) sheet table r after) where
+module _ (file sheet : List ℕ) (table : Lent) (size : LongForAll table) (r : SheetAnswer) (after : Lent) (p : SheetCheckPromises (readFile file) sheet table r after) where
   long : (y : System) → readFile file ≡ opened y → LongEnough y table
   long y e = long-for-all file y table e size
 
@@ -106,7 +111,7 @@ tells-check file sheet =
     (promises-of file sheet spare (answerOf o) (checkTable (readFile file) sheet spare) (record { answer = is ∙ sym (check-any-table file sheet spare spare-long); left = refl })))
 
 -- and the code's line is the text
-pub check-promised : {file sheet table after old new : List ℕ} {answer : SheetAnswer} {r : ℕ} → 17 * 1024 ≤ length table → SheetCheckPromises (readFile file) sheet table answer after
+pub check-promised : {file sheet old new : List ℕ} {table after : Lent} {answer : SheetAnswer} {r : ℕ} → LongForAll table → SheetCheckPromises (readFile file) sheet table answer after
     → Written (lineOf (sheetOutcomeOf answer)) old new r → CheckPromises file sheet old new r
 check-promised {file = file} {sheet = sheet} {table = table} size p w = record {
   written = rw (ap lineOf (p .answers ∙ check-any-table file sheet table size)) at w;

@@ -1,5 +1,5 @@
 -- What `sheet_of` writes is the sheet of the plan or the line of a refusal, and what a reader finds in it.
-use Prim.Native.Nat.{ℕ, _*_, _≤_}
+use Prim.Native.Nat.{ℕ, _≤_}
 use mathlib.Core.Path.{_≡_, refl, sym, ap, subst, _∙_}
 use mathlib.Core.List.{List, [], _∷_, _++_, append-cancel-right}
 use mathlib.Core.Bool.{Bool, true, false, cond}
@@ -22,11 +22,12 @@ use Rattle.system.specs.Outcome.{accepted, refused, fromInput, fromState, check
 use Rattle.system.proofs.Laws.{limits-of, read-limits, read-keeps-limits}
 use Rattle.system.proofs.Prefix.{read-prefix}
 use Rattle.partition.specs.Assignment.{Assignment}
+use Rattle.partition.specs.Lent.{Lent}
 use Rattle.partition.specs.Plain.{ceilingNo, EngineOf, LongEnough, Impossible, usedTo}
-use Rattle.table.proofs.Shown.{long-enough-out}
+use Rattle.table.proofs.Room.{long-enough-out}
 use Rattle.planner.specs.Demands.{PlanPromises}
 use Rattle.planner.specs.Plan.{Verdict, planned, unplanned, judged, verdictOf, planLoads}
-use Rattle.planner.proofs.Cases.{canPlace, on-fewest, length-loads, Case, tooShort, tooSmall, noPlace, isPlanned, caseOf}
+use Rattle.planner.proofs.Cases.{canPlace, on-fewest, length-loads, not-short, Case, tooShort, tooSmall, noPlace, isPlanned, caseOf}
 use Rattle.sheets.specs.Sheet.{sheetBytes}
 use Rattle.sheets.specs.Writing.{sheetVerdict, planSheet, writeOutcome, writtenTo, writeTable}
 use Rattle.sheets.specs.Meaning.{sheetOut, GoodForAll, SheetWritten, OfPlan, WriteSheetPromises}
@@ -36,13 +37,13 @@ use Rattle.listing.specs.Listing.{refusalLine}
 use Rattle.listing.specs.Demands.{TellsRefusal, numberOf, RefusalPromises}
 use Rattle.listing.specs.Text.{readingVerdict}
 use Rattle.listing.proofs.Lines.{number-told}
-use Rattle.listing.proofs.Text.{long-for-all, verdict-alone}
+use Rattle.listing.proofs.Text.{LongForAll, long-for-all, verdict-alone}
 use Rattle.answers.specs.Checks.{checkText, rightText}
 use Rattle.answers.specs.Sheets.{verdictSheet, sheetText, TellsSheet, TellsPlanned, SheetPromises}
 use Rattle.answers.proofs.Checked.{spare, spare-long, tells-check}
 
 -- over a table that is long enough the verdict does not know the table
-pub sheet-any-table : (file table : List ℕ) → 17 * 1024 ≤ length table → sheetVerdict (readFile file) table ≡ readingVerdict (readFile file)
+pub sheet-any-table : (file : List ℕ) (table : Lent) → LongForAll table → sheetVerdict (readFile file) table ≡ readingVerdict (readFile file)
 sheet-any-table file table size =
     verdict-alone (readFile file) table (λ y e. (long-enough-out y table (read-keeps-limits file y e) .1 (long-for-all file y table e size), read-limits file y e .engines))
 
@@ -88,20 +89,20 @@ module _ (file : List ℕ) (y : System) (opens : readFile file ≡ opened y) whe
   long : LongEnough y spare
   long = long-for-all file y spare opens spare-long
 
-  impossible-by : {v : Verdict} {after : List ℕ} → Case y spare engineLimit v after → TellsRefusal 12 (verdictSheet v) ↔ Impossible y (EngineOf y) (ceilingNo y)
-  impossible-by (tooShort less) = absurd (omega (arith, less, long))
+  impossible-by : {v : Verdict} {after : Lent} → Case y spare engineLimit v after → TellsRefusal 12 (verdictSheet v) ↔ Impossible y (EngineOf y) (ceilingNo y)
+  impossible-by (tooShort less) = absurd (not-short y spare long less)
   impossible-by (tooSmall room small) = absurd (omega (arith, small, limits-of y keeps .engines))
   impossible-by (noPlace room enough none) = (λ r. none, λ h. number-told 12)
   impossible-by (isPlanned room enough can) = (λ r. absurd (sheet-no-line y 12 r), λ none. absurd (none _ (on-fewest y (limits-of y keeps) can .stands .partition)))
 
-  given-by : {v : Verdict} {after : List ℕ} → Case y spare engineLimit v after → sheetVerdict (readFile file) spare ≡ v → (χ : Assignment) → GoodForAll y χ → TellsSheet y (verdictSheet v)
-  given-by (tooShort less) is χ good = absurd (omega (arith, less, long))
+  given-by : {v : Verdict} {after : Lent} → Case y spare engineLimit v after → sheetVerdict (readFile file) spare ≡ v → (χ : Assignment) → GoodForAll y χ → TellsSheet y (verdictSheet v)
+  given-by (tooShort less) is χ good = absurd (not-short y spare long less)
   given-by (tooSmall room small) is χ good = absurd (omega (arith, small, limits-of y keeps .engines))
   given-by (noPlace room enough none) is χ good = absurd (none χ good)
   given-by (isPlanned room enough can) is χ good = sheet-planned file y opens is
 
-  plan-by : {v : Verdict} {after : List ℕ} → Case y spare engineLimit v after → (χ : Assignment) → GoodForAll y χ → OfPlan (opened y) (verdictSheet v)
-  plan-by (tooShort less) χ good = absurd (omega (arith, less, long))
+  plan-by : {v : Verdict} {after : Lent} → Case y spare engineLimit v after → (χ : Assignment) → GoodForAll y χ → OfPlan (opened y) (verdictSheet v)
+  plan-by (tooShort less) χ good = absurd (not-short y spare long less)
   plan-by (tooSmall room small) χ good = absurd (omega (arith, small, limits-of y keeps .engines))
   plan-by (noPlace room enough none) χ good = absurd (none χ good)
   plan-by (isPlanned room enough can) χ good = of-plan y keeps can
@@ -201,7 +202,7 @@ no-accepted (planned y) room o = go (ltb room (length (planSheet (planned y)))) 
 sheet-promised : (file : List ℕ) {old new : List ℕ} {r : ℕ} → Written (sheetText file) old new r → SheetPromises file old new r
 sheet-promised file w = record { written = w; tells = tells-planned file; isRight = own-right file; samePlan = same-plan file }
 
-module _ (file : List ℕ) {table old : List ℕ} {answer : Answer} {after mid : List ℕ} (size : 17 * 1024 ≤ length table) (room : length old ≡ 4096) (p : WriteSheetPromises (readFile file) table old answer after mid) where
+module _ (file : List ℕ) {table : Lent} {old : List ℕ} {answer : Answer} {after : Lent} {mid : List ℕ} (size : LongForAll table) (room : length old ≡ 4096) (p : WriteSheetPromises (readFile file) table old answer after mid) where
   same : sheetVerdict (readFile file) table ≡ readingVerdict (readFile file)
   same = sheet-any-table file table size
 

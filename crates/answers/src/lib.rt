@@ -1,4 +1,4 @@
-// What the programs `sheet` and `sheet_check` write: the sheet of a system file, and what is said of a sheet. Each table is the function's own and long enough for every system.
+// What the programs `sheet` and `sheet_check` write: the sheet of a system file, and what is said of a sheet. Each table is the function's own, two parts of 4,096 entries, long enough for every system.
 // The line of a refusal, with its word, is crate `listing`'s.
 ghost use lib.ListN.{take};
 ghost use Rattle.buffer.specs.Written.{Written};
@@ -12,9 +12,9 @@ use sheets::SheetAnswer;
 use sheets::check_sheet;
 use sheets::write_sheet;
 use system::Answer;
+use system::COLUMN_LIMIT;
 use system::Cursor;
 use system::FILE_BYTES;
-use system::TABLE_LIMIT;
 use system::rest_at;
 use system::two_bytes;
 
@@ -31,8 +31,9 @@ pub const JOINED_BYTES: usize = LENGTH_BYTES + PART_BYTES + PART_BYTES;
 pub fn sheet_of(file: &[u8], out: &mut [u8; 4096]) -> usize
     ensures { λ r. ⌜ SheetPromises (now (file .entry)) (now (out .entry)) (now (out .exit)) r ⌝ }
 {
-    let mut table = [0u16; TABLE_LIMIT];
-    let answer = write_sheet(file, &mut table, out);
+    let mut rows = [0u16; COLUMN_LIMIT];
+    let mut predecessors = [0u16; COLUMN_LIMIT];
+    let answer = write_sheet(file, &mut rows, &mut predecessors, out);
     match answer {
         Answer::Number(n) => n,
         Answer::Refused(why) => write_refusal(out, why),
@@ -72,8 +73,9 @@ fn write_answer(out: &mut [u8; 4096], answer: SheetAnswer) -> usize
 pub fn check_of(file: &[u8], sheet: &[u8], out: &mut [u8; 4096]) -> usize
     ensures { λ r. ⌜ CheckPromises (now (file .entry)) (now (sheet .entry)) (now (out .entry)) (now (out .exit)) r ⌝ }
 {
-    let mut table = [0u16; TABLE_LIMIT];
-    let answer = check_sheet(file, sheet, &mut table);
+    let mut rows = [0u16; COLUMN_LIMIT];
+    let mut predecessors = [0u16; COLUMN_LIMIT];
+    let answer = check_sheet(file, sheet, &mut rows, &mut predecessors);
     write_answer(out, answer)
 }
 

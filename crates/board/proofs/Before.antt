@@ -14,6 +14,7 @@ use Rattle.loads.specs.Load.{oneLess}
 use Rattle.loads.proofs.Order.{and-both}
 use Rattle.partition.specs.Assignment.{every, enginesTo}
 use Rattle.partition.specs.ForSystem.{placeable}
+use Rattle.partition.specs.Lent.{Lent}
 use Rattle.partition.proofs.Lists.{every-always, passing-all}
 use Rattle.table.specs.Table.{roomCheck}
 use Rattle.board.specs.declared.Board.{Board}
@@ -39,12 +40,12 @@ module _ (b : Board) (u : Unmarked b) where
   unfolding trueBoard
   same-truth = ap (λ (q : Bool). trueBefore b && q) no-marks ∙ and-true (trueBefore b)
 
-  same-place : (t : ℕ) (table : List ℕ) (p : Place) → admitted b t table p ≡ admittedBefore b t table p
+  same-place : (t : ℕ) (table : Lent) (p : Place) → admitted b t table p ≡ admittedBefore b t table p
   unfolding admitted admittedBefore
   same-place t table (Engine e) = refl
   same-place t table Nowhere = rw same-engines
 
-  same-seats : (x table : List ℕ) → reseated b x table ≡ reseatedBefore b x table
+  same-seats : (x : List ℕ) (table : Lent) → reseated b x table ≡ reseatedBefore b x table
   unfolding reseated
   same-seats x table = rw same-engines
 
@@ -53,32 +54,32 @@ module _ (b : Board) (u : Unmarked b) where
   serving-same zero = refl
   serving-same (suc e) = rw (u .none (suc e), serving-same e) (omega arith)
 
-  same-checks : (t room : ℕ) → checkNewcomer b t room ≡ checkNewcomerBefore b t room
+  same-checks : (t rows predecessors : ℕ) → checkNewcomer b t rows predecessors ≡ checkNewcomerBefore b t rows predecessors
   unfolding checkNewcomer
-  same-checks t room = rw same-truth
+  same-checks t rows predecessors = rw same-truth
 
-  same-admit : (t : ℕ) (table : List ℕ) → admitOf b t table ≡ admitBefore b t table
+  same-admit : (t : ℕ) (table : Lent) → admitOf b t table ≡ admitBefore b t table
   unfolding admitOf
   same-admit t table =
-      ap (λ (c : Checked). checked c b table (admitted b t table (firstEngine b t))) (same-checks t (length table))
-      ∙ ap (λ (es : List ℕ). checked (checkNewcomerBefore b t (length table)) b table (admitted b t table (firstOf (takes b t) es))) same-engines
-      ∙ ap (λ (r : Result). checked (checkNewcomerBefore b t (length table)) b table r) (same-place t table (firstOf (takes b t) (enginesBefore b)))
+      ap (λ (c : Checked). checked c b table (admitted b t table (firstEngine b t))) (same-checks t (length (table .rows)) (length (table .predecessors)))
+      ∙ ap (λ (es : List ℕ). checked (checkNewcomerBefore b t (length (table .rows)) (length (table .predecessors))) b table (admitted b t table (firstOf (takes b t) es))) same-engines
+      ∙ ap (λ (r : Result). checked (checkNewcomerBefore b t (length (table .rows)) (length (table .predecessors))) b table r) (same-place t table (firstOf (takes b t) (enginesBefore b)))
 
-  same-seat : (t : ℕ) (table : List ℕ) → seatOf b t table ≡ seatBefore b t table
+  same-seat : (t : ℕ) (table : Lent) → seatOf b t table ≡ seatBefore b t table
   unfolding seatOf
   same-seat t table =
-      ap (λ (c : Checked). checked c b table (reseated b (withNewcomer b t) table)) (same-checks t (length table))
-      ∙ ap (λ (r : Result). checked (checkNewcomerBefore b t (length table)) b table r) (same-seats (withNewcomer b t) table)
+      ap (λ (c : Checked). checked c b table (reseated b (withNewcomer b t) table)) (same-checks t (length (table .rows)) (length (table .predecessors)))
+      ∙ ap (λ (r : Result). checked (checkNewcomerBefore b t (length (table .rows)) (length (table .predecessors))) b table r) (same-seats (withNewcomer b t) table)
 
-  same-retire : (t e : ℕ) (table : List ℕ) → retireOf b t e table ≡ retireBefore b t e table
+  same-retire : (t e : ℕ) (table : Lent) → retireOf b t e table ≡ retireBefore b t e table
   unfolding retireOf checkRetire
   same-retire t e table = rw same-truth
 
-  same-repack : (table : List ℕ) → repackOf b table ≡ repackBefore b table
+  same-repack : (table : Lent) → repackOf b table ≡ repackBefore b table
   unfolding repackOf checkRepack
   same-repack table =
-      ap (λ (q : Bool). checked (andThen (check q fromState 20) (roomCheck (b .system) (length table))) b table (reseated b (standing b) table)) same-truth
-      ∙ ap (λ (r : Result). checked (andThen (boardCheckBefore b) (roomCheck (b .system) (length table))) b table r) (same-seats (standing b) table)
+      ap (λ (q : Bool). checked (andThen (check q fromState 20) (roomCheck (b .system) (length (table .rows)) (length (table .predecessors)))) b table (reseated b (standing b) table)) same-truth
+      ∙ ap (λ (r : Result). checked (andThen (boardCheckBefore b) (roomCheck (b .system) (length (table .rows)) (length (table .predecessors)))) b table r) (same-seats (standing b) table)
 
   pub as-before : AsBefore b
   as-before = record {
@@ -92,35 +93,35 @@ module _ (b : Board) (u : Unmarked b) where
 
 -- main: none of the four calls sets a mark
 
-checked-marks : (c : Checked) (b : Board) (table : List ℕ) (work : Result) → work .board .marks ≡ b .marks → checked c b table work .board .marks ≡ b .marks
+checked-marks : (c : Checked) (b : Board) (table : Lent) (work : Result) → work .board .marks ≡ b .marks → checked c b table work .board .marks ≡ b .marks
 checked-marks passes b table work h = h
 checked-marks (fails s n) b table work h = refl
 
-admitted-marks : (b : Board) (t : ℕ) (table : List ℕ) (p : Place) → admitted b t table p .board .marks ≡ b .marks
+admitted-marks : (b : Board) (t : ℕ) (table : Lent) (p : Place) → admitted b t table p .board .marks ≡ b .marks
 unfolding admitted
 admitted-marks b t table (Engine e) = refl
 admitted-marks b t table Nowhere = refl
 
-reseated-marks : (b : Board) (x table : List ℕ) → reseated b x table .board .marks ≡ b .marks
+reseated-marks : (b : Board) (x : List ℕ) (table : Lent) → reseated b x table .board .marks ≡ b .marks
 unfolding reseated
 reseated-marks b x table = go (placeable (b .system) (enginesOf b) x) _ _ refl
   where
-    go : (q : Bool) (after : Board) (left : List ℕ) → after .marks ≡ b .marks → cond q (result (accepted []) after left) (result (refused fromState 24) b left) .board .marks ≡ b .marks
+    go : (q : Bool) (after : Board) (left : Lent) → after .marks ≡ b .marks → cond q (result (accepted []) after left) (result (refused fromState 24) b left) .board .marks ≡ b .marks
     go true after left h = h
     go false after left h = refl
 
-pub admit-marks : (b : Board) (t : ℕ) (table : List ℕ) → admitOf b t table .board .marks ≡ b .marks
+pub admit-marks : (b : Board) (t : ℕ) (table : Lent) → admitOf b t table .board .marks ≡ b .marks
 unfolding admitOf
-admit-marks b t table = checked-marks (checkNewcomer b t (length table)) b table (admitted b t table (firstEngine b t)) (admitted-marks b t table (firstEngine b t))
+admit-marks b t table = checked-marks (checkNewcomer b t (length (table .rows)) (length (table .predecessors))) b table (admitted b t table (firstEngine b t)) (admitted-marks b t table (firstEngine b t))
 
-pub seat-marks : (b : Board) (t : ℕ) (table : List ℕ) → seatOf b t table .board .marks ≡ b .marks
+pub seat-marks : (b : Board) (t : ℕ) (table : Lent) → seatOf b t table .board .marks ≡ b .marks
 unfolding seatOf
-seat-marks b t table = checked-marks (checkNewcomer b t (length table)) b table (reseated b (withNewcomer b t) table) (reseated-marks b (withNewcomer b t) table)
+seat-marks b t table = checked-marks (checkNewcomer b t (length (table .rows)) (length (table .predecessors))) b table (reseated b (withNewcomer b t) table) (reseated-marks b (withNewcomer b t) table)
 
-pub retire-marks : (b : Board) (t e : ℕ) (table : List ℕ) → retireOf b t e table .board .marks ≡ b .marks
+pub retire-marks : (b : Board) (t e : ℕ) (table : Lent) → retireOf b t e table .board .marks ≡ b .marks
 unfolding retireOf
 retire-marks b t e table = checked-marks (checkRetire b t e) b table (result (accepted []) (withLoad b e (oneLess (t - 1) (loadAt b e))) table) refl
 
-pub repack-marks : (b : Board) (table : List ℕ) → repackOf b table .board .marks ≡ b .marks
+pub repack-marks : (b : Board) (table : Lent) → repackOf b table .board .marks ≡ b .marks
 unfolding repackOf
-repack-marks b table = checked-marks (checkRepack b (length table)) b table (reseated b (standing b) table) (reseated-marks b (standing b) table)
+repack-marks b table = checked-marks (checkRepack b (length (table .rows)) (length (table .predecessors))) b table (reseated b (standing b) table) (reseated-marks b (standing b) table)

@@ -13,6 +13,7 @@ use Rattle.loads.specs.Load.{holdsNone, oneLess}
 use Rattle.loads.proofs.Order.{and-parts}
 use Rattle.partition.specs.Assignment.{enginesTo}
 use Rattle.partition.specs.ForSystem.{placeable, recoveredFor}
+use Rattle.partition.specs.Lent.{Lent}
 use Rattle.partition.proofs.Lists.{length-enginesTo}
 use Rattle.table.specs.Table.{longEnough, filledTo, filled}
 use Rattle.board.specs.declared.Board.{Board}
@@ -44,12 +45,12 @@ unfolding early
 early-then passes later h k = k
 early-then (fails s n) later h k = h
 
-module _ (b : Board) (table : List ℕ) where
+module _ (b : Board) (table : Lent) where
   -- what a fill leaves, by the code's engines and in plain words
-  abbrev full : List ℕ
+  abbrev full : Lent
   full = filled (b .system) (enginesOf b) table
 
-  abbrev told : List ℕ
+  abbrev told : Lent
   told = filled (b .system) (enginesTo (servingAll b)) table
 
   full-told : full ≡ told
@@ -57,7 +58,7 @@ module _ (b : Board) (table : List ℕ) where
 
   -- intermediate: the three ways that a call can end
 
-  accepts : (ns : List ℕ) (after : Board) (given left : List ℕ) → given ≡ left → Demand1 b table left (result (accepted ns) after given)
+  accepts : (ns : List ℕ) (after : Board) (given left : Lent) → given ≡ left → Demand1 b table left (result (accepted ns) after given)
   accepts ns after given left same = record {
     board = λ e. absurd (true≢false e);
     asLent = λ s n e p q. let z : _≡_ {A = ℕ} 0 1 = cc in absurd (omega arith);
@@ -67,7 +68,7 @@ module _ (b : Board) (table : List ℕ) where
   }
 
   -- refused before any work
-  refuses : (left : List ℕ) (s : Source) (n : ℕ) → unsearched n ≡ true → Demand1 b table left (result (refused s n) b table)
+  refuses : (left : Lent) (s : Source) (n : ℕ) → unsearched n ≡ true → Demand1 b table left (result (refused s n) b table)
   refuses left s n h = record {
     board = λ e. refl;
     asLent = λ _ _ _ _ _. refl;
@@ -77,7 +78,7 @@ module _ (b : Board) (table : List ℕ) where
   }
 
   -- refused 23 or 24 after the table was filled
-  leaves : (left : List ℕ) (p : Bool) → Demand1 b table left (result (refused fromState (cond p 23 24)) b full)
+  leaves : (left : Lent) (p : Bool) → Demand1 b table left (result (refused fromState (cond p 23 24)) b full)
   leaves left true = record {
     board = λ e. refl;
     asLent = λ s n e p q. let same : 23 ≡ n = cc in absurd (omega arith);
@@ -93,12 +94,12 @@ module _ (b : Board) (table : List ℕ) where
     onAccept = λ e. absurd (false≢true e);
   }
 
-  checks : (left : List ℕ) (c : Checked) (work : Result) → early c ≡ true → Demand1 b table left work → Demand1 b table left (checked c b table work)
+  checks : (left : Lent) (c : Checked) (work : Result) → early c ≡ true → Demand1 b table left work → Demand1 b table left (checked c b table work)
   unfolding early
   checks left passes work h d = d
   checks left (fails s n) work h d = refuses left s n h
 
-  early-newcomer : (t : ℕ) → early (checkNewcomer b t (length table)) ≡ true
+  early-newcomer : (t : ℕ) → early (checkNewcomer b t (length (table .rows)) (length (table .predecessors))) ≡ true
   unfolding checkNewcomer
   early-newcomer t =
       early-then _ _ (early-check (trueBoard b) fromState 20 refl)
@@ -122,16 +123,16 @@ module _ (b : Board) (table : List ℕ) where
 
 -- main: demand 1
 
-pub admit-demand1 : (b : Board) (t : ℕ) (table : List ℕ) → Demand1 b table table (admitOf b t table)
+pub admit-demand1 : (b : Board) (t : ℕ) (table : Lent) → Demand1 b table table (admitOf b t table)
 unfolding admitOf
-admit-demand1 b t table = checks b table table (checkNewcomer b t (length table)) (admitted b t table (firstEngine b t)) (early-newcomer b table t) (admits b table t (firstEngine b t))
+admit-demand1 b t table = checks b table table (checkNewcomer b t (length (table .rows)) (length (table .predecessors))) (admitted b t table (firstEngine b t)) (early-newcomer b table t) (admits b table t (firstEngine b t))
 
-pub seat-demand1 : (b : Board) (t : ℕ) (table : List ℕ) → Demand1 b table (told b table) (seatOf b t table)
+pub seat-demand1 : (b : Board) (t : ℕ) (table : Lent) → Demand1 b table (told b table) (seatOf b t table)
 unfolding seatOf
 seat-demand1 b t table =
-    checks b table (told b table) (checkNewcomer b t (length table)) (reseated b (withNewcomer b t) table) (early-newcomer b table t) (reseats b table (withNewcomer b t))
+    checks b table (told b table) (checkNewcomer b t (length (table .rows)) (length (table .predecessors))) (reseated b (withNewcomer b t) table) (early-newcomer b table t) (reseats b table (withNewcomer b t))
 
-pub retire-demand1 : (b : Board) (t e : ℕ) (table : List ℕ) → Demand1 b table table (retireOf b t e table)
+pub retire-demand1 : (b : Board) (t e : ℕ) (table : Lent) → Demand1 b table table (retireOf b t e table)
 unfolding retireOf checkRetire
 retire-demand1 b t e table =
     checks b table table (checkRetire b t e) (result (accepted []) (withLoad b e (oneLess (t - 1) (loadAt b e))) table)
@@ -140,14 +141,14 @@ retire-demand1 b t e table =
     (early-then _ _ (early-check (knownEngine (b .system) e) fromInput 14 refl) (early-check (heldAt b t e) fromState 22 refl))))
     (accepts b table [] (withLoad b e (oneLess (t - 1) (loadAt b e))) table table refl)
 
-pub repack-demand1 : (b : Board) (table : List ℕ) → Demand1 b table (told b table) (repackOf b table)
+pub repack-demand1 : (b : Board) (table : Lent) → Demand1 b table (told b table) (repackOf b table)
 unfolding repackOf checkRepack
 repack-demand1 b table =
-    checks b table (told b table) (checkRepack b (length table)) (reseated b (standing b) table)
+    checks b table (told b table) (checkRepack b (length (table .rows)) (length (table .predecessors))) (reseated b (standing b) table)
     (early-then _ _ (early-check (trueBoard b) fromState 20 refl) (early-check (longEnough (b .system) table) fromInput 11 refl))
     (reseats b table (standing b))
 
-pub withdraw-demand1 : (b : Board) (e : ℕ) (table : List ℕ) → Demand1 b table table (withdrawOf b e table)
+pub withdraw-demand1 : (b : Board) (e : ℕ) (table : Lent) → Demand1 b table table (withdrawOf b e table)
 unfolding withdrawOf checkWithdraw
 withdraw-demand1 b e table =
     checks b table table (checkWithdraw b e) (result (accepted []) (withMark b e true) table)
@@ -156,7 +157,7 @@ withdraw-demand1 b e table =
     (early-then _ _ (early-check (movable b e true) fromState 36 refl) (early-check (holdsNone (loadAt b e)) fromState 35 refl))))
     (accepts b table [] (withMark b e true) table table refl)
 
-pub restore-demand1 : (b : Board) (e : ℕ) (table : List ℕ) → Demand1 b table table (restoreOf b e table)
+pub restore-demand1 : (b : Board) (e : ℕ) (table : Lent) → Demand1 b table table (restoreOf b e table)
 unfolding restoreOf checkRestore
 restore-demand1 b e table =
     checks b table table (checkRestore b e) (result (accepted []) (withMark b e false) table)

@@ -15,6 +15,7 @@ use Rattle.system.proofs.Checks.{check-passed, both-passed}
 use Rattle.loads.specs.declared.EngineLoad.{EngineLoad}
 use Rattle.loads.specs.Load.{engineWith, oneMore}
 use Rattle.partition.specs.ForSystem.{placeable, recoveredFor}
+use Rattle.partition.specs.Lent.{Lent}
 use Rattle.table.specs.declared.Placement.{Placement}
 use Rattle.table.specs.Table.{longEnough, filled, placement}
 use Rattle.board.specs.declared.Board.{Board}
@@ -53,12 +54,12 @@ opened-board (opened y) = refl
 opened-board (unread n) = refl
 
 -- what holds of a call's definition holds of what the call gave
-pub of-given : (P : Result → Type 0) (x : Result) (r : Turn) (after : List ℕ) → Does x r after → P x → P (gave r after)
+pub of-given : (P : Result → Type 0) (x : Result) (r : Turn) (after : Lent) → Does x r after → P x → P (gave r after)
 of-given P x r after d = subst P (sym (λ i. record { outcome = d .answer i; board = d .board i; table = d .table i }))
 
 -- main: the checks
 
-module _ (b : Board) (table : List ℕ) (work : Result) (r : Turn) where
+module _ (b : Board) (table : Lent) (work : Result) (r : Turn) where
   fails-here : (why : Refusal) → r .answer ≡ Refused why → r .board ≡ b → Does (checked (failsWith why) b table work) r table
   fails-here (Input n) e s = record { answer = ap outcomeOf e; board = s; table = refl }
   fails-here (State n) e s = record { answer = ap outcomeOf e; board = s; table = refl }
@@ -68,12 +69,12 @@ module _ (b : Board) (table : List ℕ) (work : Result) (r : Turn) where
   checks-fail x why e a s = subst (λ (z : Checked). Does (checked z b table work) r table) e (fails-here why a s)
 
   -- and one that they let through
-  pub checks-pass : (x : Checked) (after : List ℕ) → passes ≡ x → Does work r after → Does (checked x b table work) r after
+  pub checks-pass : (x : Checked) (after : Lent) → passes ≡ x → Does work r after → Does (checked x b table work) r after
   checks-pass x after e d = subst (λ (z : Checked). Does (checked z b table work) r after) e d
 
 -- what the checks have shown where they passed
 
-module _ (b : Board) (t : ℕ) (table : List ℕ) (e : passes ≡ checkNewcomer b t (length table)) where
+module _ (b : Board) (t : ℕ) (table : Lent) (e : passes ≡ checkNewcomer b t (length (table .rows)) (length (table .predecessors))) where
   newcomer-parts : CheckedNewcomer b t × (longEnough (b .system) table ≡ true)
   unfolding checkNewcomer
   newcomer-parts =
@@ -98,7 +99,7 @@ leaver-passed b t e h =
     let r = both-passed _ _ (q .1) in
     (record { isTrue = check-passed (trueBoard b) fromState 20 (p .0); known = check-passed (knownEngine (b .system) e) fromInput 14 (r .0) }, check-passed (knownType (b .system) t) fromInput 13 (q .0))
 
-pub repack-passed : (b : Board) (table : List ℕ) → passes ≡ checkRepack b (length table) → (trueBoard b ≡ true) × (longEnough (b .system) table ≡ true)
+pub repack-passed : (b : Board) (table : Lent) → passes ≡ checkRepack b (length (table .rows)) (length (table .predecessors)) → (trueBoard b ≡ true) × (longEnough (b .system) table ≡ true)
 unfolding checkRepack
 repack-passed b table h =
     let p = both-passed _ _ h in
@@ -136,12 +137,12 @@ found-takes b t e h is = by-view (first-view (takes b t) (enginesOf b) (engines-
         subst (λ (z : ℕ). OnEngine b z × (takes b t z ≡ true)) same (on-engine b h d (f .engine), f .passes)
     by-view (nowhere f) = absurd (nowhere-not e (sym (f .found) ∙ sym is))
 
-module _ (b : Board) (t : ℕ) (table : List ℕ) (p : Place) (r : Turn) where
+module _ (b : Board) (t : ℕ) (table : Lent) (p : Place) (r : Turn) where
   pub admitted-joins : (e : ℕ) → Engine e ≡ p → r .answer ≡ Number e → r .board ≡ withLoad b e (oneMore (t - 1) (loadAt b e)) → Does (admitted b t table p) r table
   unfolding admitted
   admitted-joins e is a s = rw (← is) (record { answer = ap outcomeOf a; board = s; table = refl })
 
-  pub admitted-nowhere : (after : List ℕ) → Nowhere ≡ p → Does (crowded b t table) r after → Does (admitted b t table p) r after
+  pub admitted-nowhere : (after : Lent) → Nowhere ≡ p → Does (crowded b t table) r after → Does (admitted b t table p) r after
   unfolding admitted
   admitted-nowhere after is d = rw (← is) d
 
@@ -156,7 +157,7 @@ module _ (b : Board) (x : List ℕ) (found : Placement) (e : found ≡ placement
   unfolding placement
   found-placed = ap (λ (p : Placement). p .placed) e ∙ placed-flag (placeable (b .system) (enginesOf b) x) _ _ refl refl
 
-  module _ (table : List ℕ) (r : Turn) (after : List ℕ) (f : after ≡ filled (b .system) (enginesOf b) table) where
+  module _ (table : Lent) (r : Turn) (after : Lent) (f : after ≡ filled (b .system) (enginesOf b) table) where
     pub reseated-placed : found .placed ≡ true → r .answer ≡ Accepted → r .board ≡ record { system = b .system; loads = found .loads; marks = b .marks } → Does (reseated b x table) r after
     unfolding reseated placement
     reseated-placed h a s =
@@ -176,7 +177,7 @@ module _ (b : Board) (x : List ℕ) (found : Placement) (e : found ≡ placement
         rw cannot (record { answer = ap outcomeOf a; board = s; table = f })
 
 -- no engine takes the newcomer: 23 or 24
-module _ (b : Board) (t : ℕ) (found : Placement) (e : found ≡ placement (b .system) (enginesOf b) (withNewcomer b t)) (table : List ℕ) (r : Turn) (after : List ℕ) where
+module _ (b : Board) (t : ℕ) (found : Placement) (e : found ≡ placement (b .system) (enginesOf b) (withNewcomer b t)) (table : Lent) (r : Turn) (after : Lent) where
   pub crowded-by : (q : Bool) → found .placed ≡ q → after ≡ filled (b .system) (enginesOf b) table → r .answer ≡ Refused (State (cond q 23 24)) → r .board ≡ b → Does (crowded b t table) r after
   crowded-by q h f a s =
       let same : q ≡ placeable (b .system) (enginesOf b) (withNewcomer b t) = sym h ∙ found-placed b (withNewcomer b t) found e in

@@ -15,3 +15,4 @@ pub mod Ready
 pub mod Exits
 pub mod Promises
 pub mod Before
+pub mod Document01

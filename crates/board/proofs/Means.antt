@@ -22,14 +22,16 @@ use Rattle.partition.specs.Assignment.{among, every, enginesTo}
 use Rattle.partition.specs.Cell.{recovery}
 use Rattle.partition.specs.Shares.{distinct, rowOn}
 use Rattle.partition.specs.ForSystem.{FeasibleOn, placeable, rowFor, rowsFor, recoveredFor, OnFewest}
+use Rattle.partition.specs.Lent.{Lent}
 use Rattle.partition.specs.Plain.{LongEnough, recordNo, HoldsNothing}
 use Rattle.partition.proofs.Lists.{not-both, among-enginesTo, length-enginesTo, tested-among, getD-map-enginesTo, getD-padded}
 use Rattle.partition.proofs.Recovery.{length-recovery}
 use Rattle.partition.proofs.ForSystem.{feasible-iff-placeable, recoveredFor-shares, recoveredFor-uses, recovered-on-fewest}
 use Rattle.partition.proofs.Standing.{Valid, total, loadIn, length-total, length-loadIn, count-le-sum, served-feasible, total-joined, valid-joined, total-left, valid-left, total-recovered, valid-recovered}
-use Rattle.partition.proofs.Plain.{ceiling-out, columns-out, feasible-out, impossible-out, fewest-out}
+use Rattle.partition.proofs.Plain.{ceiling-out, feasible-out, impossible-out, fewest-out}
 use Rattle.table.specs.Table.{longEnough, filled}
 use Rattle.table.specs.Meaning.{columnNo, FilledMeans, RecoveredBy}
+use Rattle.table.proofs.Room.{long-enough-out}
 use Rattle.table.proofs.Meaning.{filled-means}
 use Rattle.table.proofs.RecoveredBy.{recovered-by}
 use Rattle.board.specs.declared.Board.{Board}
@@ -82,10 +84,6 @@ default-same : (rows : List (List ℕ)) (i j : ℕ) → getD (getD rows i emptyL
 default-same [] i j = getD-padded [] typeLimit j 0
 default-same (x ∷ rows) zero j = refl
 default-same (x ∷ rows) (suc i) j = default-same rows i j
-
--- a table that is long enough, by the code's test
-pub long-out : (y : System) (table : List ℕ) → length (y .types) ≡ typeLimit → LongEnough y table → longEnough y table ≡ true
-long-out y table six long = le-leb _ (length table) (rw (columns-out y six) at long)
 
 module _ (y : System) (ms : List Bool) (xs : List (List ℕ)) (keeps : keepsLimits y ≡ true) (v : Valid y xs) (served : Served y ms xs) where
   abbrev b : Board
@@ -195,10 +193,10 @@ module _ (y : System) (ms : List Bool) (xs : List (List ℕ)) (keeps : keepsLimi
       go d u up false q = sym (add-zero (countAt b d u))
 
   -- the table that a call filled
-  abbrev Full : List ℕ → List ℕ → Type 0
+  abbrev Full : Lent → Lent → Type 0
   Full table left = FilledMeans y (servingAll b) table left
 
-  full-on : (table : List ℕ) → LongEnough y table → Full table (filled y es table)
+  full-on : (table : Lent) → LongEnough y table → Full table (filled y es table)
   full-on table long = rw (engines-number b) (filled-means y limits (servingAll b) table (omega (arith, engines-number b, engines-count b)) long)
 
   -- a load packed on the fewest engines
@@ -261,10 +259,10 @@ module _ (y : System) (ms : List Bool) (xs : List (List ℕ)) (keeps : keepsLimi
         (engines-number b ∙ sym (length-enginesTo (servingAll b)))
 
     -- read in the filled table
-    recovered-in : (table : List ℕ) → LongEnough y table → RecoveredOn b (filled y es table) count (boardOn y ms rows)
+    recovered-in : (table : Lent) → LongEnough y table → RecoveredOn b (filled y es table) count (boardOn y ms rows)
     recovered-in table long = record {
       row = row;
-      reads = subst (λ (n : ℕ). RecoveredBy y (filled y es table) n count row) uses (record { column = r .column; starts = r .starts ∙ column-same; says = r .says; lowestRow = r .lowestRow; down = r .down; gets = r .gets });
+      reads = subst (λ (n : ℕ). RecoveredBy y (filled y es table) n count row) uses (record { column = r .column; starts = r .starts ∙ column-same; lowestRow = r .lowestRow; down = r .down; gets = r .gets });
       holds = λ e t serves low. row-on e t serves;
     }
       where
@@ -274,6 +272,7 @@ module _ (y : System) (ms : List Bool) (xs : List (List ℕ)) (keeps : keepsLimi
         r : RecoveredBy y (filled y es table) (rowFor y es x) (λ (t : ℕ). getD x (t - 1) 0) (λ (i t : ℕ). getD (getD (rowsFor y es x) (i - 1) []) (t - 1) 0)
         r =
             recovered-by y limits (length es) (filled y es table) (λ i c h k. full-on table long .cells i c (omega (arith, engines-number b)) k)
+            (λ c low h k. full-on table long .cellThere c low h (omega (arith, engines-number b)))
             x l w (leb-true (rowFor y es x) (length es) can)
 
         column-same : columnNo y (λ (t : ℕ). getD x (t - 1) 0) ≡ columnNo y count
@@ -323,7 +322,7 @@ module _ (y : System) (ms : List Bool) (xs : List (List ℕ)) (keeps : keepsLimi
   cannot-place : (t : ℕ) → Newcomer y xs t → placeable y es (withOne xs t) ≡ false → FeasibleOn y es (withOne xs t) → ⊥
   cannot-place t n cannot f = not-both (room-iff t n .0 f) cannot
 
-  refused-admit : (t : ℕ) (table : List ℕ) (o : Source) (n : ℕ) (left : List ℕ) → Admits t (refused o n) → Says23 t (refused o n) → Says24 t (refused o n) → (BelowCeiling b t → Full table left) → AdmitMeans b t table (result (refused o n) b left)
+  refused-admit : (t : ℕ) (table : Lent) (o : Source) (n : ℕ) (left : Lent) → Admits t (refused o n) → Says23 t (refused o n) → Says24 t (refused o n) → (BelowCeiling b t → Full table left) → AdmitMeans b t table (result (refused o n) b left)
   refused-admit t table o n left p q r full = record {
     admits = p;
     tight = q;
@@ -346,7 +345,7 @@ module _ (y : System) (ms : List Bool) (xs : List (List ℕ)) (keeps : keepsLimi
   nowhere-admits t o n k f h = (λ a. absurd (false≢true a), λ p. absurd (takes-none t (p .0) k f (p .1)))
 
   -- where it joins engine e
-  joined-admit : (t e : ℕ) (table : List ℕ) → Newcomer y xs t → TakesFirst y ms xs t e → AdmitMeans b t table (result (accepted (e ∷ [])) (boardOn y ms (set xs (e - 1) (joinedAt xs t e))) table)
+  joined-admit : (t e : ℕ) (table : Lent) → Newcomer y xs t → TakesFirst y ms xs t e → AdmitMeans b t table (result (accepted (e ∷ [])) (boardOn y ms (set xs (e - 1) (joinedAt xs t e))) table)
   joined-admit t e table n f = record {
     admits = λ h. (λ a. (e, takes-first t e n f), λ p. refl);
     tight = λ h. (λ a. differ a (λ z. cc), λ p. absurd (p .0 e (takes-first t e n f)));
@@ -376,7 +375,7 @@ module _ (y : System) (ms : List Bool) (xs : List (List ℕ)) (keeps : keepsLimi
       whole : total after ≡ withOne xs t
       whole = total-joined y xs v (e - 1) (t - 1) index
 
-  admit-by : (t : ℕ) (table : List ℕ) (r : Result) → LongEnough y table → AdmitView y ms xs t table r → AdmitMeans b t table r
+  admit-by : (t : ℕ) (table : Lent) (r : Result) → LongEnough y table → AdmitView y ms xs t table r → AdmitMeans b t table r
   admit-by t table r long (AdmitView.unknown k s) =
       subst (AdmitMeans b t table) (sym s)
       (refused-admit t table fromInput 13 table (λ h. absurd (not-both (below-on t h .known) k)) (λ h. absurd (not-both (below-on t h .known) k)) (λ h. absurd (not-both (below-on t h .known) k))
@@ -404,10 +403,10 @@ module _ (y : System) (ms : List Bool) (xs : List (List ℕ)) (keeps : keepsLimi
   abbrev Seats : ℕ → Outcome → Type 0
   Seats t o = BelowCeiling b t → (isAccepted o ≡ true) ↔ Room b t
 
-  refused-seat : (t : ℕ) (table : List ℕ) (o : Source) (n : ℕ) (left : List ℕ) → Seats t (refused o n) → Says24 t (refused o n) → (BelowCeiling b t → Full table left) → SeatMeans b t table (result (refused o n) b left)
+  refused-seat : (t : ℕ) (table : Lent) (o : Source) (n : ℕ) (left : Lent) → Seats t (refused o n) → Says24 t (refused o n) → (BelowCeiling b t → Full table left) → SeatMeans b t table (result (refused o n) b left)
   refused-seat t table o n left p q full = record { seats = p; noRoom = q; answer = λ h. absurd (false≢true h); packs = λ h. absurd (false≢true h); recovers = λ h. absurd (false≢true h); leftFilled = full }
 
-  seat-by : (t : ℕ) (table : List ℕ) (r : Result) → LongEnough y table → SeatView y ms xs t table r → SeatMeans b t table r
+  seat-by : (t : ℕ) (table : Lent) (r : Result) → LongEnough y table → SeatView y ms xs t table r → SeatMeans b t table r
   seat-by t table r long (SeatView.unknown k s) =
       subst (SeatMeans b t table) (sym s)
       (refused-seat t table fromInput 13 table (λ h. absurd (not-both (below-on t h .known) k)) (λ h. absurd (not-both (below-on t h .known) k)) (λ h. absurd (not-both (below-on t h .known) k)))
@@ -433,7 +432,7 @@ module _ (y : System) (ms : List Bool) (xs : List (List ℕ)) (keeps : keepsLimi
 
   -- main: retire
 
-  refused-retire : (t e : ℕ) (o : Source) (n : ℕ) (table : List ℕ) → (HoldsType b t e → ⊥) → RetireMeans b t e (result (refused o n) b table)
+  refused-retire : (t e : ℕ) (o : Source) (n : ℕ) (table : Lent) → (HoldsType b t e → ⊥) → RetireMeans b t e (result (refused o n) b table)
   refused-retire t e o n table p = record {
     retires = (λ a. absurd (false≢true a), λ h. absurd (p h));
     answer = λ h. absurd (false≢true h);
@@ -443,7 +442,7 @@ module _ (y : System) (ms : List Bool) (xs : List (List ℕ)) (keeps : keepsLimi
     isTrue = λ h. absurd (false≢true h);
   }
 
-  retire-by : (t e : ℕ) (table : List ℕ) (r : Result) → RetireView y ms xs t table r e → RetireMeans b t e r
+  retire-by : (t e : ℕ) (table : Lent) (r : Result) → RetireView y ms xs t table r e → RetireMeans b t e r
   retire-by t e table r (RetireView.unknown k s) =
       subst (RetireMeans b t e) (sym s) (refused-retire t e fromInput 13 table (λ h. not-both (known-of t (h .isType)) k))
   retire-by t e table r (RetireView.noEngine k d s) =
@@ -488,9 +487,9 @@ module _ (y : System) (ms : List Bool) (xs : List (List ℕ)) (keeps : keepsLimi
 
   -- main: repack
 
-  repack-by : (table : List ℕ) → LongEnough y table → RepackMeans b table (repackOf b table)
+  repack-by : (table : Lent) → LongEnough y table → RepackMeans b table (repackOf b table)
   repack-by table long =
-      subst (RepackMeans b table) (sym (repack-view y ms xs keeps v served table (long-out y table (limits .six) long)))
+      subst (RepackMeans b table) (sym (repack-view y ms xs keeps v served table (long-enough-out y table keeps .1 long)))
       (record {
         repacks = refl;
         packs = packed-on (total xs) (length-total v) (v .ceiling) (total-placeable y ms xs keeps v served) (standsNo b) (λ t low. sym (stands-on y ms xs keeps v served t));
@@ -519,7 +518,7 @@ module _ (y : System) (ms : List Bool) (xs : List (List ℕ)) (keeps : keepsLimi
       zeros-none (loadIn xs (e - 1)) (λ j. let back : suc j - 1 ≡ j = omega arith in
       subst (λ (k : ℕ). getD (loadIn xs (e - 1)) k 0 ≡ 0) back (sym (count-out y ms xs keeps v served e (suc j)) ∙ none .counts (suc j)))
 
-  refused-withdraw : (e : ℕ) (o : Source) (n : ℕ) (table : List ℕ) → (EngineIn b e → HoldsNothing (recordNo (b .loads) e) → ⊥) → WithdrawMeans b e (result (refused o n) b table)
+  refused-withdraw : (e : ℕ) (o : Source) (n : ℕ) (table : Lent) → (EngineIn b e → HoldsNothing (recordNo (b .loads) e) → ⊥) → WithdrawMeans b e (result (refused o n) b table)
   refused-withdraw e o n table p = record {
     withdraws = (λ a. absurd (false≢true a), λ h. absurd (p (h .0) (h .1)));
     answer = λ h. absurd (false≢true h);
@@ -527,7 +526,7 @@ module _ (y : System) (ms : List Bool) (xs : List (List ℕ)) (keeps : keepsLimi
     isTrue = λ h. absurd (false≢true h);
   }
 
-  withdraw-by : (e : ℕ) (table : List ℕ) (r : Result) → WithdrawView y ms xs e table r → WithdrawMeans b e r
+  withdraw-by : (e : ℕ) (table : Lent) (r : Result) → WithdrawView y ms xs e table r → WithdrawMeans b e r
   withdraw-by e table r (WithdrawView.noEngine d s) =
       subst (WithdrawMeans b e) (sym s) (refused-withdraw e fromInput 14 table (λ h none. not-both (engine-known e (h .isEngine)) d))
   withdraw-by e table r (WithdrawView.already d m s) =
@@ -545,7 +544,7 @@ module _ (y : System) (ms : List Bool) (xs : List (List ℕ)) (keeps : keepsLimi
         isTrue = λ h. true-on y (set ms (e - 1) true) xs keeps v (served-marked y ms xs served (e - 1) row);
       })
 
-  refused-restore : (e : ℕ) (o : Source) (n : ℕ) (table : List ℕ) → (IsEngine b e → markNo b e ≡ true → ⊥) → RestoreMeans b e (result (refused o n) b table)
+  refused-restore : (e : ℕ) (o : Source) (n : ℕ) (table : Lent) → (IsEngine b e → markNo b e ≡ true → ⊥) → RestoreMeans b e (result (refused o n) b table)
   refused-restore e o n table p = record {
     restores = (λ a. absurd (false≢true a), λ h. absurd (p (h .0) (h .1)));
     answer = λ h. absurd (false≢true h);
@@ -553,7 +552,7 @@ module _ (y : System) (ms : List Bool) (xs : List (List ℕ)) (keeps : keepsLimi
     isTrue = λ h. absurd (false≢true h);
   }
 
-  restore-by : (e : ℕ) (table : List ℕ) (r : Result) → RestoreView y ms xs e table r → RestoreMeans b e r
+  restore-by : (e : ℕ) (table : Lent) (r : Result) → RestoreView y ms xs e table r → RestoreMeans b e r
   restore-by e table r (RestoreView.noEngine d s) =
       subst (RestoreMeans b e) (sym s) (refused-restore e fromInput 14 table (λ on m. not-both (engine-known e on) d))
   restore-by e table r (RestoreView.already d none s) =
@@ -574,40 +573,40 @@ module _ (b : Board) (w : IsTrue b) where
   is-true : trueBoard b ≡ true
   is-true = true-means b .tests .1 w
 
-  is-long : (table : List ℕ) → LongEnough (b .system) table → longEnough (b .system) table ≡ true
-  is-long table long = long-out (b .system) table (w .limits .six) long
+  is-long : (table : Lent) → LongEnough (b .system) table → longEnough (b .system) table ≡ true
+  is-long table long = long-enough-out (b .system) table (truth-of b is-true .keeps) .1 long
 
-  pub admit-means : (t : ℕ) (table : List ℕ) → LongEnough (b .system) table → AdmitMeans b t table (admitOf b t table)
+  pub admit-means : (t : ℕ) (table : Lent) → LongEnough (b .system) table → AdmitMeans b t table (admitOf b t table)
   admit-means t table long =
       let f = truth-of b is-true in
       subst (λ (a : Board). AdmitMeans a t table (admitOf a t table)) (sym (f .same))
       (admit-by (b .system) (f .marks) (f .rows) (f .keeps) (f .valid) (f .served) t table _ long (admit-view (b .system) (f .marks) (f .rows) (f .keeps) (f .valid) (f .served) t table (is-long table long)))
 
-  pub seat-means : (t : ℕ) (table : List ℕ) → LongEnough (b .system) table → SeatMeans b t table (seatOf b t table)
+  pub seat-means : (t : ℕ) (table : Lent) → LongEnough (b .system) table → SeatMeans b t table (seatOf b t table)
   seat-means t table long =
       let f = truth-of b is-true in
       subst (λ (a : Board). SeatMeans a t table (seatOf a t table)) (sym (f .same))
       (seat-by (b .system) (f .marks) (f .rows) (f .keeps) (f .valid) (f .served) t table _ long (seat-view (b .system) (f .marks) (f .rows) (f .keeps) (f .valid) (f .served) t table (is-long table long)))
 
-  pub retire-means : (t e : ℕ) (table : List ℕ) → RetireMeans b t e (retireOf b t e table)
+  pub retire-means : (t e : ℕ) (table : Lent) → RetireMeans b t e (retireOf b t e table)
   retire-means t e table =
       let f = truth-of b is-true in
       subst (λ (a : Board). RetireMeans a t e (retireOf a t e table)) (sym (f .same))
       (retire-by (b .system) (f .marks) (f .rows) (f .keeps) (f .valid) (f .served) t e table _ (retire-view (b .system) (f .marks) (f .rows) (f .keeps) (f .valid) (f .served) t e table))
 
-  pub repack-means : (table : List ℕ) → LongEnough (b .system) table → RepackMeans b table (repackOf b table)
+  pub repack-means : (table : Lent) → LongEnough (b .system) table → RepackMeans b table (repackOf b table)
   repack-means table long =
       let f = truth-of b is-true in
       subst (λ (a : Board). RepackMeans a table (repackOf a table)) (sym (f .same))
       (repack-by (b .system) (f .marks) (f .rows) (f .keeps) (f .valid) (f .served) table long)
 
-  pub withdraw-means : (e : ℕ) (table : List ℕ) → WithdrawMeans b e (withdrawOf b e table)
+  pub withdraw-means : (e : ℕ) (table : Lent) → WithdrawMeans b e (withdrawOf b e table)
   withdraw-means e table =
       let f = truth-of b is-true in
       subst (λ (a : Board). WithdrawMeans a e (withdrawOf a e table)) (sym (f .same))
       (withdraw-by (b .system) (f .marks) (f .rows) (f .keeps) (f .valid) (f .served) e table _ (withdraw-view (b .system) (f .marks) (f .rows) (f .keeps) (f .valid) (f .served) e table))
 
-  pub restore-means : (e : ℕ) (table : List ℕ) → RestoreMeans b e (restoreOf b e table)
+  pub restore-means : (e : ℕ) (table : Lent) → RestoreMeans b e (restoreOf b e table)
   restore-means e table =
       let f = truth-of b is-true in
       subst (λ (a : Board). RestoreMeans a e (restoreOf a e table)) (sym (f .same))

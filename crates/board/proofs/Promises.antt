@@ -9,6 +9,7 @@ use Rattle.system.specs.Values.{blank}
 use Rattle.system.specs.Layout.{readFile, readOutcome, opened}
 use Rattle.system.specs.Outcome.{Outcome, outcomeOf}
 use Rattle.system.proofs.Laws.{read-keeps-limits}
+use Rattle.partition.specs.Lent.{Lent, lent}
 use Rattle.board.specs.declared.Board.{Board}
 use Rattle.board.specs.declared.Turn.{Turn}
 use Rattle.board.specs.Boards.{emptyBoard, openedBoard}
@@ -22,7 +23,7 @@ use Rattle.board.proofs.Order.{admit-in-order, seat-in-order, retire-in
 use Rattle.board.proofs.Exits.{of-given}
 
 -- what a call gave is its answer, its board and the table after it, and nothing else: the promises of all six calls are read through this
-pub gave-is : (r : Turn) (after : List ℕ) → (gave r after .outcome ≡ outcomeOf (r .answer)) × (gave r after .board ≡ r .board) × (gave r after .table ≡ after)
+pub gave-is : (r : Turn) (after : Lent) → (gave r after .outcome ≡ outcomeOf (r .answer)) × (gave r after .board ≡ r .board) × (gave r after .table ≡ after)
 gave-is r after = (refl, refl, refl)
 
 -- opening
@@ -45,41 +46,41 @@ open-means file o b a s = record {
 
 -- the calls: of their definitions
 
-admit-holds : (b : Board) (t : ℕ) (table : List ℕ) → AdmitPromises b t table (admitOf b t table)
+admit-holds : (b : Board) (t : ℕ) (table : Lent) → AdmitPromises b t table (admitOf b t table)
 admit-holds b t table = record { demand1 = admit-demand1 b t table; order = admit-in-order b t table; means = λ w long. admit-means b w t table long }
 
-seat-holds : (b : Board) (t : ℕ) (table : List ℕ) → SeatPromises b t table (seatOf b t table)
+seat-holds : (b : Board) (t : ℕ) (table : Lent) → SeatPromises b t table (seatOf b t table)
 seat-holds b t table = record { demand1 = seat-demand1 b t table; order = seat-in-order b t table; means = λ w long. seat-means b w t table long }
 
-retire-holds : (b : Board) (t e : ℕ) → RetirePromises b t e (retireOf b t e [])
-retire-holds b t e = record { demand1 = retire-demand1 b t e []; order = retire-in-order b t e []; means = λ w. retire-means b w t e [] }
+retire-holds : (b : Board) (t e : ℕ) → RetirePromises b t e (retireOf b t e (lent [] []))
+retire-holds b t e = record { demand1 = retire-demand1 b t e (lent [] []); order = retire-in-order b t e (lent [] []); means = λ w. retire-means b w t e (lent [] []) }
 
-repack-holds : (b : Board) (table : List ℕ) → RepackPromises b table (repackOf b table)
+repack-holds : (b : Board) (table : Lent) → RepackPromises b table (repackOf b table)
 repack-holds b table = record { demand1 = repack-demand1 b table; order = repack-in-order b table; means = λ w long. repack-means b w table long }
 
-withdraw-holds : (b : Board) (e : ℕ) → WithdrawPromises b e (withdrawOf b e [])
-withdraw-holds b e = record { demand1 = withdraw-demand1 b e []; order = withdraw-in-order b e []; means = λ w. withdraw-means b w e [] }
+withdraw-holds : (b : Board) (e : ℕ) → WithdrawPromises b e (withdrawOf b e (lent [] []))
+withdraw-holds b e = record { demand1 = withdraw-demand1 b e (lent [] []); order = withdraw-in-order b e (lent [] []); means = λ w. withdraw-means b w e (lent [] []) }
 
-restore-holds : (b : Board) (e : ℕ) → RestorePromises b e (restoreOf b e [])
-restore-holds b e = record { demand1 = restore-demand1 b e []; order = restore-in-order b e []; means = λ w. restore-means b w e [] }
+restore-holds : (b : Board) (e : ℕ) → RestorePromises b e (restoreOf b e (lent [] []))
+restore-holds b e = record { demand1 = restore-demand1 b e (lent [] []); order = restore-in-order b e (lent [] []); means = λ w. restore-means b w e (lent [] []) }
 
 -- main: of what they gave
 
-module _ (b : Board) (t : ℕ) (table : List ℕ) (r : Turn) (after : List ℕ) where
+module _ (b : Board) (t : ℕ) (table : Lent) (r : Turn) (after : Lent) where
   pub admit-promises : Does (admitOf b t table) r after → Does (admitOf b t table) r after × AdmitPromises b t table (gave r after)
   admit-promises d = (d, of-given (AdmitPromises b t table) (admitOf b t table) r after d (admit-holds b t table))
 
   pub seat-promises : Does (seatOf b t table) r after → Does (seatOf b t table) r after × SeatPromises b t table (gave r after)
   seat-promises d = (d, of-given (SeatPromises b t table) (seatOf b t table) r after d (seat-holds b t table))
 
-pub retire-promises : (b : Board) (t e : ℕ) (r : Turn) → Does (retireOf b t e []) r [] → Does (retireOf b t e []) r [] × RetirePromises b t e (gave r [])
-retire-promises b t e r d = (d, of-given (RetirePromises b t e) (retireOf b t e []) r [] d (retire-holds b t e))
+pub retire-promises : (b : Board) (t e : ℕ) (r : Turn) → Does (retireOf b t e (lent [] [])) r (lent [] []) → Does (retireOf b t e (lent [] [])) r (lent [] []) × RetirePromises b t e (gave r (lent [] []))
+retire-promises b t e r d = (d, of-given (RetirePromises b t e) (retireOf b t e (lent [] [])) r (lent [] []) d (retire-holds b t e))
 
-pub repack-promises : (b : Board) (table : List ℕ) (r : Turn) (after : List ℕ) → Does (repackOf b table) r after → Does (repackOf b table) r after × RepackPromises b table (gave r after)
+pub repack-promises : (b : Board) (table : Lent) (r : Turn) (after : Lent) → Does (repackOf b table) r after → Does (repackOf b table) r after × RepackPromises b table (gave r after)
 repack-promises b table r after d = (d, of-given (RepackPromises b table) (repackOf b table) r after d (repack-holds b table))
 
-pub withdraw-promises : (b : Board) (e : ℕ) (r : Turn) → Does (withdrawOf b e []) r [] → Does (withdrawOf b e []) r [] × WithdrawPromises b e (gave r [])
-withdraw-promises b e r d = (d, of-given (WithdrawPromises b e) (withdrawOf b e []) r [] d (withdraw-holds b e))
+pub withdraw-promises : (b : Board) (e : ℕ) (r : Turn) → Does (withdrawOf b e (lent [] [])) r (lent [] []) → Does (withdrawOf b e (lent [] [])) r (lent [] []) × WithdrawPromises b e (gave r (lent [] []))
+withdraw-promises b e r d = (d, of-given (WithdrawPromises b e) (withdrawOf b e (lent [] [])) r (lent [] []) d (withdraw-holds b e))
 
-pub restore-promises : (b : Board) (e : ℕ) (r : Turn) → Does (restoreOf b e []) r [] → Does (restoreOf b e []) r [] × RestorePromises b e (gave r [])
-restore-promises b e r d = (d, of-given (RestorePromises b e) (restoreOf b e []) r [] d (restore-holds b e))
+pub restore-promises : (b : Board) (e : ℕ) (r : Turn) → Does (restoreOf b e (lent [] [])) r (lent [] []) → Does (restoreOf b e (lent [] [])) r (lent [] []) × RestorePromises b e (gave r (lent [] []))
+restore-promises b e r d = (d, of-given (RestorePromises b e) (restoreOf b e (lent [] [])) r (lent [] []) d (restore-holds b e))

@@ -15,11 +15,12 @@ use Rattle.loads.specs.Load.{fitsEngine, within}
 use Rattle.loads.proofs.Order.{and-parts, and-both}
 use Rattle.loads.proofs.Change.{within-getD, oneMore-within}
 use Rattle.partition.specs.Assignment.{among, enginesTo}
+use Rattle.partition.specs.Lent.{Lent}
 use Rattle.partition.proofs.Lists.{among-enginesTo, tested-among}
 use Rattle.partition.proofs.Standing.{count-le-sum, loadIn-fits}
 use Rattle.table.specs.declared.Engines.{Engines}
 use Rattle.table.specs.Table.{longEnough}
-use Rattle.table.specs.Recovery.{listed, MayPlace}
+use Rattle.table.specs.Chain.{listed, MayPlace}
 use Rattle.board.specs.declared.Board.{Board}
 use Rattle.board.specs.Boards.{enginesOf, loadAt, standing}
 use Rattle.board.specs.Truth.{trueBoard}
@@ -54,7 +55,7 @@ module _ (b : Board) (h : trueBoard b ≡ true) where
       record { isTrue = h; known = and-both (leb 1 e) (leb e (b .system .engines)) (le-leb 1 e (r .0)) (le-leb e (b .system .engines) (r .1)) }
 
   -- a load within the ceilings may be placed on them
-  pub may-place : (es : Engines) (x table : List ℕ) → es .count ≡ length (enginesOf b) → listed es ≡ enginesOf b → longEnough (b .system) table ≡ true → within x (ceilingsOf (b .system)) ≡ true → MayPlace (b .system) es x table
+  pub may-place : (es : Engines) (x : List ℕ) (table : Lent) → es .count ≡ length (enginesOf b) → listed es ≡ enginesOf b → longEnough (b .system) table ≡ true → within x (ceilingsOf (b .system)) ≡ true → MayPlace (b .system) es x table
   may-place es x table count same room under = record {
     limits = true-keeps;
     few = omega (arith, count, engines-count b);

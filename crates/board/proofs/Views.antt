@@ -16,6 +16,7 @@ use Rattle.loads.specs.Load.{fitsEngine, holdsNone, within, oneMore, oneLess}
 use Rattle.loads.proofs.Order.{and-parts}
 use Rattle.loads.proofs.Change.{length-oneMore, oneMore-within}
 use Rattle.partition.specs.ForSystem.{placeable, recoveredFor}
+use Rattle.partition.specs.Lent.{Lent}
 use Rattle.partition.proofs.ForSystem.{feasible-iff-placeable, recoveredFor-more}
 use Rattle.partition.proofs.Standing.{Valid, total, loadIn, length-total, served-feasible}
 use Rattle.table.specs.Table.{longEnough, filled}
@@ -74,7 +75,7 @@ TakesNone y ms xs t = NoneOf (takesIn y xs t) (enginesIn y ms xs)
 
 -- The outcomes of each call, r its result: 20 and 11 do not arise
 
-module _ (y : System) (ms : List Bool) (xs : List (List ℕ)) (t : ℕ) (table : List ℕ) (r : Result) where
+module _ (y : System) (ms : List Bool) (xs : List (List ℕ)) (t : ℕ) (table : Lent) (r : Result) where
   pub data AdmitView : Type 0 where
     unknown : knownType y t ≡ false → r ≡ result (refused fromInput 13) (boardOn y ms xs) table → AdmitView
     full : knownType y t ≡ true → underIn y xs t ≡ false → r ≡ result (refused fromState 21) (boardOn y ms xs) table → AdmitView
@@ -97,7 +98,7 @@ module _ (y : System) (ms : List Bool) (xs : List (List ℕ)) (t : ℕ) (table :
     leaves : knownType y t ≡ true → knownEngine y e ≡ true → leb 1 (countIn xs t e) ≡ true → r ≡ result (accepted []) (boardOn y ms (set xs (e - 1) (leftAt xs t e))) table → RetireView e
 
 -- no table is lent to these
-module _ (y : System) (ms : List Bool) (xs : List (List ℕ)) (e : ℕ) (table : List ℕ) (r : Result) where
+module _ (y : System) (ms : List Bool) (xs : List (List ℕ)) (e : ℕ) (table : Lent) (r : Result) where
   pub data WithdrawView : Type 0 where
     noEngine : knownEngine y e ≡ false → r ≡ result (refused fromInput 14) (boardOn y ms xs) table → WithdrawView
     already : knownEngine y e ≡ true → markIn ms e ≡ true → r ≡ result (refused fromState 36) (boardOn y ms xs) table → WithdrawView
@@ -170,11 +171,11 @@ module _ (y : System) (ms : List Bool) (xs : List (List ℕ)) (keeps : keepsLimi
   abbrev newcomerChecks : Bool → Bool → Checked
   newcomerChecks known under = andThen (check known fromInput 13) (check under fromState 21)
 
-  checks-on : (t : ℕ) (table : List ℕ) → longEnough y table ≡ true → checkNewcomer b t (length table) ≡ newcomerChecks (knownType y t) (underIn y xs t)
+  checks-on : (t : ℕ) (table : Lent) → longEnough y table ≡ true → checkNewcomer b t (length (table .rows)) (length (table .predecessors)) ≡ newcomerChecks (knownType y t) (underIn y xs t)
   unfolding checkNewcomer
   checks-on t table long = rw (true-here, long, under-on t)
 
-  admitted-first : (t e : ℕ) (table : List ℕ) → TakesFirst y ms xs t e
+  admitted-first : (t e : ℕ) (table : Lent) → TakesFirst y ms xs t e
       → admitted b t table (firstOf (takesIn y xs t) es) ≡ result (accepted (e ∷ [])) (boardOn y ms (set xs (e - 1) (joinedAt xs t e))) table
   unfolding admitted
   admitted-first t e table f =
@@ -182,13 +183,13 @@ module _ (y : System) (ms : List Bool) (xs : List (List ℕ)) (keeps : keepsLimi
       (ap (λ (after : Board). result (accepted (e ∷ [])) after table)
       (ap (withLoad b e) (joined-on t e) ∙ withLoad-on y ms xs e (joinedAt xs t e) (inside e (engine-of b e (f .engine)))))
 
-  admitted-none : (t : ℕ) (table : List ℕ) (p : Bool) → TakesNone y ms xs t → placeable y es (withOne xs t) ≡ p
+  admitted-none : (t : ℕ) (table : Lent) (p : Bool) → TakesNone y ms xs t → placeable y es (withOne xs t) ≡ p
       → admitted b t table (firstOf (takesIn y xs t) es) ≡ result (refused fromState (cond p 23 24)) b (filled y es table)
   unfolding admitted
   admitted-none t table p f e =
       rw (f .found) (ap (λ (q : Bool). result (refused fromState (cond q 23 24)) b (filled y es table)) (ap (placeable y es) (newcomer-on t) ∙ e))
 
-  pub admit-view : (t : ℕ) (table : List ℕ) → longEnough y table ≡ true → AdmitView y ms xs t table (admitOf b t table)
+  pub admit-view : (t : ℕ) (table : Lent) → longEnough y table ≡ true → AdmitView y ms xs t table (admitOf b t table)
   unfolding admitOf
   admit-view t table long = by-checks (knownType y t) refl (underIn y xs t) refl form
     where
@@ -233,16 +234,16 @@ module _ (y : System) (ms : List Bool) (xs : List (List ℕ)) (keeps : keepsLimi
       let all : engineLimit ≡ y .engines + (engineLimit - y .engines) = omega (arith, limits .engines) in
       ap (boardOf y (paddedMarks y ms)) (ap (λ (n : ℕ). recoveredFor n y es x) all ∙ recoveredFor-more y limits es (engines-distinct b) x l w can (y .engines) (engines-known b) (engineLimit - y .engines))
 
-  reseated-yes : (x : List ℕ) (table : List ℕ) → length x ≡ typeLimit → within x (ceilingsOf y) ≡ true → placeable y es x ≡ true
+  reseated-yes : (x : List ℕ) (table : Lent) → length x ≡ typeLimit → within x (ceilingsOf y) ≡ true → placeable y es x ≡ true
       → reseated b x table ≡ result (accepted []) (boardOn y ms (recoveredFor (y .engines) y es x)) (filled y es table)
   unfolding reseated
   reseated-yes x table l w can = rw can (ap (λ (after : Board). result (accepted []) after (filled y es table)) (recovered-padded x l w can))
 
-  reseated-no : (x : List ℕ) (table : List ℕ) → placeable y es x ≡ false → reseated b x table ≡ result (refused fromState 24) b (filled y es table)
+  reseated-no : (x : List ℕ) (table : Lent) → placeable y es x ≡ false → reseated b x table ≡ result (refused fromState 24) b (filled y es table)
   unfolding reseated
   reseated-no x table cannot = rw cannot
 
-  pub seat-view : (t : ℕ) (table : List ℕ) → longEnough y table ≡ true → SeatView y ms xs t table (seatOf b t table)
+  pub seat-view : (t : ℕ) (table : Lent) → longEnough y table ≡ true → SeatView y ms xs t table (seatOf b t table)
   unfolding seatOf
   seat-view t table long = by-checks (knownType y t) refl (underIn y xs t) refl form
     where
@@ -275,7 +276,7 @@ module _ (y : System) (ms : List Bool) (xs : List (List ℕ)) (keeps : keepsLimi
   unfolding checkRetire
   retire-checks-on t e = rw (true-here, count-on t e)
 
-  pub retire-view : (t e : ℕ) (table : List ℕ) → RetireView y ms xs t table (retireOf b t e table) e
+  pub retire-view : (t e : ℕ) (table : Lent) → RetireView y ms xs t table (retireOf b t e table) e
   unfolding retireOf
   retire-view t e table = by-checks (knownType y t) refl (knownEngine y e) refl (leb 1 (countIn xs t e)) refl form
     where
@@ -302,11 +303,11 @@ module _ (y : System) (ms : List Bool) (xs : List (List ℕ)) (keeps : keepsLimi
   pub total-placeable : placeable y es (total xs) ≡ true
   total-placeable = feasible-iff-placeable y limits es (engines-distinct b) (total xs) (length-total v) (v .ceiling) .0 (served-feasible v es (engines-known b) (idle-outside y ms xs keeps v served))
 
-  repack-checks-on : (table : List ℕ) → longEnough y table ≡ true → checkRepack b (length table) ≡ passes
+  repack-checks-on : (table : Lent) → longEnough y table ≡ true → checkRepack b (length (table .rows)) (length (table .predecessors)) ≡ passes
   unfolding checkRepack
   repack-checks-on table long = rw (true-here, long)
 
-  pub repack-view : (table : List ℕ) → longEnough y table ≡ true → repackOf b table ≡ result (accepted []) (boardOn y ms (recoveredFor (y .engines) y es (total xs))) (filled y es table)
+  pub repack-view : (table : Lent) → longEnough y table ≡ true → repackOf b table ≡ result (accepted []) (boardOn y ms (recoveredFor (y .engines) y es (total xs))) (filled y es table)
   unfolding repackOf
   repack-view table long =
       ap (λ (c : Checked). checked c b table (reseated b (standing b) table)) (repack-checks-on table long)
@@ -325,7 +326,7 @@ module _ (y : System) (ms : List Bool) (xs : List (List ℕ)) (keeps : keepsLimi
   unfolding checkWithdraw
   withdraw-checks-on e = rw (true-here, marked-on y ms xs e, loadAt-on y ms xs e)
 
-  pub withdraw-view : (e : ℕ) (table : List ℕ) → WithdrawView y ms xs e table (withdrawOf b e table)
+  pub withdraw-view : (e : ℕ) (table : Lent) → WithdrawView y ms xs e table (withdrawOf b e table)
   unfolding withdrawOf
   withdraw-view e table = by-checks (knownEngine y e) refl (markIn ms e) refl (holdsNone (loadIn xs (e - 1))) refl form
     where
@@ -352,7 +353,7 @@ module _ (y : System) (ms : List Bool) (xs : List (List ℕ)) (keeps : keepsLimi
   unfolding checkRestore
   restore-checks-on e = rw (true-here, marked-on y ms xs e)
 
-  pub restore-view : (e : ℕ) (table : List ℕ) → RestoreView y ms xs e table (restoreOf b e table)
+  pub restore-view : (e : ℕ) (table : Lent) → RestoreView y ms xs e table (restoreOf b e table)
   unfolding restoreOf
   restore-view e table = by-checks (knownEngine y e) refl (markIn ms e) refl form
     where

@@ -1,4 +1,4 @@
--- The four calls of document 01 as they were defined before request 2026-07: over the engines 1 to m, whatever their marks. No code, contract or demand uses these definitions.
+-- The four calls of document 01 as they were defined before request 2026-07: over the engines 1 to m, whatever their marks. The table is that of request 2026-10. No code, contract or demand uses these definitions.
 -- `AsBefore` says that on a board without marks every call is still just that, and that the plain words mean what they meant, so that nobody has to compare.
 use Prim.Native.Nat.{ℕ, _-_}
 use mathlib.Core.List.{List, [], _∷_}
@@ -13,6 +13,7 @@ use Rattle.system.specs.Outcome.{accepted, refused, fromState, Checked, check, 
 use Rattle.loads.specs.Load.{within, oneMore, oneLess}
 use Rattle.partition.specs.Assignment.{enginesTo}
 use Rattle.partition.specs.ForSystem.{placeable, recoveredFor}
+use Rattle.partition.specs.Lent.{Lent}
 use Rattle.table.specs.Table.{roomCheck, filled}
 use Rattle.board.specs.declared.Board.{Board}
 use Rattle.board.specs.declared.Place.{Place}
@@ -36,36 +37,36 @@ boardCheckBefore b = check (trueBefore b) fromState 20
 abbrev pub enginesBefore : Board → List ℕ
 enginesBefore b = enginesTo (b .system .engines)
 
-abbrev pub checkNewcomerBefore : Board → ℕ → ℕ → Checked
-checkNewcomerBefore b t room = andThen (boardCheckBefore b) (andThen (typeCheck (b .system) t) (andThen (roomCheck (b .system) room) (ceilingCheck b t)))
+abbrev pub checkNewcomerBefore : Board → ℕ → ℕ → ℕ → Checked
+checkNewcomerBefore b t rows predecessors = andThen (boardCheckBefore b) (andThen (typeCheck (b .system) t) (andThen (roomCheck (b .system) rows predecessors) (ceilingCheck b t)))
 
-abbrev pub crowdedBefore : Board → ℕ → List ℕ → Result
+abbrev pub crowdedBefore : Board → ℕ → Lent → Result
 crowdedBefore b t table =
     result (refused fromState (cond (placeable (b .system) (enginesBefore b) (withNewcomer b t)) 23 24)) b (filled (b .system) (enginesBefore b) table)
 
-unfoldable pub admittedBefore : Board → ℕ → List ℕ → Place → Result
+unfoldable pub admittedBefore : Board → ℕ → Lent → Place → Result
 admittedBefore b t table (Engine e) = result (accepted (e ∷ [])) (withLoad b e (oneMore (t - 1) (loadAt b e))) table
 admittedBefore b t table Nowhere = crowdedBefore b t table
 
-abbrev pub admitBefore : Board → ℕ → List ℕ → Result
-admitBefore b t table = checked (checkNewcomerBefore b t (length table)) b table (admittedBefore b t table (firstOf (takes b t) (enginesBefore b)))
+abbrev pub admitBefore : Board → ℕ → Lent → Result
+admitBefore b t table = checked (checkNewcomerBefore b t (length (table .rows)) (length (table .predecessors))) b table (admittedBefore b t table (firstOf (takes b t) (enginesBefore b)))
 
-abbrev pub reseatedBefore : Board → List ℕ → List ℕ → Result
+abbrev pub reseatedBefore : Board → List ℕ → Lent → Result
 reseatedBefore b x table =
     cond (placeable (b .system) (enginesBefore b) x)
     (result (accepted []) (boardOf (b .system) (b .marks) (recoveredFor engineLimit (b .system) (enginesBefore b) x)) (filled (b .system) (enginesBefore b) table))
     (result (refused fromState 24) b (filled (b .system) (enginesBefore b) table))
 
-abbrev pub seatBefore : Board → ℕ → List ℕ → Result
-seatBefore b t table = checked (checkNewcomerBefore b t (length table)) b table (reseatedBefore b (withNewcomer b t) table)
+abbrev pub seatBefore : Board → ℕ → Lent → Result
+seatBefore b t table = checked (checkNewcomerBefore b t (length (table .rows)) (length (table .predecessors))) b table (reseatedBefore b (withNewcomer b t) table)
 
-abbrev pub retireBefore : Board → ℕ → ℕ → List ℕ → Result
+abbrev pub retireBefore : Board → ℕ → ℕ → Lent → Result
 retireBefore b t e table =
     checked (andThen (boardCheckBefore b) (andThen (typeCheck (b .system) t) (andThen (engineCheck (b .system) e) (heldCheck b t e)))) b table
     (result (accepted []) (withLoad b e (oneLess (t - 1) (loadAt b e))) table)
 
-abbrev pub repackBefore : Board → List ℕ → Result
-repackBefore b table = checked (andThen (boardCheckBefore b) (roomCheck (b .system) (length table))) b table (reseatedBefore b (standing b) table)
+abbrev pub repackBefore : Board → Lent → Result
+repackBefore b table = checked (andThen (boardCheckBefore b) (roomCheck (b .system) (length (table .rows)) (length (table .predecessors)))) b table (reseatedBefore b (standing b) table)
 
 -- no engine has a mark; that there are sixteen is what an array of the code always has
 pub record Unmarked (b : Board) : Type 0 where
@@ -74,10 +75,10 @@ pub record Unmarked (b : Board) : Type 0 where
 
 -- on such a board
 pub record AsBefore (b : Board) : Type 0 where
-  pub admits : (t : ℕ) (table : List ℕ) → admitOf b t table ≡ admitBefore b t table
-  pub seats : (t : ℕ) (table : List ℕ) → seatOf b t table ≡ seatBefore b t table
-  pub retires : (t e : ℕ) (table : List ℕ) → retireOf b t e table ≡ retireBefore b t e table
-  pub repacks : (table : List ℕ) → repackOf b table ≡ repackBefore b table
+  pub admits : (t : ℕ) (table : Lent) → admitOf b t table ≡ admitBefore b t table
+  pub seats : (t : ℕ) (table : Lent) → seatOf b t table ≡ seatBefore b t table
+  pub retires : (t e : ℕ) (table : Lent) → retireOf b t e table ≡ retireBefore b t e table
+  pub repacks : (table : Lent) → repackOf b table ≡ repackBefore b table
   -- "takes", "no room", "fewest" and the recovery are over the engines 1 to m, and engine i has row i
   pub engines : (e : ℕ) → EngineIn b e ↔ IsEngine b e
   pub rows : (e : ℕ) → servingTo b e ≡ e

@@ -12,6 +12,7 @@ use Rattle.system.specs.Layout.{readFile, readOutcome}
 use Rattle.system.specs.Outcome.{Outcome, accepted, refused, fromInput, fromState, outcomeOf, Checked, passes, fails, check, andThen}
 use Rattle.loads.specs.Load.{fitsEngine, holdsNone, oneMore, oneLess}
 use Rattle.partition.specs.ForSystem.{placeable, recoveredFor}
+use Rattle.partition.specs.Lent.{Lent}
 use Rattle.table.specs.Table.{roomCheck, filled}
 use Rattle.board.specs.declared.Board.{Board}
 use Rattle.board.specs.declared.Turn.{Turn}
@@ -20,13 +21,13 @@ use Rattle.board.specs.declared.Place.the-variants.{Engine, Nowhere}
 use Rattle.board.specs.Boards.{openedBoard, boardOf, withLoad, withMark, marked, enginesOf, loadAt, standing}
 use Rattle.board.specs.Truth.{trueBoard}
 
--- the answer of a call, the board after it, and what the lent table then holds
+-- the answer of a call, the board after it, and what the lent table, its two parts, then holds
 pub record Result : Type 0 where
   pub outcome : Outcome
   pub board : Board
-  pub table : List ℕ
+  pub table : Lent
 
-abbrev pub result : Outcome → Board → List ℕ → Result
+abbrev pub result : Outcome → Board → Lent → Result
 result o b table = record { outcome = o; board = b; table = table }
 
 -- The checks, each number decided once
@@ -74,17 +75,17 @@ stateCheck b e out = check (movable b e out) fromState 36
 abbrev pub emptyCheck : Board → ℕ → Checked
 emptyCheck b e = check (holdsNone (loadAt b e)) fromState 35
 
--- admit and seat: 20, 13, 11, 21, for a table of `room` entries
-unfoldable pub checkNewcomer : Board → ℕ → ℕ → Checked
-checkNewcomer b t room = andThen (boardCheck b) (andThen (typeCheck (b .system) t) (andThen (roomCheck (b .system) room) (ceilingCheck b t)))
+-- admit and seat: 20, 13, 11, 21, for parts of `rows` and of `predecessors` entries
+unfoldable pub checkNewcomer : Board → ℕ → ℕ → ℕ → Checked
+checkNewcomer b t rows predecessors = andThen (boardCheck b) (andThen (typeCheck (b .system) t) (andThen (roomCheck (b .system) rows predecessors) (ceilingCheck b t)))
 
 -- retire: 20, 13, 14, 22
 unfoldable pub checkRetire : Board → ℕ → ℕ → Checked
 checkRetire b t e = andThen (boardCheck b) (andThen (typeCheck (b .system) t) (andThen (engineCheck (b .system) e) (heldCheck b t e)))
 
--- repack: 20, 11
-unfoldable pub checkRepack : Board → ℕ → Checked
-checkRepack b room = andThen (boardCheck b) (roomCheck (b .system) room)
+-- repack: 20, 11, for such parts
+unfoldable pub checkRepack : Board → ℕ → ℕ → Checked
+checkRepack b rows predecessors = andThen (boardCheck b) (roomCheck (b .system) rows predecessors)
 
 -- restore: 20, 14, 36
 unfoldable pub checkRestore : Board → ℕ → Checked
@@ -95,7 +96,7 @@ unfoldable pub checkWithdraw : Board → ℕ → Checked
 checkWithdraw b e = andThen (boardCheck b) (andThen (engineCheck (b .system) e) (andThen (stateCheck b e true) (emptyCheck b e)))
 
 -- a refusal that leaves board and table as they were, or else the work
-abbrev pub checked : Checked → Board → List ℕ → Result → Result
+abbrev pub checked : Checked → Board → Lent → Result → Result
 checked (fails s n) b table work = result (refused s n) b table
 checked passes b table work = work
 
@@ -119,54 +120,54 @@ abbrev pub firstEngine : Board → ℕ → Place
 firstEngine b t = firstOf (takes b t) (enginesOf b)
 
 -- no engine takes the newcomer: 23 if a good assignment of all with it exists, else 24, and the table is left filled
-abbrev pub crowded : Board → ℕ → List ℕ → Result
+abbrev pub crowded : Board → ℕ → Lent → Result
 crowded b t table =
     result (refused fromState (cond (placeable (b .system) (enginesOf b) (withNewcomer b t)) 23 24)) b (filled (b .system) (enginesOf b) table)
 
 -- the newcomer goes to the engine that was found
-unfoldable pub admitted : Board → ℕ → List ℕ → Place → Result
+unfoldable pub admitted : Board → ℕ → Lent → Place → Result
 admitted b t table (Engine e) = result (accepted (e ∷ [])) (withLoad b e (oneMore (t - 1) (loadAt b e))) table
 admitted b t table Nowhere = crowded b t table
 
-unfoldable pub admitOf : Board → ℕ → List ℕ → Result
-admitOf b t table = checked (checkNewcomer b t (length table)) b table (admitted b t table (firstEngine b t))
+unfoldable pub admitOf : Board → ℕ → Lent → Result
+admitOf b t table = checked (checkNewcomer b t (length (table .rows)) (length (table .predecessors))) b table (admitted b t table (firstEngine b t))
 
 -- Seat, retire, repack
 
 -- the whole board becomes the recovery of the load x; 24 where there is none
-unfoldable pub reseated : Board → List ℕ → List ℕ → Result
+unfoldable pub reseated : Board → List ℕ → Lent → Result
 reseated b x table =
     cond (placeable (b .system) (enginesOf b) x)
     (result (accepted []) (boardOf (b .system) (b .marks) (recoveredFor engineLimit (b .system) (enginesOf b) x)) (filled (b .system) (enginesOf b) table))
     (result (refused fromState 24) b (filled (b .system) (enginesOf b) table))
 
-unfoldable pub seatOf : Board → ℕ → List ℕ → Result
-seatOf b t table = checked (checkNewcomer b t (length table)) b table (reseated b (withNewcomer b t) table)
+unfoldable pub seatOf : Board → ℕ → Lent → Result
+seatOf b t table = checked (checkNewcomer b t (length (table .rows)) (length (table .predecessors))) b table (reseated b (withNewcomer b t) table)
 
 -- one instance of type t leaves engine e; a retire takes no table
-unfoldable pub retireOf : Board → ℕ → ℕ → List ℕ → Result
+unfoldable pub retireOf : Board → ℕ → ℕ → Lent → Result
 retireOf b t e table =
     checked (checkRetire b t e) b table
     (result (accepted []) (withLoad b e (oneLess (t - 1) (loadAt b e))) table)
 
 -- the board becomes the recovery of what stands. A true board is a good assignment of it, so 24 does not arise: a law says so
-unfoldable pub repackOf : Board → List ℕ → Result
-repackOf b table = checked (checkRepack b (length table)) b table (reseated b (standing b) table)
+unfoldable pub repackOf : Board → Lent → Result
+repackOf b table = checked (checkRepack b (length (table .rows)) (length (table .predecessors))) b table (reseated b (standing b) table)
 
 -- Withdraw, restore: neither takes a table
 
 -- engine e, which holds nothing, goes out of service
-unfoldable pub withdrawOf : Board → ℕ → List ℕ → Result
+unfoldable pub withdrawOf : Board → ℕ → Lent → Result
 withdrawOf b e table = checked (checkWithdraw b e) b table (result (accepted []) (withMark b e true) table)
 
 -- engine e is put back
-unfoldable pub restoreOf : Board → ℕ → List ℕ → Result
+unfoldable pub restoreOf : Board → ℕ → Lent → Result
 restoreOf b e table = checked (checkRestore b e) b table (result (accepted []) (withMark b e false) table)
 
 -- What a call gives
 
 -- what a call gave: its answer, the board that it returned, and what the table then held
-abbrev pub gave : Turn → List ℕ → Result
+abbrev pub gave : Turn → Lent → Result
 gave r after = result (outcomeOf (r .answer)) (r .board) after
 
 -- what opening a file promises of its whole result
@@ -175,7 +176,7 @@ pub record Opens (file : List ℕ) (r : Turn) : Type 0 where
   pub board : r .board ≡ openedBoard (readFile file)
 
 -- what a call promises of its whole result, and of the table
-pub record Does (x : Result) (r : Turn) (after : List ℕ) : Type 0 where
+pub record Does (x : Result) (r : Turn) (after : Lent) : Type 0 where
   pub answer : outcomeOf (r .answer) ≡ x .outcome
   pub board : r .board ≡ x .board
   pub table : after ≡ x .table

@@ -4,6 +4,7 @@ pub mod Truth
 pub mod Calls
 pub mod Words
 pub mod Meaning
+pub mod Document01
 pub mod Releases
 pub mod Before
 pub mod Inner

@@ -1,16 +1,16 @@
 -- What each call promises besides the equation with its definition: demand 1 for every board, the order of the refusals, and what the call means for a true board,
 -- in the plain words of `Words`. Of the definitions of the calls only `Result` is known here, and `trueBoard`, which `TrueMeans` says in these words.
-use Prim.Native.Nat.{ℕ, _+_, _*_, _≤_, _<_}
+use Prim.Native.Nat.{ℕ, _≤_}
 use mathlib.Core.List.{List, [], _∷_}
 use mathlib.Core.Bool.{true, false}
 use mathlib.Core.Path.{_≡_}
 use mathlib.Core.Logic.{_↔_}
-use lib.ListN.{length}
 use Rattle.system.specs.declared.System.{System}
 use Rattle.system.specs.Layout.{readFile, opened, unread}
 use Rattle.system.specs.Outcome.{Outcome, Source, accepted, refused, fromInput, fromState, isAccepted}
 use Rattle.partition.specs.Assignment.{enginesTo}
-use Rattle.partition.specs.Plain.{columnsOut, LongEnough, recordNo, Stands, HoldsNothing}
+use Rattle.partition.specs.Lent.{Lent, lent}
+use Rattle.partition.specs.Plain.{LongEnough, TooShort, recordNo, Stands, HoldsNothing}
 use Rattle.table.specs.Table.{filled}
 use Rattle.table.specs.Meaning.{FilledMeans}
 use Rattle.board.specs.declared.Board.{Board}
@@ -34,7 +34,7 @@ pub record OpenMeans (file : List ℕ) (o : Outcome) (b : Board) : Type 0 where
 -- What each call means for a true board and a table that 11 passes
 
 -- admit: the newcomer is on the engine that was answered, the lowest that takes it. The table is filled only if there is none
-pub record AdmitMeans (b : Board) (t : ℕ) (table : List ℕ) (r : Result) : Type 0 where
+pub record AdmitMeans (b : Board) (t : ℕ) (table : Lent) (r : Result) : Type 0 where
   pub admits : BelowCeiling b t → (isAccepted (r .outcome) ≡ true) ↔ ((e : ℕ) × TakesType b t e)
   -- 23: "no engine takes it, but a good assignment of all with the newcomer exists"; 24: "no room: none exists"
   pub tight : BelowCeiling b t → (r .outcome ≡ refused fromState 23) ↔ (((e : ℕ) → TakesType b t e → ⊥) × Room b t)
@@ -49,7 +49,7 @@ pub record AdmitMeans (b : Board) (t : ℕ) (table : List ℕ) (r : Result) : Ty
   pub leftFilled : BelowCeiling b t → isAccepted (r .outcome) ≡ false → FilledMeans (b .system) (servingAll b) table (r .table)
 
 -- seat: succeeds exactly when there is room, and packs all with the newcomer on the fewest engines
-pub record SeatMeans (b : Board) (t : ℕ) (table : List ℕ) (r : Result) : Type 0 where
+pub record SeatMeans (b : Board) (t : ℕ) (table : Lent) (r : Result) : Type 0 where
   pub seats : BelowCeiling b t → (isAccepted (r .outcome) ≡ true) ↔ Room b t
   pub noRoom : BelowCeiling b t → (r .outcome ≡ refused fromState 24) ↔ NoRoom b t
   pub answer : isAccepted (r .outcome) ≡ true → r .outcome ≡ accepted []
@@ -67,7 +67,7 @@ pub record RetireMeans (b : Board) (t e : ℕ) (r : Result) : Type 0 where
   pub isTrue : isAccepted (r .outcome) ≡ true → IsTrue (r .board)
 
 -- repack: always succeeds, and packs what stands on the fewest engines
-pub record RepackMeans (b : Board) (table : List ℕ) (r : Result) : Type 0 where
+pub record RepackMeans (b : Board) (table : Lent) (r : Result) : Type 0 where
   pub repacks : r .outcome ≡ accepted []
   pub packs : Packed b (standsNo b) (r .board)
   pub recovers : RecoveredOn b (r .table) (standsNo b) (r .board)
@@ -90,10 +90,10 @@ pub record RestoreMeans (b : Board) (e : ℕ) (r : Result) : Type 0 where
 -- The orders of refusal, for every board and table: each number with its list is said exactly where its row says so and all that stand before it pass
 
 -- "admit 20, 13, 11, 21, 23 or 24; seat 20, 13, 11, 21, 24": what both begin with. Their meanings say when it is 23 or 24
-pub record NewcomerInOrder (b : Board) (t : ℕ) (table : List ℕ) (o : Outcome) : Type 0 where
+pub record NewcomerInOrder (b : Board) (t : ℕ) (table : Lent) (o : Outcome) : Type 0 where
   pub boardFirst : (o ≡ refused fromState 20) ↔ (IsTrue b → ⊥)
   pub thenType : IsTrue b → (o ≡ refused fromInput 13) ↔ (IsType b t → ⊥)
-  pub thenTable : IsTrue b → IsType b t → (o ≡ refused fromInput 11) ↔ (length table < (b .system .engines + 1) * columnsOut (b .system))
+  pub thenTable : IsTrue b → IsType b t → (o ≡ refused fromInput 11) ↔ TooShort (b .system) table
   pub thenCeiling : IsTrue b → IsType b t → LongEnough (b .system) table → (o ≡ refused fromState 21) ↔ (BelowCeiling b t → ⊥)
 
 -- "retire 20, 13, 14, 22"
@@ -104,9 +104,9 @@ pub record RetireInOrder (b : Board) (t e : ℕ) (o : Outcome) : Type 0 where
   pub thenHeld : IsTrue b → IsType b t → IsEngine b e → (o ≡ refused fromState 22) ↔ (HoldsType b t e → ⊥)
 
 -- "repack 20, 11"
-pub record RepackInOrder (b : Board) (table : List ℕ) (o : Outcome) : Type 0 where
+pub record RepackInOrder (b : Board) (table : Lent) (o : Outcome) : Type 0 where
   pub boardFirst : (o ≡ refused fromState 20) ↔ (IsTrue b → ⊥)
-  pub thenTable : IsTrue b → (o ≡ refused fromInput 11) ↔ (length table < (b .system .engines + 1) * columnsOut (b .system))
+  pub thenTable : IsTrue b → (o ≡ refused fromInput 11) ↔ TooShort (b .system) table
 
 -- request 2026-07: "35, when the engine to withdraw still holds an instance; 36, when it is already in the state wanted; both from the state, after 14, in the order 36, 35"
 pub record WithdrawInOrder (b : Board) (e : ℕ) (o : Outcome) : Type 0 where
@@ -122,7 +122,7 @@ pub record RestoreInOrder (b : Board) (e : ℕ) (o : Outcome) : Type 0 where
 
 -- Demand 1, for every board, true or not: a refused call hands back the board it was given, and the table as lent, except that 23 and 24 leave it filled.
 -- `left` is what the table holds after an accepted call: what it held before, or the table filled
-pub record Demand1 (b : Board) (table left : List ℕ) (r : Result) : Type 0 where
+pub record Demand1 (b : Board) (table left : Lent) (r : Result) : Type 0 where
   pub board : isAccepted (r .outcome) ≡ false → r .board ≡ b
   pub asLent : (s : Source) (n : ℕ) → r .outcome ≡ refused s n → (n ≡ 23 → ⊥) → (n ≡ 24 → ⊥) → r .table ≡ table
   pub filledOn23 : (s : Source) → r .outcome ≡ refused s 23 → r .table ≡ filled (b .system) (enginesTo (servingAll b)) table
@@ -131,32 +131,32 @@ pub record Demand1 (b : Board) (table left : List ℕ) (r : Result) : Type 0 whe
 
 -- What the contracts cite
 
-pub record AdmitPromises (b : Board) (t : ℕ) (table : List ℕ) (r : Result) : Type 0 where
+pub record AdmitPromises (b : Board) (t : ℕ) (table : Lent) (r : Result) : Type 0 where
   pub demand1 : Demand1 b table table r
   pub order : NewcomerInOrder b t table (r .outcome)
   pub means : IsTrue b → LongEnough (b .system) table → AdmitMeans b t table r
 
-pub record SeatPromises (b : Board) (t : ℕ) (table : List ℕ) (r : Result) : Type 0 where
+pub record SeatPromises (b : Board) (t : ℕ) (table : Lent) (r : Result) : Type 0 where
   pub demand1 : Demand1 b table (filled (b .system) (enginesTo (servingAll b)) table) r
   pub order : NewcomerInOrder b t table (r .outcome)
   pub means : IsTrue b → LongEnough (b .system) table → SeatMeans b t table r
 
 pub record RetirePromises (b : Board) (t e : ℕ) (r : Result) : Type 0 where
-  pub demand1 : Demand1 b [] [] r
+  pub demand1 : Demand1 b (lent [] []) (lent [] []) r
   pub order : RetireInOrder b t e (r .outcome)
   pub means : IsTrue b → RetireMeans b t e r
 
-pub record RepackPromises (b : Board) (table : List ℕ) (r : Result) : Type 0 where
+pub record RepackPromises (b : Board) (table : Lent) (r : Result) : Type 0 where
   pub demand1 : Demand1 b table (filled (b .system) (enginesTo (servingAll b)) table) r
   pub order : RepackInOrder b table (r .outcome)
   pub means : IsTrue b → LongEnough (b .system) table → RepackMeans b table r
 
 pub record WithdrawPromises (b : Board) (e : ℕ) (r : Result) : Type 0 where
-  pub demand1 : Demand1 b [] [] r
+  pub demand1 : Demand1 b (lent [] []) (lent [] []) r
   pub order : WithdrawInOrder b e (r .outcome)
   pub means : IsTrue b → WithdrawMeans b e r
 
 pub record RestorePromises (b : Board) (e : ℕ) (r : Result) : Type 0 where
-  pub demand1 : Demand1 b [] [] r
+  pub demand1 : Demand1 b (lent [] []) (lent [] []) r
   pub order : RestoreInOrder b e (r .outcome)
   pub means : IsTrue b → RestoreMeans b e r

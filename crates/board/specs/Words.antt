@@ -12,6 +12,7 @@ use Rattle.system.specs.declared.System.{System}
 use Rattle.loads.specs.declared.EngineLoad.{EngineLoad}
 use Rattle.partition.specs.Assignment.{Assignment, enginesTo}
 use Rattle.partition.specs.ForSystem.{rowsFor}
+use Rattle.partition.specs.Lent.{Lent}
 use Rattle.partition.specs.Plain.{typeNo, ceilingNo, LimitsOut, Partition, Impossible, recordNo, HoldsNothing, StandsOnFewest}
 use Rattle.table.specs.Meaning.{RecoveredBy}
 use Rattle.board.specs.declared.Board.{Board}
@@ -99,7 +100,7 @@ unfoldable pub servingTo : Board → ℕ → ℕ
 servingTo b zero = 0
 servingTo b (suc e) = servingTo b e + cond (markNo b (suc e)) 0 1
 
--- how many there are: the rows that a table has past row 0
+-- how many there are: the rows past row 0 that a table is filled for
 abbrev pub servingAll : Board → ℕ
 servingAll b = servingTo b (b .system .engines)
 
@@ -184,7 +185,7 @@ IsRecovery b count after =
     (e t : ℕ) → EngineIn b e → 1 ≤ t → countAt after e t ≡ getD (getD (rowsFor (b .system) (enginesTo (servingAll b)) (loadOut count)) (servingTo b e - 1) []) (t - 1) 0
 
 -- the same read in the table that the call leaves, in plain words: the i-th engine in service has row i (table/specs/Meaning)
-pub record RecoveredOn (b : Board) (table : List ℕ) (count : ℕ → ℕ) (after : Board) : Type 0 where
+pub record RecoveredOn (b : Board) (table : Lent) (count : ℕ → ℕ) (after : Board) : Type 0 where
   pub row : ℕ → ℕ → ℕ
   pub reads : RecoveredBy (b .system) table (usedRecords (after .loads)) count row
   pub holds : (e t : ℕ) → EngineIn b e → 1 ≤ t → countAt after e t ≡ row (servingTo b e) t

@@ -95,9 +95,9 @@ fn empty_check(b: Board, e: usize) -> Check
     Check::Fails(Refusal::State(35))
 }
 
-// Admit and seat: 20, 13, 11, 21, for a table of `room` entries.
-pub fn check_newcomer(b: Board, t: usize, room: usize) -> Check
-    ensures { λ r. ⌜ checkedOf r ≡ checkNewcomer b t room ⌝ }
+// Admit and seat: 20, 13, 11, 21, for parts of `rows` and of `predecessors` entries.
+pub fn check_newcomer(b: Board, t: usize, rows: usize, predecessors: usize) -> Check
+    ensures { λ r. ⌜ checkedOf r ≡ checkNewcomer b t rows predecessors ⌝ }
 {
     let board = board_check(b);
     if let Check::Fails(why) = board {
@@ -108,7 +108,7 @@ pub fn check_newcomer(b: Board, t: usize, room: usize) -> Check
     if let Check::Fails(why) = task {
         return Check::Fails(why);
     }
-    let table = table::table_check(y, room);
+    let table = table::table_check(y, rows, predecessors);
     if let Check::Fails(why) = table {
         return Check::Fails(why);
     }
@@ -135,15 +135,15 @@ pub fn check_retire(b: Board, t: usize, e: usize) -> Check
     held_check(b, t, e)
 }
 
-// Repack: 20, 11, for a table of `room` entries.
-pub fn check_repack(b: Board, room: usize) -> Check
-    ensures { λ r. ⌜ checkedOf r ≡ checkRepack b room ⌝ }
+// Repack: 20, 11, for such parts.
+pub fn check_repack(b: Board, rows: usize, predecessors: usize) -> Check
+    ensures { λ r. ⌜ checkedOf r ≡ checkRepack b rows predecessors ⌝ }
 {
     let board = board_check(b);
     if let Check::Fails(why) = board {
         return Check::Fails(why);
     }
-    table::table_check(b.system, room)
+    table::table_check(b.system, rows, predecessors)
 }
 
 // Restore: 20, 14, 36.

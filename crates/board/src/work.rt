@@ -6,8 +6,9 @@ ghost use lib.ListN.{length};
 ghost use Rattle.system.specs.Limits.{engineLimit};
 ghost use Rattle.system.specs.Values.{ceilingsOf};
 ghost use Rattle.loads.specs.Load.{fitsEngine, within, oneMore, oneLess};
+ghost use Rattle.partition.specs.Lent.{lent};
 ghost use Rattle.table.specs.Table.{longEnough};
-ghost use Rattle.table.specs.Recovery.{listed};
+ghost use Rattle.table.specs.Chain.{listed};
 ghost use Rattle.board.specs.Boards.{emptyBoard, withLoad, withMark, enginesOf, loadAt};
 ghost use Rattle.board.specs.Truth.{trueBoard};
 ghost use Rattle.board.specs.Calls.{knownType, takes, withNewcomer, firstEngine, crowded, reseated, Does};
@@ -153,13 +154,18 @@ pub fn leave(b: Board, t: usize, e: usize) -> Turn
 }
 
 // The whole board becomes the recovery of a load within the ceilings; 24 where there is none.
-pub fn reseat(b: Board, counts: [u16; TYPE_LIMIT], table: &mut [u16]) -> Turn
-    requires { ⌜ (trueBoard b ≡ true) × (longEnough (b .system) (now table) ≡ true) × (within counts (ceilingsOf (b .system)) ≡ true) ⌝ }
-    ensures { λ r. ⌜ Does (reseated b counts (now (table .entry))) r (now (table .exit)) ⌝ }
+pub fn reseat(
+    b: Board,
+    counts: [u16; TYPE_LIMIT],
+    rows: &mut [u16],
+    predecessors: &mut [u16],
+) -> Turn
+    requires { ⌜ (trueBoard b ≡ true) × (longEnough (b .system) (lent (now rows) (now predecessors)) ≡ true) × (within counts (ceilingsOf (b .system)) ≡ true) ⌝ }
+    ensures { λ r. ⌜ Does (reseated b counts (lent (now (rows .entry)) (now (predecessors .entry)))) r (lent (now (rows .exit)) (now (predecessors .exit))) ⌝ }
 {
     let y = b.system;
     let engines = engines_of(b);
-    let found = table::place(table, y, engines, counts);
+    let found = table::place(rows, predecessors, y, engines, counts);
     if !found.placed {
         return refuse(b, Refusal::State(24));
     }
@@ -176,14 +182,14 @@ pub fn reseat(b: Board, counts: [u16; TYPE_LIMIT], table: &mut [u16]) -> Turn
 }
 
 // No engine takes a newcomer of type t: 23 if a good assignment of all with it exists, else 24.
-pub fn no_engine(b: Board, t: usize, table: &mut [u16]) -> Turn
-    requires { ⌜ CheckedNewcomer b t × (longEnough (b .system) (now table) ≡ true) ⌝ }
-    ensures { λ r. ⌜ Does (crowded b t (now (table .entry))) r (now (table .exit)) ⌝ }
+pub fn no_engine(b: Board, t: usize, rows: &mut [u16], predecessors: &mut [u16]) -> Turn
+    requires { ⌜ CheckedNewcomer b t × (longEnough (b .system) (lent (now rows) (now predecessors)) ≡ true) ⌝ }
+    ensures { λ r. ⌜ Does (crowded b t (lent (now (rows .entry)) (now (predecessors .entry)))) r (lent (now (rows .exit)) (now (predecessors .exit))) ⌝ }
 {
     let y = b.system;
     let counts = with_newcomer(b, t);
     let engines = engines_of(b);
-    let found = table::place(table, y, engines, counts);
+    let found = table::place(rows, predecessors, y, engines, counts);
     if found.placed {
         return refuse(b, Refusal::State(23));
     }

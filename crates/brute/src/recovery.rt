@@ -4,6 +4,7 @@ use crate::search;
 use crate::search::Odometer;
 use loads::EngineLoad;
 use std::num::wrapping_add_usize;
+use system::COLUMN_LIMIT;
 use system::ENGINE_LIMIT;
 use system::System;
 use system::TYPE_LIMIT;
@@ -63,7 +64,7 @@ fn predecessor(y: System, load: [usize; 8], rows: usize) -> [usize; 8] {
         digits: [0; 8],
         wrapped: false,
     };
-    for turn in 0..1024usize {
+    for turn in 0..COLUMN_LIMIT {
         let digits = at.digits;
         if search::fits_one(y, less(load, digits)) {
             if search::fewest_on(y, digits, rows) <= rows {
@@ -104,7 +105,7 @@ pub fn column_of(y: System, load: [usize; 8]) -> usize {
         digits: [0; 8],
         wrapped: false,
     };
-    for column in 0..1024 {
+    for column in 0..COLUMN_LIMIT {
         let digits = at.digits;
         if at.wrapped | same_digits(digits, load) {
             return column;
@@ -112,24 +113,12 @@ pub fn column_of(y: System, load: [usize; 8]) -> usize {
         let next = search::counted_up(digits, bases);
         at = next;
     }
-    1024
+    COLUMN_LIMIT
 }
 
 // The columns of a system, counted: no load is 9 of a seventh type.
 pub fn columns_of(y: System) -> usize {
     column_of(y, [9; 8])
-}
-
-// The entries of rows 0 to m.
-pub fn entries_of(y: System) -> usize {
-    let columns = columns_of(y);
-    let mut entries: usize = columns;
-    for row in 0..ENGINE_LIMIT {
-        if row < y.engines {
-            entries = wrapping_add_usize(entries, columns);
-        }
-    }
-    entries
 }
 
 // What document 01's row holds at the column of a load: 65,535 where no assignment to that many engines is good.
@@ -143,35 +132,50 @@ pub fn cell_of(y: System, row: usize, load: [usize; 8]) -> usize {
     column_of(y, predecessor(y, load, row - 1))
 }
 
-// The cells of one row are those of document 01, by the brute search.
-fn right_row(y: System, table: [u16; 512], row: usize, start: usize) -> bool {
+// What the two parts hold at the column of a load.
+pub struct Entry {
+    pub row: usize,
+    pub predecessor: usize,
+}
+
+// The entry of a load (request 2026-10): the lowest row that says yes and document 01's cell there, `none` and 65,535 where no row does, and 65,535 for
+// the column of nothing.
+pub fn entry_of(y: System, none: usize, load: [usize; 8]) -> Entry {
+    let row = search::fewest_on(y, load, y.engines);
+    if y.engines < row {
+        return Entry {
+            row: none,
+            predecessor: 65535,
+        };
+    }
+    if row == 0 {
+        return Entry {
+            row,
+            predecessor: 65535,
+        };
+    }
+    Entry {
+        row,
+        predecessor: cell_of(y, row, load),
+    }
+}
+
+// Both parts hold at every column what the brute search says. The rows are those of the system's engines, and a column that they place not at all holds
+// `none` in the row part: one more than the engines of the platform, of which some may be out of service.
+pub fn right_parts(y: System, none: usize, rows: [u16; 512], predecessors: [u16; 512]) -> bool {
     let bases = bases_of(search::digits_of(ceilings_of(y)));
     let mut digits: [usize; 8] = [0; 8];
     let mut right = true;
-    for i in 0..512 {
-        if start <= i {
-            let load = digits;
-            right = right & (search::wide(table[i]) == cell_of(y, row, load));
-            let next = search::counted_up(load, bases);
-            if next.wrapped {
-                return right;
-            }
-            digits = next.digits;
+    for c in 0..512 {
+        let load = digits;
+        let e = entry_of(y, none, load);
+        right = right & (search::wide(rows[c]) == e.row);
+        right = right & (search::wide(predecessors[c]) == e.predecessor);
+        let next = search::counted_up(load, bases);
+        if next.wrapped {
+            return right;
         }
-    }
-    right
-}
-
-// So are those of all rows.
-pub fn right_cells(y: System, table: [u16; 512]) -> bool {
-    let columns = columns_of(y);
-    let mut right = true;
-    let mut start: usize = 0;
-    for row in 0..17 {
-        if row <= y.engines {
-            right = right & right_row(y, table, row, start);
-            start = wrapping_add_usize(start, columns);
-        }
+        digits = next.digits;
     }
     right
 }

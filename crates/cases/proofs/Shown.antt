@@ -7,7 +7,7 @@ use Rattle.loads.specs.Column.{columnFrom, loadOf}
 use Rattle.partition.specs.Assignment.{countOn, among, every, anyOf, passing, good, numbersFrom, eachBefore, placesOf, assignmentsOf, someGood}
 use Rattle.partition.specs.Shares.{sumOf, rowOn}
 use Rattle.partition.specs.Cell.{lowest, precedes, cell, lowestRow, recover, recovery}
-use Rattle.table.specs.Table.{upTo, filledTo}
+use Rattle.table.specs.Parts.{upTo}
 use Rattle.planner.specs.Plan.{verdictOf}
 use Rattle.board.specs.Truth.{trueLoads, trueMarks, trueBoard}
 use Rattle.board.specs.Calls.{checkNewcomer, firstOf, admitted, admitOf, reseated, seatOf, checkRetire, retireOf}
@@ -16,5 +16,5 @@ use Rattle.ledger.specs.Demand3.{boardAfter, played}
 use Rattle.cases.specs.Cases.{yesOf, cases, AllHold}
 
 pub shown : AllHold cases
-unfolding columnsOf typesKeep keepsLimits ruleOf platformFrom typeFrom dataFrom ruledHead headOf bodyOf ruledField fieldOf endOf fieldsFrom readFile sumOver apart fitsEngine holdsNone within plus less columnFrom loadOf countOn among every anyOf good numbersFrom eachBefore placesOf assignmentsOf someGood lowest precedes cell lowestRow recover recovery upTo filledTo verdictOf trueLoads trueMarks trueBoard firstOf checkNewcomer admitted admitOf reseated seatOf checkRetire retireOf sumOf rowOn passing countedOn admitEntry seatEntry retireEntry repackEntry step ledgerAfter ledgerAnswers boardAfter played yesOf cases
+unfolding columnsOf typesKeep keepsLimits ruleOf platformFrom typeFrom dataFrom ruledHead headOf bodyOf ruledField fieldOf endOf fieldsFrom readFile sumOver apart fitsEngine holdsNone within plus less columnFrom loadOf countOn among every anyOf good numbersFrom eachBefore placesOf assignmentsOf someGood lowest precedes cell lowestRow recover recovery upTo verdictOf trueLoads trueMarks trueBoard firstOf checkNewcomer admitted admitOf reseated seatOf checkRetire retireOf sumOf rowOn passing countedOn admitEntry seatEntry retireEntry repackEntry step ledgerAfter ledgerAnswers boardAfter played yesOf cases
 shown = refl

@@ -9,10 +9,12 @@ use Rattle.system.specs.Limits.{columns}
 use Rattle.system.specs.Layout.{readFile, readSystem}
 use Rattle.system.specs.Outcome.{Outcome, accepted, refused, fromInput, fromState}
 use Rattle.loads.specs.declared.EngineLoad.{EngineLoad}
-use Rattle.partition.specs.Assignment.{numbersFrom, enginesTo}
+use Rattle.partition.specs.Assignment.{numbersFrom}
 use Rattle.partition.specs.Cell.{saysYes}
 use Rattle.partition.specs.ForSystem.{cellFor}
-use Rattle.table.specs.Table.{filled}
+use Rattle.partition.specs.Lent.{Lent}
+use Rattle.table.specs.Table.{filledTo}
+use Rattle.table.specs.Document01.{filled01}
 use Rattle.planner.specs.Plan.{Verdict, verdictOf, planOutcome, planLoads}
 use Rattle.board.specs.Boards.{openedBoard}
 use Rattle.ledger.specs.Ledger.{Call, admit, seat, retire, freshLedger, ledgerAfter, ledgerAnswers}
@@ -50,9 +52,9 @@ systemOf file = readSystem (readFile file)
 abbrev pub systemA : System
 systemA = systemOf (fileA 3 3 2)
 
--- a table long enough for every system here, not cleared
-abbrev pub lent : List ℕ
-lent = replicate 64 7
+-- a table long enough for every system here, not cleared: none has more than 15 columns
+abbrev pub lent : Lent
+lent = record { rows = replicate 16 7; predecessors = replicate 16 8 }
 
 -- What the definitions give
 
@@ -64,9 +66,13 @@ yesOf p (c ∷ cs) = cond (p c) (c ∷ yesOf p cs) (yesOf p cs)
 abbrev pub yesColumns : System → ℕ → List ℕ
 yesColumns y i = yesOf (λ (c : ℕ). saysYes (cellFor y i c)) (numbersFrom 0 (columns y))
 
--- the entry of row i, column c in the filled table
+-- the entry of row i, column c in document 01's own table, filled
 abbrev pub entryAt : System → ℕ → ℕ → ℕ
-entryAt y i c = getD (filled y (enginesTo (y .engines)) lent) (i * columns y + c) 0
+entryAt y i c = getD (filled01 y (y .engines) (replicate 64 7)) (i * columns y + c) 0
+
+-- what the lent parts keep of it (request 2026-10): column c's lowest yes row and the predecessor there
+abbrev pub keptAt : System → ℕ → List ℕ
+keptAt y c = getD (filledTo y (y .engines) lent .rows) c 0 ∷ getD (filledTo y (y .engines) lent .predecessors) c 0 ∷ []
 
 -- engine by engine: time, memory and the counts of types 1 and 2
 abbrev pub lineOf : EngineLoad → List ℕ
@@ -147,6 +153,7 @@ cases =
     ∷ case 1 (numbers (yesColumns systemA 1)) (numbers (0 ∷ 1 ∷ 2 ∷ 4 ∷ 5 ∷ 8 ∷ 9 ∷ []))
     ∷ case 2 (number (cellFor systemA 2 11)) (number 2)
     ∷ case 2 (number (entryAt systemA 2 11)) (number 2)
+    ∷ case 2 (numbers (keptAt systemA 11)) (numbers (2 ∷ 2 ∷ []))
     ∷ case 3 (outcome (planAnswer (fileA 3 3 2))) (outcome (on 2))
     ∷ case 3 (lines (planLines 3 (fileA 3 3 2))) (lines ((8 ∷ 6 ∷ 2 ∷ 0 ∷ []) ∷ (10 ∷ 7 ∷ 1 ∷ 2 ∷ []) ∷ (0 ∷ 0 ∷ 0 ∷ 0 ∷ []) ∷ []))
     ∷ case 4 (outcome (planAnswer (fileB 4 0))) (outcome (on 4))

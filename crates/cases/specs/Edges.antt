@@ -1,4 +1,4 @@
--- Document 01's "Edges", and a file for every row of "From the input" that a file can be refused by: what it reads as against the number that 01 writes,
+-- Document 01's "Edges" with request 2026-10's columns, and a file for every row of "From the input" that a file can be refused by: what it reads as against the number that 01 writes,
 -- and the same of tag 3 (request 2026-03) and tag 4 (2026-04).
 use Prim.Native.Nat.{ℕ, zero, suc, _/_, _%_}
 use mathlib.Core.List.{List, [], _∷_, _++_, map}
@@ -67,6 +67,10 @@ edges =
     ∷ edge (platformWith 16 0 10 8 ++ goodType) 0
     ∷ edge (platformWith 16 1 1000000 1000000 ++ typeWith 1000000 1000000 1023) 0
     ∷ edge (withTypes (typeWith 4 3 31 ∷ typeWith 4 3 31 ∷ [])) 0
+    -- "Columns may be 4,096 (one type's n 4,095 is read, 4,096 refused 10)"
+    ∷ edge (withTypes (typeWith 4 3 1024 ∷ [])) 0
+    ∷ edge (withTypes (typeWith 4 3 4095 ∷ [])) 0
+    ∷ edge (withTypes (typeWith 4 3 63 ∷ typeWith 4 3 63 ∷ [])) 0
     ∷ edge (withTypes (replicate 6 goodType)) 0
     ∷ edge (withTypes (typeWith 0 0 0 ∷ [])) 0
     ∷ edge (withTypes (goodType ∷ dataWith 0 ∷ goodType ∷ [])) 0
@@ -118,10 +122,10 @@ edges =
     ∷ edge (withTypes (goodType ∷ dataWith 1000001 ∷ mostWith 0 ∷ [])) 8
     ∷ edge [] 9
     ∷ edge goodPlatform 9
-    ∷ edge (withTypes (typeWith 4 3 1024 ∷ [])) 10
-    ∷ edge (withTypes (typeWith 4 3 31 ∷ typeWith 4 3 32 ∷ [])) 10
+    ∷ edge (withTypes (typeWith 4 3 4096 ∷ [])) 10
+    ∷ edge (withTypes (typeWith 4 3 63 ∷ typeWith 4 3 64 ∷ [])) 10
     ∷ edge (withTypes (goodBoth ∷ mostWith 0 ∷ [])) 31
-    ∷ edge (withTypes (typeWith 4 3 1024 ∷ mostWith 0 ∷ typeWith 1000001 3 1 ∷ [])) 31
+    ∷ edge (withTypes (typeWith 4 3 4096 ∷ mostWith 0 ∷ typeWith 1000001 3 1 ∷ [])) 31
     -- "Fields are judged in file order": what an earlier field is refused with comes before any fault of a later one
     ∷ edge (platformWith 17 2 1000001 8 ++ (2 ∷ [])) 5
     ∷ edge (platformWith 0 0 10 8 ++ field 5 2 []) 5
@@ -133,7 +137,7 @@ edges =
     ∷ edge (withTypes (typeWith 4 1000001 1 ∷ (2 ∷ []) ∷ [])) 8
     ∷ edge (withTypes (goodType ∷ dataWith 1000001 ∷ dataWith 5 ∷ [])) 8
     -- "at the end 9, 10": a fault of a later field comes before them
-    ∷ edge (withTypes (typeWith 4 3 1024 ∷ typeWith 1000001 3 1 ∷ [])) 8
+    ∷ edge (withTypes (typeWith 4 3 4096 ∷ typeWith 1000001 3 1 ∷ [])) 8
     ∷ edge (goodPlatform ++ field 5 2 []) 2
     ∷ []
 

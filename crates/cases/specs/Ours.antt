@@ -1,24 +1,26 @@
--- Worked examples of our own beside W1 to W12: a recovery with three different loads, what a cell holds that says no, systems with d, systems with q, the pairs that a fill tries, and engines out of service.
+-- Worked examples of our own beside W1 to W12: a recovery with three different loads, what a cell holds that says no, systems with d, systems with q, the pairs that a fill tries, engines out of service, and what the two lent parts hold.
 use Prim.Native.Nat.{ℕ}
 use mathlib.Core.List.{List, [], _∷_, _++_, map}
 use lib.ListN.{take, replicate}
 use Rattle.system.specs.Layout.{readFile}
 use Rattle.system.specs.Outcome.{Outcome, refused, fromInput, fromState}
 use Rattle.loads.specs.declared.EngineLoad.{EngineLoad}
-use Rattle.table.specs.Pairs.{triedAt, pairsOf}
+use Rattle.partition.specs.Lent.{Lent}
+use Rattle.table.specs.Table.{filledTo}
+use Rattle.table.specs.Pairs.{triedAt, countedOf}
 use Rattle.planner.specs.Plan.{verdictOf, planOutcome, planLoads}
 use Rattle.board.specs.Boards.{openedBoard}
 use Rattle.ledger.specs.Ledger.{Call, admit, seat, retire, repack, withdraw, restore, freshLedger, ledgerAfter}
 use Rattle.ledger.specs.Demand3.{Made, boardAfter, answersOf, played}
-use Rattle.cases.specs.Cases.{platform, taskType, fileA, fileB, systemOf, systemA, entryAt, planAnswer, planLines, answers, boardLines, entered, counted, Case, case, number, numbers, lines, outcome, outcomes, done, on}
+use Rattle.cases.specs.Cases.{platform, taskType, fileA, fileB, systemOf, systemA, lent, entryAt, planAnswer, planLines, answers, boardLines, entered, counted, Case, case, number, numbers, lines, outcome, outcomes, done, on}
 
 -- system C: m 4, rule 0, U 10, S 9, and three types, each with n 2: u 5, s 2; u 2, s 3; u 4, s 4
 abbrev pub fileC : List ℕ
 fileC = platform 4 0 10 9 ++ taskType 5 2 2 ++ taskType 2 3 2 ++ taskType 4 4 2
 
--- long enough: (4 + 1) × 27 entries are needed
-abbrev pub lentC : List ℕ
-lentC = replicate 135 7
+-- long enough: there are 27 columns
+abbrev pub lentC : Lent
+lentC = record { rows = replicate 27 7; predecessors = replicate 27 8 }
 
 -- engine by engine: time, memory and the counts of types 1 to 3
 abbrev pub lineOfC : EngineLoad → List ℕ
@@ -89,6 +91,16 @@ callsF = admit 2 ∷ admit 2 ∷ admit 2 ∷ admit 2 ∷ retire 2 1 ∷ retire 2
 abbrev pub answersF : Outcome → List Outcome
 answersF last = on 1 ∷ on 1 ∷ on 2 ∷ on 2 ∷ done ∷ done ∷ on 1 ∷ last ∷ []
 
+-- both parts, one after the other, filled for r engines in service
+abbrev pub partsOf : List ℕ → ℕ → List (List ℕ)
+partsOf file r = filledTo (systemOf file) r lent .rows ∷ filledTo (systemOf file) r lent .predecessors ∷ []
+
+-- those of system A, m 3: its 12 columns, and what stood past them
+abbrev pub partsA : List (List ℕ)
+partsA =
+    (0 ∷ 1 ∷ 1 ∷ 2 ∷ 1 ∷ 1 ∷ 2 ∷ 2 ∷ 1 ∷ 1 ∷ 2 ∷ 2 ∷ 7 ∷ 7 ∷ 7 ∷ 7 ∷ [])
+    ∷ (65535 ∷ 0 ∷ 0 ∷ 1 ∷ 0 ∷ 0 ∷ 1 ∷ 2 ∷ 0 ∷ 0 ∷ 1 ∷ 2 ∷ 8 ∷ 8 ∷ 8 ∷ 8 ∷ []) ∷ []
+
 unfoldable pub ours : List Case
 ours =
     case 1 (outcome (planOutcome (verdictOf (readFile fileC) lentC 4))) (outcome (on 3))
@@ -126,11 +138,6 @@ ours =
     ∷ case 11 (outcomes (entered (fileF 2 (withQ 1) 4) callsF)) (outcomes (answersF (refused fromState 23)))
     ∷ case 11 (lines (boardLines 2 (fileF 2 (withQ 1) 4) (callsF ++ (seat 1 ∷ [])))) (lines (replicate 2 (6 ∷ 2 ∷ 1 ∷ 1 ∷ [])))
     ∷ case 11 (lines (counted (fileF 2 (withQ 1) 4) (callsF ++ (seat 1 ∷ [])))) (lines (replicate 2 (1 ∷ 1 ∷ [])))
-    -- pairs tried (request 2026-05). W2 again: row 2 of system A accepts column 2 for column 11, which has every column under it, so that three are tried; 46 in row 1 and 19 in row 2
-    ∷ case 12 (numbers (triedAt systemA 2 11)) (numbers (0 ∷ 1 ∷ 2 ∷ []))
-    ∷ case 12 (numbers (pairsOf systemA 1 ∷ pairsOf systemA 2 ∷ [])) (numbers (46 ∷ 65 ∷ []))
-    -- where no instance fits, every column under one is tried: 1 + 2 + 3 + 4 + 5 in each of four rows
-    ∷ case 13 (number (pairsOf (systemOf (platform 4 0 1 8 ++ taskType 2 5 4)) 4)) (number 60)
     -- engines out of service (request 2026-07), on the board and in the ledger: a recovery and an admit pass over them, there is no room on those left, and 36, 35, 14
     ∷ case 14 (outcomes (answersOf (madeC withoutTwo))) (outcomes (done ∷ on 1 ∷ on 1 ∷ on 3 ∷ on 3 ∷ on 1 ∷ done ∷ []))
     ∷ case 14 (lines (linesC withoutTwo)) (lines passedOver)
@@ -147,4 +154,26 @@ ours =
     ∷ case 18 (outcomes (planAnswer (fileD 0 0) ∷ planAnswer (fileD 1 0) ∷ [])) (outcomes (on 4 ∷ on 1 ∷ []))
     ∷ case 18 (outcomes (planAnswer (fileD 0 1) ∷ planAnswer (fileD 1 1) ∷ [])) (outcomes (on 4 ∷ on 2 ∷ []))
     ∷ case 18 (outcomes (planAnswer (fileD 0 3) ∷ planAnswer (fileD 1 3) ∷ [])) (outcomes (on 4 ∷ on 4 ∷ []))
+    ∷ []
+
+-- and two tables of their own, since one theorem may compute only so much: the pairs that a fill tries
+unfoldable pub ourPairs : List Case
+ourPairs =
+    -- pairs tried (requests 2026-05 and 2026-10). W2 again: row 2 of system A accepts column 2 for column 11, which has every column under it, so that three are tried;
+    -- 45 in row 1, and 12 in row 2 for the columns without a row yet
+    case 12 (numbers (triedAt systemA 2 11)) (numbers (0 ∷ 1 ∷ 2 ∷ []))
+    ∷ case 12 (numbers (countedOf systemA 1 ∷ countedOf systemA 2 ∷ [])) (numbers (45 ∷ 57 ∷ []))
+    -- where no instance fits, every column under one is tried, column 0's alone never: 2 + 3 + 4 + 5 in each of four rows
+    ∷ case 13 (number (countedOf (systemOf (platform 4 0 1 8 ++ taskType 2 5 4)) 4)) (number 56)
+    ∷ []
+
+-- and what it leaves in the two parts
+unfoldable pub ourParts : List Case
+ourParts =
+    -- the two parts (request 2026-10): of each column the lowest row that says yes, and the cell there
+    case 19 (lines (partsOf (fileA 3 3 2) 3)) (lines partsA)
+    -- "m+1 for none", and 65,535: system B, rule 0, m 3, on all engines, and where one and all of them are out of service
+    ∷ case 20 (lines (map (take 5) (partsOf (fileB 3 0) 3))) (lines ((0 ∷ 1 ∷ 2 ∷ 3 ∷ 4 ∷ []) ∷ (65535 ∷ 0 ∷ 1 ∷ 2 ∷ 65535 ∷ []) ∷ []))
+    ∷ case 20 (lines (map (take 5) (partsOf (fileB 3 0) 2))) (lines ((0 ∷ 1 ∷ 2 ∷ 4 ∷ 4 ∷ []) ∷ (65535 ∷ 0 ∷ 1 ∷ 65535 ∷ 65535 ∷ []) ∷ []))
+    ∷ case 20 (lines (map (take 5) (partsOf (fileB 3 0) 0))) (lines ((0 ∷ 4 ∷ 4 ∷ 4 ∷ 4 ∷ []) ∷ replicate 5 65535 ∷ []))
     ∷ []

@@ -19,12 +19,14 @@ use Rattle.system.proofs.Laws.{Limits, limits-of}
 use Rattle.loads.proofs.Order.{and-both}
 use Rattle.loads.proofs.Change.{length-oneMore}
 use Rattle.partition.specs.ForSystem.{placeable}
+use Rattle.partition.specs.Lent.{Lent}
 use Rattle.partition.specs.Plain.{LongEnough}
 use Rattle.partition.proofs.Standing.{length-total}
 use Rattle.partition.proofs.Plain.{ceiling-out}
 use Rattle.table.specs.declared.Placement.{Placement}
 use Rattle.table.specs.Table.{filled, placement}
 use Rattle.table.specs.Meaning.{FilledMeans}
+use Rattle.table.proofs.Room.{long-enough-out}
 use Rattle.table.proofs.Meaning.{filled-means}
 use Rattle.planner.specs.Plan.{tableLeft}
 use Rattle.board.specs.declared.Board.{Board}
@@ -38,7 +40,7 @@ use Rattle.board.proofs.Places.{engines-distinct, engines-known, engines-count,
 use Rattle.board.proofs.Plain.{more-out}
 use Rattle.board.proofs.Truth.{truth-of}
 use Rattle.board.proofs.TrueMeans.{stands-said, true-means}
-use Rattle.board.proofs.Means.{long-out, admit-means, seat-means}
+use Rattle.board.proofs.Means.{admit-means, seat-means}
 use Rattle.board.proofs.Order.{seat-in-order}
 use Rattle.board.proofs.Ready.{true-keeps, newcomer-range, newcomer-within}
 use Rattle.causes.specs.declared.Cause.{Cause}
@@ -50,16 +52,16 @@ use Rattle.causes.proofs.Means.{cause-means}
 use Rattle.causes.proofs.FromFile.{not-refused, found-placed}
 
 -- the answer and the table are those that are defined
-pub record GivesRoom (b : Board) (t : ℕ) (table : List ℕ) (r : CauseAnswer) (after : List ℕ) : Type 0 where
+pub record GivesRoom (b : Board) (t : ℕ) (table : Lent) (r : CauseAnswer) (after : Lent) : Type 0 where
   pub answer : causeOutcomeOf r ≡ roomCause b t table
   pub left : after ≡ roomCauseTable b t table
 
-module _ (b : Board) (t : ℕ) (table : List ℕ) where
+module _ (b : Board) (t : ℕ) (table : Lent) where
   abbrev y : System
   y = b .system
 
   abbrev checks : Checked
-  checks = checkNewcomer b t (length table)
+  checks = checkNewcomer b t (length (table .rows)) (length (table .predecessors))
 
   abbrev cause : Cause
   cause = causeOn y (enginesOf b) (withNewcomer b t)
@@ -127,7 +129,7 @@ module _ (b : Board) (t : ℕ) (table : List ℕ) where
 
     passed : checks ≡ passes
     unfolding checkNewcomer
-    passed = rw (is-true, is-known, long-out y table (limits .six) long, is-below)
+    passed = rw (is-true, is-known, long-enough-out y table (true-keeps b is-true) .1 long, is-below)
 
     told-is : roomCause b t table ≡ told cause
     told-is = rw passed
@@ -159,7 +161,7 @@ module _ (b : Board) (t : ℕ) (table : List ℕ) where
     no-room : NoRoom b t ↔ (roomCause b t table ≡ accepted (0 ∷ []) → ⊥)
     no-room = ((λ none zero. let (χ, p) = means-so .zero .0 zero in none χ p), (λ h χ p. h (means-so .zero .1 (χ, p))))
 
-    module _ (other : List ℕ) (room : LongEnough (b .system) other) where
+    module _ (other : Lent) (room : LongEnough (b .system) other) where
       admit-refused : (admitOf b t other .outcome ≡ refused fromState 24) ↔ (roomCause b t table ≡ accepted (0 ∷ []) → ⊥)
       admit-refused = let said = admit-means b w t other room .noRoom below in ((λ e. no-room .0 (said .0 e)), (λ h. said .1 (no-room .1 h)))
 
@@ -168,7 +170,7 @@ module _ (b : Board) (t : ℕ) (table : List ℕ) where
 
   -- main: any board
 
-  pub promises-of : (r : CauseAnswer) (after : List ℕ) → GivesRoom b t table r after → RoomCausePromises b t table r after
+  pub promises-of : (r : CauseAnswer) (after : Lent) → GivesRoom b t table r after → RoomCausePromises b t table r after
   promises-of r after g = record {
     answers = g .answer;
     leavesTable = g .left;
@@ -182,12 +184,13 @@ module _ (b : Board) (t : ℕ) (table : List ℕ) where
 
   -- main: the ways in which the call ends
 
-  pub checks-give : (why : Refusal) → failsWith why ≡ checkNewcomer b t (length table) → GivesRoom b t table (Refused why) table
+  pub checks-give : (why : Refusal) → failsWith why ≡ checkNewcomer b t (length (table .rows)) (length (table .predecessors)) → GivesRoom b t table (Refused why) table
   checks-give (Input n) failed = record { answer = rw (← failed); left = rw (← failed) }
   checks-give (State n) failed = record { answer = rw (← failed); left = rw (← failed) }
 
-  pub cause-gives : passes ≡ checkNewcomer b t (length table) → (c : Cause) → c ≡ causeOn (b .system) (enginesOf b) (withNewcomer b t) → GivesRoom b t table (Because c) (filled (b .system) (enginesOf b) table)
-  cause-gives ok c same = record { answer = rw (← ok, same); left = rw (← ok) }
+  pub cause-gives : passes ≡ checkNewcomer b t (length (table .rows)) (length (table .predecessors)) → (c : Cause) → c ≡ causeOn (b .system) (enginesOf b) (withNewcomer b t) → (after : Lent) → after ≡ filled (b .system) (enginesOf b) table
+      → GivesRoom b t table (Because c) after
+  cause-gives ok c same after full = record { answer = rw (← ok, same); left = rw (← ok) full }
 
 -- what the code hands out as the cause
 pub cause-found : (b : Board) (t engines : ℕ) (counts : List ℕ) {c : Cause} (found : Placement) → c ≡ causeOf (b .system) engines counts (found .placed) → engines ≡ length (enginesOf b) → counts ≡ withNewcomer b t

@@ -16,6 +16,7 @@ use Rattle.loads.specs.Load.{timeOf, memoryOf, fitsEngine, holdsNone, emptyLoad
 use Rattle.partition.specs.Assignment.{enginesTo}
 use Rattle.partition.specs.Cell.{lowest}
 use Rattle.partition.specs.ForSystem.{placeable}
+use Rattle.partition.specs.Lent.{Lent}
 use Rattle.table.specs.Table.{tableCheck, filled}
 use Rattle.planner.specs.Plan.{tableLeft}
 use Rattle.board.specs.declared.Board.{Board}
@@ -105,18 +106,18 @@ causeOn y es x = causeOf y (length es) x (placeable y es x)
 -- The calls
 
 -- from a file: "with plan's checks up to 11"; all n(t) instances of each type on the engines 1 to m
-abbrev pub planCause : Reading → List ℕ → Outcome
+abbrev pub planCause : Reading → Lent → Outcome
 planCause (unread n) table = refused fromInput n
 planCause (opened y) table = unlessFails (tableCheck y table) (told (causeOn y (enginesTo (y .engines)) (ceilingsOf y)))
 
 -- "the table is left filled", whatever the cause is; a refusal leaves it as lent
-abbrev pub planCauseTable : Reading → List ℕ → List ℕ
+abbrev pub planCauseTable : Reading → Lent → Lent
 planCauseTable (unread n) table = table
 planCauseTable (opened y) table = tableLeft (tableCheck y table) table (filled y (enginesTo (y .engines)) table)
 
 -- from a board and a newcomer's type: "with seat's up to 21"; what stands with the newcomer on the engines in service
-abbrev pub roomCause : Board → ℕ → List ℕ → Outcome
-roomCause b t table = unlessFails (checkNewcomer b t (length table)) (told (causeOn (b .system) (enginesOf b) (withNewcomer b t)))
+abbrev pub roomCause : Board → ℕ → Lent → Outcome
+roomCause b t table = unlessFails (checkNewcomer b t (length (table .rows)) (length (table .predecessors))) (told (causeOn (b .system) (enginesOf b) (withNewcomer b t)))
 
-abbrev pub roomCauseTable : Board → ℕ → List ℕ → List ℕ
-roomCauseTable b t table = tableLeft (checkNewcomer b t (length table)) table (filled (b .system) (enginesOf b) table)
+abbrev pub roomCauseTable : Board → ℕ → Lent → Lent
+roomCauseTable b t table = tableLeft (checkNewcomer b t (length (table .rows)) (length (table .predecessors))) table (filled (b .system) (enginesOf b) table)

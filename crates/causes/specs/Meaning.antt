@@ -2,16 +2,16 @@
 -- None of these words stands in the definitions by which the code is described, so that code and statement cannot be wrong together. That a case of `Cause` has its number (`causeNumber`,
 -- through which an answer is read here) is believed by reading; trial_causes tells the cases apart by their names.
 use Prim.Native.Nat.{ℕ, _+_, _*_, _≤_, _<_}
-use mathlib.Core.List.{List, [], _∷_}
+use mathlib.Core.List.{[], _∷_}
 use mathlib.Core.Path.{_≡_}
 use mathlib.Core.Logic.{_↔_, _⊎_}
-use lib.ListN.{length}
 use Rattle.system.specs.declared.Most.the-variants.{AtMost}
 use Rattle.system.specs.declared.System.{System}
 use Rattle.system.specs.Layout.{Reading, opened, unread}
 use Rattle.system.specs.Outcome.{Outcome, Source, accepted, refused, fromInput, fromState}
 use Rattle.partition.specs.Assignment.{Assignment}
-use Rattle.partition.specs.Plain.{typeNo, ceilingNo, columnsOut, LongEnough, EngineOf, Partition, Impossible}
+use Rattle.partition.specs.Lent.{Lent}
+use Rattle.partition.specs.Plain.{typeNo, ceilingNo, LongEnough, TooShort, EngineOf, Partition, Impossible}
 use Rattle.table.specs.Meaning.{FilledMeans}
 use Rattle.planner.specs.Plan.{verdictOf, planOutcome}
 use Rattle.board.specs.declared.Board.{Board}
@@ -109,35 +109,35 @@ pub record CauseMeans (y : System) (E : ℕ → Type 0) (r : ℕ) (count : ℕ �
 
 -- The call from a file
 
--- 1 to 10 and 31 as the file is read, then 11
-pub record PlanChecksInOrder (x : Reading) (table : List ℕ) (o : Outcome) : Type 0 where
+-- 1 to 10 and 31 as the file is read, then 11, for a part of the table that is shorter than the columns
+pub record PlanChecksInOrder (x : Reading) (table : Lent) (o : Outcome) : Type 0 where
   pub fileFirst : (n : ℕ) → x ≡ unread n → o ≡ refused fromInput n
-  pub thenTable : (y : System) → x ≡ opened y → (o ≡ refused fromInput 11) ↔ (length table < (y .engines + 1) * columnsOut y)
+  pub thenTable : (y : System) → x ≡ opened y → (o ≡ refused fromInput 11) ↔ TooShort y table
 
 -- What the call `why_no_plan` promises: its answer and the table, whole; the order of its refusals; demand 1; that the table is left filled; what its cause says of n(t)
 -- instances of each type on the engines 1 to m; and that a plan with table and list long enough is refused 12 exactly when the cause is not 0
-pub record PlanCausePromises (x : Reading) (table : List ℕ) (r : CauseAnswer) (after : List ℕ) : Type 0 where
+pub record PlanCausePromises (x : Reading) (table : Lent) (r : CauseAnswer) (after : Lent) : Type 0 where
   pub answers : causeOutcomeOf r ≡ planCause x table
   pub leavesTable : after ≡ planCauseTable x table
   pub order : PlanChecksInOrder x table (causeOutcomeOf r)
   pub asLent : (s : Source) (n : ℕ) → causeOutcomeOf r ≡ refused s n → after ≡ table
   pub leftFilled : (y : System) → x ≡ opened y → LongEnough y table → FilledMeans y (y .engines) table after
   pub means : (y : System) → x ≡ opened y → LongEnough y table → CauseMeans y (EngineOf y) (y .engines) (ceilingNo y) (causeOutcomeOf r)
-  pub refused12 : (y : System) → x ≡ opened y → LongEnough y table → (other : List ℕ) (room : ℕ) → LongEnough y other → y .engines ≤ room
+  pub refused12 : (y : System) → x ≡ opened y → LongEnough y table → (other : Lent) (room : ℕ) → LongEnough y other → y .engines ≤ room
       → (planOutcome (verdictOf x other room) ≡ refused fromInput 12) ↔ (causeOutcomeOf r ≡ accepted (0 ∷ []) → ⊥)
 
 -- The call from a board
 
 -- What the call `why_no_room` promises: its answer and the table, whole; the order 20, 13, 11, 21; demand 1; and for a true board, a type below its ceiling and a table long enough,
 -- that the table is left filled, what the cause says of what stands and the newcomer on the engines in service, and that an admit and a seat are refused 24 exactly when it is not 0
-pub record RoomCausePromises (b : Board) (t : ℕ) (table : List ℕ) (r : CauseAnswer) (after : List ℕ) : Type 0 where
+pub record RoomCausePromises (b : Board) (t : ℕ) (table : Lent) (r : CauseAnswer) (after : Lent) : Type 0 where
   pub answers : causeOutcomeOf r ≡ roomCause b t table
   pub leavesTable : after ≡ roomCauseTable b t table
   pub order : NewcomerInOrder b t table (causeOutcomeOf r)
   pub asLent : (s : Source) (n : ℕ) → causeOutcomeOf r ≡ refused s n → after ≡ table
   pub leftFilled : IsTrue b → LongEnough (b .system) table → BelowCeiling b t → FilledMeans (b .system) (servingAll b) table after
   pub means : IsTrue b → LongEnough (b .system) table → BelowCeiling b t → CauseMeans (b .system) (EngineIn b) (servingAll b) (plusOne t (standsNo b)) (causeOutcomeOf r)
-  pub admit24 : IsTrue b → LongEnough (b .system) table → BelowCeiling b t → (other : List ℕ) → LongEnough (b .system) other
+  pub admit24 : IsTrue b → LongEnough (b .system) table → BelowCeiling b t → (other : Lent) → LongEnough (b .system) other
       → (admitOf b t other .outcome ≡ refused fromState 24) ↔ (causeOutcomeOf r ≡ accepted (0 ∷ []) → ⊥)
-  pub seat24 : IsTrue b → LongEnough (b .system) table → BelowCeiling b t → (other : List ℕ) → LongEnough (b .system) other
+  pub seat24 : IsTrue b → LongEnough (b .system) table → BelowCeiling b t → (other : Lent) → LongEnough (b .system) other
       → (seatOf b t other .outcome ≡ refused fromState 24) ↔ (causeOutcomeOf r ≡ accepted (0 ∷ []) → ⊥)

@@ -11,7 +11,7 @@ use libc::STDOUT_FILENO;
 use loads::EngineLoad;
 use system::Answer;
 use system::Refusal;
-use table::entries_needed;
+use table::columns_needed;
 use table::fill_table;
 
 // Opens a board, makes its calls, and says what each answered. Each call takes the board that the call before it handed back, also where
@@ -27,23 +27,27 @@ fn main() {
     let Answer::Accepted = answer else {
         return;
     };
-    // Admit and seat work in a lent table of (2 + 1) × (3 + 1) × (2 + 1) entries or more. 17,408 are enough for every system.
-    say_number(b"table: entries needed", entries_needed(file));
-    let mut table = [0u16; 36];
+    // Admit and seat work in a lent table of two parts, of (3 + 1) × (2 + 1) entries or more each. 4,096 are enough for every system.
+    say_number(b"table: columns needed", columns_needed(file));
+    let mut rows = [0u16; 12];
+    let mut predecessors = [0u16; 12];
     // What a fill costs is told by the pairs that it tries: at most 2 × (4 × 5 / 2) × (3 × 4 / 2) here.
-    say_number(b"table: pairs tried", fill_table(file, &mut table));
+    say_number(
+        b"table: pairs tried",
+        fill_table(file, &mut rows, &mut predecessors),
+    );
     let b = opened.board;
-    let b = admitted(b, 1, &mut table);
-    let b = admitted(b, 1, &mut table);
-    let b = admitted(b, 1, &mut table);
-    let b = admitted(b, 2, &mut table);
-    let b = admitted(b, 2, &mut table);
+    let b = admitted(b, 1, &mut rows, &mut predecessors);
+    let b = admitted(b, 1, &mut rows, &mut predecessors);
+    let b = admitted(b, 1, &mut rows, &mut predecessors);
+    let b = admitted(b, 2, &mut rows, &mut predecessors);
+    let b = admitted(b, 2, &mut rows, &mut predecessors);
     let b = retired(b, 1, 1);
     let b = retired(b, 2, 2);
-    let b = admitted(b, 2, &mut table);
+    let b = admitted(b, 2, &mut rows, &mut predecessors);
     // No engine takes this one as things stand, but after moving others there is room: refused 23. So the operator seats it.
-    let b = admitted(b, 1, &mut table);
-    let b = seated(b, 1, &mut table);
+    let b = admitted(b, 1, &mut rows, &mut predecessors);
+    let b = seated(b, 1, &mut rows, &mut predecessors);
     say_board(b);
     let b = with_failure(b);
     say_board(b);
@@ -52,7 +56,8 @@ fn main() {
 // Engine 2 fails: its instances move to engine 1 as far as there is room, and the engine is put back when it is mended. The table is another
 // one than before, which changes no answer.
 fn with_failure(b: Board) -> Board {
-    let mut table = [0u16; 36];
+    let mut rows = [0u16; 12];
+    let mut predecessors = [0u16; 12];
     // One of type 1 is no longer wanted, which leaves room on engine 1.
     let b = retired(b, 1, 1);
     // An engine that still holds an instance is not withdrawn: refused 35.
@@ -61,17 +66,17 @@ fn with_failure(b: Board) -> Board {
     let b = retired(b, 2, 2);
     let b = retired(b, 2, 2);
     let b = withdrawn(b, 2);
-    let b = admitted(b, 2, &mut table);
-    let b = admitted(b, 2, &mut table);
+    let b = admitted(b, 2, &mut rows, &mut predecessors);
+    let b = admitted(b, 2, &mut rows, &mut predecessors);
     // Engine 1 is full, and engine 2 out of service: no room, refused 24, until it is back.
-    let b = admitted(b, 1, &mut table);
+    let b = admitted(b, 1, &mut rows, &mut predecessors);
     let b = restored(b, 2);
-    admitted(b, 1, &mut table)
+    admitted(b, 1, &mut rows, &mut predecessors)
 }
 
 // Admits one instance of type t, says what was answered, and hands on the board.
-fn admitted(b: Board, t: usize, table: &mut [u16]) -> Board {
-    let turn = admit(b, t, table);
+fn admitted(b: Board, t: usize, rows: &mut [u16], predecessors: &mut [u16]) -> Board {
+    let turn = admit(b, t, rows, predecessors);
     let answer = turn.answer;
     say_named(b"admit", t);
     say(b":");
@@ -80,8 +85,8 @@ fn admitted(b: Board, t: usize, table: &mut [u16]) -> Board {
 }
 
 // Seats one instance of type t, which may move others.
-fn seated(b: Board, t: usize, table: &mut [u16]) -> Board {
-    let turn = seat(b, t, table);
+fn seated(b: Board, t: usize, rows: &mut [u16], predecessors: &mut [u16]) -> Board {
+    let turn = seat(b, t, rows, predecessors);
     let answer = turn.answer;
     say_named(b"seat", t);
     say(b":");

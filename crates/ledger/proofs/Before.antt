@@ -10,6 +10,7 @@ use Rattle.system.specs.Limits.{engineLimit}
 use Rattle.system.specs.Layout.{readFile, opened}
 use Rattle.loads.specs.Load.{oneMore}
 use Rattle.partition.specs.Assignment.{passing, enginesTo}
+use Rattle.partition.specs.Lent.{Lent, lent}
 use Rattle.partition.proofs.Lists.{every-parts, every-always, passing-all, getD-padded}
 use Rattle.board.specs.declared.Board.{Board}
 use Rattle.board.specs.Boards.{openedBoard}
@@ -22,10 +23,10 @@ use Rattle.ledger.proofs.Demand3.{asked-played}
 
 -- intermediate: on the board
 
-old-marks : (b : Board) (c : Call) (table : List ℕ) → isOld c ≡ true → callOn b c table .board .marks ≡ b .marks
+old-marks : (b : Board) (c : Call) (table : Lent) → isOld c ≡ true → callOn b c table .board .marks ≡ b .marks
 old-marks b (admit t) table h = admit-marks b t table
 old-marks b (seat t) table h = seat-marks b t table
-old-marks b (retire t e) table h = retire-marks b t e []
+old-marks b (retire t e) table h = retire-marks b t e (lent [] [])
 old-marks b repack table h = repack-marks b table
 old-marks b (withdraw e) table h = absurd (false≢true h)
 old-marks b (restore e) table h = absurd (false≢true h)

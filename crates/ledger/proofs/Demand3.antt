@@ -1,6 +1,6 @@
 -- Demand 3: by induction on the list of calls. The invariant: board and ledger hold the same valid loads and marks on the engines 1 to m.
 -- What the code gave is what the definitions give, since each contract promises that; so the demand holds of it too.
-use Prim.Native.Nat.{ℕ, _+_, _-_, _*_, _≤_}
+use Prim.Native.Nat.{ℕ, _+_, _-_, _≤_}
 use mathlib.Core.Path.{_≡_, refl, sym, ap, subst, _∙_}
 use mathlib.Core.List.{List, [], _∷_, _++_, map, head-eq-of-cons-eq, tail-eq-of-cons-eq, nil≢cons}
 use mathlib.Core.Bool.{Bool, true, false}
@@ -12,6 +12,7 @@ use Rattle.system.specs.Layout.{readFile, opened}
 use Rattle.system.proofs.Laws.{Limits, limits-of, read-keeps-limits}
 use Rattle.loads.specs.Load.{emptyLoad}
 use Rattle.loads.proofs.Order.{cons-path}
+use Rattle.partition.specs.Lent.{Lent}
 use Rattle.partition.specs.Plain.{columnsOut, LongEnough, EngineOf, Stands}
 use Rattle.partition.proofs.Lists.{getD-padded}
 use Rattle.partition.proofs.Standing.{Valid, total, total-empty, valid-empty}
@@ -165,7 +166,7 @@ demand3 file y rs opens long =
 abbrev askedBy : List Ran → List Request
 askedBy rs = map (λ (r : Ran). r .asked) rs
 
-gave-same : (x : Result) (t : Turn) (after : List ℕ) → Does x t after → gave t after ≡ x
+gave-same : (x : Result) (t : Turn) (after : Lent) → Does x t after → gave t after ≡ x
 gave-same x t after d = λ i. record { outcome = d .answer i; board = d .board i; table = d .table i }
 
 promised-played : (b : Board) (rs : List Ran) → Promised b rs → map madeBy rs ≡ played b (askedBy rs)
@@ -182,8 +183,8 @@ demand3-runs file y start rs opens starts promised long =
     subst (Demand3 y (start .board)) (sym (promised-played (start .board) rs promised))
     (subst (λ (a : Board). Demand3 y a (played a (askedBy rs))) (sym (starts .board)) (demand3 file y (askedBy rs) opens long))
 
--- what is supposed of the tables, in numbers: an admit, a seat and a repack are lent (m+1) × columns entries or more, whatever they hold; nothing is asked of the other calls
-pub long-tables : (y : System) (rs : List Request) → ((before after : List Request) (r : Request) → rs ≡ before ++ r ∷ after → lendsTable (r .call) ≡ true → (y .engines + 1) * columnsOut y ≤ length (r .table)) → LongTables y rs
+-- what is supposed of the tables, in numbers: an admit, a seat and a repack are lent two parts of as many entries as there are columns or more, whatever they hold; nothing is asked of the other calls
+pub long-tables : (y : System) (rs : List Request) → ((before after : List Request) (r : Request) → rs ≡ before ++ r ∷ after → lendsTable (r .call) ≡ true → (columnsOut y ≤ length (r .table .rows)) × (columnsOut y ≤ length (r .table .predecessors))) → LongTables y rs
 long-tables y rs h = h
 
 pub lends-none : (t e : ℕ) → (lendsTable (retire t e) ≡ false) × (lendsTable (withdraw e) ≡ false) × (lendsTable (restore e) ≡ false)

@@ -19,12 +19,14 @@ use Rattle.loads.proofs.Order.{and-parts}
 use Rattle.loads.proofs.Change.{getD-oneMore, getD-oneLess}
 use Rattle.partition.specs.Assignment.{among, every, passing, enginesTo, someGood}
 use Rattle.partition.specs.ForSystem.{placeable, recoveredFor}
+use Rattle.partition.specs.Lent.{Lent, lent}
 use Rattle.partition.specs.Plain.{ceilingNo, LongEnough}
 use Rattle.partition.proofs.Lists.{not-both, or-cases, among-here, among-more, among-tested}
 use Rattle.partition.proofs.ForSystem.{someGood-placeable}
 use Rattle.partition.proofs.Plain.{ceiling-out}
 use Rattle.partition.proofs.Standing.{Valid, total, length-total, count-le-sum, total-joined, valid-joined, total-left, valid-left, total-recovered, valid-recovered}
 use Rattle.table.specs.Table.{longEnough, filled}
+use Rattle.table.proofs.Room.{long-enough-out}
 use Rattle.board.specs.declared.Board.{Board}
 use Rattle.board.specs.Calls.{Result, result, knownType}
 use Rattle.board.proofs.Plain.{same-number}
@@ -59,12 +61,12 @@ use Rattle.board.proofs.Views.{
   withdraw-view,
   restore-view,
 }
-use Rattle.board.proofs.Means.{long-out, empty-row, admit-means, seat-means, retire-means, repack-means, withdraw-means, restore-means}
+use Rattle.board.proofs.Means.{empty-row, admit-means, seat-means, retire-means, repack-means, withdraw-means, restore-means}
 use Rattle.ledger.specs.Ledger.{Call, admit, seat, retire, repack, withdraw, restore, Ledger, ledgerWith, engines, isFull, Entry, entry, countedOn, admitEntry, seatEntry, retireEntry, repackEntry, withdrawEntry, restoreEntry, step}
 use Rattle.ledger.specs.Demand3.{callOn, lendsTable, addsType, retiresType, CallKept}
 
 -- what one call does to the board and the ledger of the marks ms and the loads xs
-pub record Step (y : System) (ms : List Bool) (xs : List (List ℕ)) (c : Call) (table : List ℕ) : Type 0 where
+pub record Step (y : System) (ms : List Bool) (xs : List (List ℕ)) (c : Call) (table : Lent) : Type 0 where
   pub rows : List (List ℕ)
   pub marks : List Bool
   pub valid : Valid y rows
@@ -126,7 +128,7 @@ module _ (y : System) (ms : List Bool) (xs : List (List ℕ)) (keeps : keepsLimi
 
   -- intermediate: the two ways that a call ends
 
-  refused-step : (c : Call) (table : List ℕ) (s : Source) (n : ℕ) (after : List ℕ) → callOn b c table ≡ result (refused s n) b after → step l c ≡ entry (refused s n) l → Step y ms xs c table
+  refused-step : (c : Call) (table : Lent) (s : Source) (n : ℕ) (after : Lent) → callOn b c table ≡ result (refused s n) b after → step l c ≡ entry (refused s n) l → Step y ms xs c table
   refused-step c table s n after p q = record {
     rows = xs;
     marks = ms;
@@ -138,7 +140,7 @@ module _ (y : System) (ms : List Bool) (xs : List (List ℕ)) (keeps : keepsLimi
     stand = λ t h. rw (p, and-false (retiresType t c), and-false (addsType t c));
   }
 
-  accepted-step : (c : Call) (table : List ℕ) (ns : List ℕ) (marks : List Bool) (rows : List (List ℕ)) (after : List ℕ) → Valid y rows → Served y marks rows
+  accepted-step : (c : Call) (table : Lent) (ns : List ℕ) (marks : List Bool) (rows : List (List ℕ)) (after : Lent) → Valid y rows → Served y marks rows
       → callOn b c table ≡ result (accepted ns) (boardOn y marks rows) after → step l c ≡ entry (accepted ns) (ledgerWith y marks rows)
       → ((t : ℕ) → 1 ≤ t → getD (total rows) (t - 1) 0 + cond (retiresType t c) 1 0 ≡ getD (total xs) (t - 1) 0 + cond (addsType t c) 1 0)
       → Step y ms xs c table
@@ -186,7 +188,7 @@ module _ (y : System) (ms : List Bool) (xs : List (List ℕ)) (keeps : keepsLimi
 
   -- main: admit
 
-  admit-step : (t : ℕ) (table : List ℕ) → longEnough y table ≡ true → Step y ms xs (admit t) table
+  admit-step : (t : ℕ) (table : Lent) → longEnough y table ≡ true → Step y ms xs (admit t) table
   unfolding step admitEntry countedOn
   admit-step t table long = by-view (admit-view y ms xs keeps v served t table long)
     where
@@ -209,7 +211,7 @@ module _ (y : System) (ms : List Bool) (xs : List (List ℕ)) (keeps : keepsLimi
 
   -- main: seat
 
-  seat-step : (t : ℕ) (table : List ℕ) → longEnough y table ≡ true → Step y ms xs (seat t) table
+  seat-step : (t : ℕ) (table : Lent) → longEnough y table ≡ true → Step y ms xs (seat t) table
   unfolding step seatEntry
   seat-step t table long = by-view (seat-view y ms xs keeps v served t table long)
     where
@@ -230,17 +232,17 @@ module _ (y : System) (ms : List Bool) (xs : List (List ℕ)) (keeps : keepsLimi
 
   -- main: retire
 
-  retire-step : (t e : ℕ) (table : List ℕ) → Step y ms xs (retire t e) table
+  retire-step : (t e : ℕ) (table : Lent) → Step y ms xs (retire t e) table
   unfolding step retireEntry
-  retire-step t e table = by-view (retire-view y ms xs keeps v served t e [])
+  retire-step t e table = by-view (retire-view y ms xs keeps v served t e (lent [] []))
     where
-      by-view : RetireView y ms xs t [] (callOn b (retire t e) table) e → Step y ms xs (retire t e) table
-      by-view (RetireView.unknown k s) = refused-step (retire t e) table fromInput 13 [] s (rw k)
-      by-view (RetireView.noEngine k d s) = refused-step (retire t e) table fromInput 14 [] s (rw (k, d))
+      by-view : RetireView y ms xs t (lent [] []) (callOn b (retire t e) table) e → Step y ms xs (retire t e) table
+      by-view (RetireView.unknown k s) = refused-step (retire t e) table fromInput 13 (lent [] []) s (rw k)
+      by-view (RetireView.noEngine k d s) = refused-step (retire t e) table fromInput 14 (lent [] []) s (rw (k, d))
       by-view (RetireView.noneThere k d none s) =
-          refused-step (retire t e) table fromState 22 [] s (rw (k, d, eq-eqb (countIn xs t e) 0 (let z = leb-false 1 (countIn xs t e) none in omega arith)))
+          refused-step (retire t e) table fromState 22 (lent [] []) s (rw (k, d, eq-eqb (countIn xs t e) 0 (let z = leb-false 1 (countIn xs t e) none in omega arith)))
       by-view (RetireView.leaves k d some s) =
-          accepted-step (retire t e) table [] ms (set xs (e - 1) (leftAt xs t e)) []
+          accepted-step (retire t e) table [] ms (set xs (e - 1) (leftAt xs t e)) (lent [] [])
           (valid-left y xs v (e - 1) (t - 1) index held)
           (served-set y ms xs served (e - 1) (leftAt xs t e) (held-unmarked y ms xs served (e - 1) (t - 1) held))
           s
@@ -259,7 +261,7 @@ module _ (y : System) (ms : List Bool) (xs : List (List ℕ)) (keeps : keepsLimi
 
   -- main: repack
 
-  repack-step : (table : List ℕ) → longEnough y table ≡ true → Step y ms xs repack table
+  repack-step : (table : Lent) → longEnough y table ≡ true → Step y ms xs repack table
   unfolding step repackEntry
   repack-step table long =
       let can = total-placeable y ms xs keeps v served in
@@ -272,46 +274,46 @@ module _ (y : System) (ms : List Bool) (xs : List (List ℕ)) (keeps : keepsLimi
 
   -- main: withdraw and restore
 
-  withdraw-step : (e : ℕ) (table : List ℕ) → Step y ms xs (withdraw e) table
+  withdraw-step : (e : ℕ) (table : Lent) → Step y ms xs (withdraw e) table
   unfolding step withdrawEntry
-  withdraw-step e table = by-view (withdraw-view y ms xs keeps v served e [])
+  withdraw-step e table = by-view (withdraw-view y ms xs keeps v served e (lent [] []))
     where
-      by-view : WithdrawView y ms xs e [] (callOn b (withdraw e) table) → Step y ms xs (withdraw e) table
-      by-view (WithdrawView.noEngine d s) = refused-step (withdraw e) table fromInput 14 [] s (rw d)
-      by-view (WithdrawView.already d m s) = refused-step (withdraw e) table fromState 36 [] s (rw (d, m))
-      by-view (WithdrawView.holds d m some s) = refused-step (withdraw e) table fromState 35 [] s (rw (d, m, some))
+      by-view : WithdrawView y ms xs e (lent [] []) (callOn b (withdraw e) table) → Step y ms xs (withdraw e) table
+      by-view (WithdrawView.noEngine d s) = refused-step (withdraw e) table fromInput 14 (lent [] []) s (rw d)
+      by-view (WithdrawView.already d m s) = refused-step (withdraw e) table fromState 36 (lent [] []) s (rw (d, m))
+      by-view (WithdrawView.holds d m some s) = refused-step (withdraw e) table fromState 35 (lent [] []) s (rw (d, m, some))
       by-view (WithdrawView.goes d m none s) =
-          accepted-step (withdraw e) table [] (set ms (e - 1) true) xs [] v
+          accepted-step (withdraw e) table [] (set ms (e - 1) true) xs (lent [] []) v
           (served-marked y ms xs served (e - 1) (empty-row y ms xs keeps v served e (known-engine y ms xs keeps v served e d) none))
           s
           (rw (d, m, none))
           (λ u h. refl)
 
-  restore-step : (e : ℕ) (table : List ℕ) → Step y ms xs (restore e) table
+  restore-step : (e : ℕ) (table : Lent) → Step y ms xs (restore e) table
   unfolding step restoreEntry
-  restore-step e table = by-view (restore-view y ms xs keeps v served e [])
+  restore-step e table = by-view (restore-view y ms xs keeps v served e (lent [] []))
     where
-      by-view : RestoreView y ms xs e [] (callOn b (restore e) table) → Step y ms xs (restore e) table
-      by-view (RestoreView.noEngine d s) = refused-step (restore e) table fromInput 14 [] s (rw d)
-      by-view (RestoreView.already d m s) = refused-step (restore e) table fromState 36 [] s (rw (d, m))
+      by-view : RestoreView y ms xs e (lent [] []) (callOn b (restore e) table) → Step y ms xs (restore e) table
+      by-view (RestoreView.noEngine d s) = refused-step (restore e) table fromInput 14 (lent [] []) s (rw d)
+      by-view (RestoreView.already d m s) = refused-step (restore e) table fromState 36 (lent [] []) s (rw (d, m))
       by-view (RestoreView.comes d m s) =
-          accepted-step (restore e) table [] (set ms (e - 1) false) xs [] v (served-cleared y ms xs served (e - 1)) s (rw (d, m)) (λ u h. refl)
+          accepted-step (restore e) table [] (set ms (e - 1) false) xs (lent [] []) v (served-cleared y ms xs served (e - 1)) s (rw (d, m)) (λ u h. refl)
 
   -- main: every call
 
-  pub step-of : (c : Call) (table : List ℕ) → (lendsTable c ≡ true → LongEnough y table) → Step y ms xs c table
-  step-of (admit t) table long = admit-step t table (long-out y table (limits .six) (long refl))
-  step-of (seat t) table long = seat-step t table (long-out y table (limits .six) (long refl))
+  pub step-of : (c : Call) (table : Lent) → (lendsTable c ≡ true → LongEnough y table) → Step y ms xs c table
+  step-of (admit t) table long = admit-step t table (long-enough-out y table keeps .1 (long refl))
+  step-of (seat t) table long = seat-step t table (long-enough-out y table keeps .1 (long refl))
   step-of (retire t e) table long = retire-step t e table
-  step-of repack table long = repack-step table (long-out y table (limits .six) (long refl))
+  step-of repack table long = repack-step table (long-enough-out y table keeps .1 (long refl))
   step-of (withdraw e) table long = withdraw-step e table
   step-of (restore e) table long = restore-step e table
 
   -- what the call means, on the board that it is given
-  pub kept-of : (c : Call) (table : List ℕ) → (lendsTable c ≡ true → LongEnough y table) → CallKept b c table (callOn b c table)
+  pub kept-of : (c : Call) (table : Lent) → (lendsTable c ≡ true → LongEnough y table) → CallKept b c table (callOn b c table)
   kept-of (admit t) table long = admit-means b (true-on y ms xs keeps v served) t table (long refl)
   kept-of (seat t) table long = seat-means b (true-on y ms xs keeps v served) t table (long refl)
-  kept-of (retire t e) table long = retire-means b (true-on y ms xs keeps v served) t e []
+  kept-of (retire t e) table long = retire-means b (true-on y ms xs keeps v served) t e (lent [] [])
   kept-of repack table long = repack-means b (true-on y ms xs keeps v served) table (long refl)
-  kept-of (withdraw e) table long = withdraw-means b (true-on y ms xs keeps v served) e []
-  kept-of (restore e) table long = restore-means b (true-on y ms xs keeps v served) e []
+  kept-of (withdraw e) table long = withdraw-means b (true-on y ms xs keeps v served) e (lent [] [])
+  kept-of (restore e) table long = restore-means b (true-on y ms xs keeps v served) e (lent [] [])

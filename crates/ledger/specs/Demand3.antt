@@ -8,6 +8,7 @@ use lib.ListN.{getD}
 use lib.Dec.{eqb}
 use Rattle.system.specs.declared.System.{System}
 use Rattle.system.specs.Outcome.{Outcome, isAccepted}
+use Rattle.partition.specs.Lent.{Lent, lent}
 use Rattle.partition.specs.Plain.{LongEnough, EngineOf, Stands}
 use Rattle.board.specs.declared.Board.{Board}
 use Rattle.board.specs.declared.Turn.{Turn}
@@ -19,7 +20,7 @@ use Rattle.ledger.specs.Ledger.{Call, admit, seat, retire, repack, withd
 -- a call with the table that is lent to it; a retire, a withdraw and a restore take none, and their table is not looked at
 pub record Request : Type 0 where
   pub call : Call
-  pub table : List ℕ
+  pub table : Lent
 
 -- a call that was made, and what it gave
 pub record Made : Type 0 where
@@ -78,7 +79,7 @@ LongTables y rs = (before after : List Request) (r : Request) → rs ≡ before 
 -- The demand
 
 -- what it says of one call, of the board b that it was given and its result: all that the call means
-abbrev pub CallKept : Board → Call → List ℕ → Result → Type 0
+abbrev pub CallKept : Board → Call → Lent → Result → Type 0
 CallKept b (admit t) table r = AdmitMeans b t table r
 CallKept b (seat t) table r = SeatMeans b t table r
 CallKept b (retire t e) table r = RetireMeans b t e r
@@ -110,13 +111,13 @@ pub record Demand3 (y : System) (start : Board) (ms : List Made) : Type 0 where
 -- Two ways to come to such calls
 
 -- by the definitions that the code's contracts cite: each call gets the board that the call before it returned, after a refusal too
-abbrev pub callOn : Board → Call → List ℕ → Result
+abbrev pub callOn : Board → Call → Lent → Result
 callOn b (admit t) table = admitOf b t table
 callOn b (seat t) table = seatOf b t table
-callOn b (retire t e) table = retireOf b t e []
+callOn b (retire t e) table = retireOf b t e (lent [] [])
 callOn b repack table = repackOf b table
-callOn b (withdraw e) table = withdrawOf b e []
-callOn b (restore e) table = restoreOf b e []
+callOn b (withdraw e) table = withdrawOf b e (lent [] [])
+callOn b (restore e) table = restoreOf b e (lent [] [])
 
 abbrev pub answerOn : Board → Request → Result
 answerOn b r = callOn b (r .call) (r .table)
@@ -129,7 +130,7 @@ played b (r ∷ rs) = record { asked = r; gives = answerOn b r } ∷ played (ans
 pub record Ran : Type 0 where
   pub asked : Request
   pub turn : Turn
-  pub after : List ℕ
+  pub after : Lent
 
 abbrev pub madeBy : Ran → Made
 madeBy r = record { asked = r .asked; gives = gave (r .turn) (r .after) }

@@ -1,12 +1,12 @@
 -- The refusals and demand 2 of the listing, from what a plan promises: the records that are listed are those of the partition that the plan's loads are.
-use Prim.Native.Nat.{ℕ, _+_, _-_, _*_, _≤_, _<_}
+use Prim.Native.Nat.{ℕ, _-_, _≤_, _<_}
 use mathlib.Core.Path.{_≡_, refl, sym, ap, subst, _∙_}
 use mathlib.Core.Bool.{Bool, true, false, cond}
 use mathlib.Core.List.{List, [], _∷_, _++_}
 use mathlib.Core.Logic.{_↔_}
 use native.Mathlib.Omega.{arith}
-use borrow.Author.Tests.{leb-true, leb-false, eqb-true, eqb-false}
-use lib.Dec.{leb, eqb}
+use borrow.Author.Tests.{eqb-true, eqb-false}
+use lib.Dec.{eqb}
 use lib.ListN.{length, getD}
 use Rattle.system.specs.declared.System.{System}
 use Rattle.system.specs.declared.Answer.{Answer}
@@ -16,11 +16,14 @@ use Rattle.system.specs.declared.Refusal.the-variants.{Input, State}
 use Rattle.system.specs.Limits.{engineLimit}
 use Rattle.system.specs.Layout.{readFile, opened}
 use Rattle.system.specs.Outcome.{accepted, refused, fromInput, outcomeOf}
-use Rattle.system.proofs.Laws.{Limits, read-limits}
+use Rattle.system.proofs.Laws.{Limits, read-limits, read-keeps-limits}
 use Rattle.loads.specs.declared.EngineLoad.{EngineLoad}
 use Rattle.partition.specs.Assignment.{Assignment}
+use Rattle.partition.specs.Lent.{Lent}
 use Rattle.partition.specs.OwnWords.{overInstances, memoryOn, sharedMemoryOn}
-use Rattle.partition.specs.Plain.{ceilingNo, columnsOut, LongEnough, EngineOf, placesNo, Partition, Impossible, RecordIs, recordNo, StandsOnFewest}
+use Rattle.partition.specs.Plain.{ceilingNo, LongEnough, TooShort, EngineOf, placesNo, Partition, Impossible, RecordIs, recordNo, StandsOnFewest}
+use Rattle.table.specs.Table.{longEnough}
+use Rattle.table.proofs.Room.{long-enough-out, too-short-out}
 use Rattle.planner.specs.declared.Plan.{Plan}
 use Rattle.planner.specs.Demands.{PlanPromises}
 use Rattle.planner.proofs.Demands.{used-within}
@@ -30,12 +33,12 @@ use Rattle.listing.proofs.Lines.{refused-told, told-once, no-plan-told,
 
 -- what is taken from the plan's promises, a law for each field
 
-module _ (file table : List ℕ) (p : Plan) (after : List ℕ) (promises : PlanPromises (readFile file) table engineLimit p after) where
+module _ (file : List ℕ) (table : Lent) (p : Plan) (after : Lent) (promises : PlanPromises (readFile file) table engineLimit p after) where
   module _ (y : System) (opens : readFile file ≡ opened y) where
     limits : Limits y
     limits = read-limits file y opens
 
-    plan-short : length table < (y .engines + 1) * columnsOut y → outcomeOf (p .answer) ≡ refused fromInput 11
+    plan-short : TooShort y table → outcomeOf (p .answer) ≡ refused fromInput 11
     plan-short short = promises .order .thenTable y opens .1 short
 
     plan-impossible : LongEnough y table → (outcomeOf (p .answer) ≡ refused fromInput 12) ↔ Impossible y (EngineOf y) (ceilingNo y)
@@ -97,7 +100,7 @@ not-refused a ns given (State n) e = let z : _≡_ {A = ℕ} 0 1 = cc in absurd 
 
 -- main: demand 2 and the refusals
 
-module _ (file table : List ℕ) (p : Plan) (after : List ℕ) (promises : PlanPromises (readFile file) table engineLimit p after)
+module _ (file : List ℕ) (table : Lent) (p : Plan) (after : Lent) (promises : PlanPromises (readFile file) table engineLimit p after)
     (records : ((why : Refusal) → p .answer ≡ Refused why → ⊥) → p .used ≤ length (p .loads) → ((e : ℕ) → 1 ≤ e → e ≤ p .used → p .typecount ≤ length (recordNo (p .loads) e .counts)) → TellsRecords (p .used) (p .typecount) (p .loads) (planListing p)) where
   plan-listed : (y : System) → readFile file ≡ opened y → LongEnough y table → (χ : Assignment) → Partition y (EngineOf y) (ceilingNo y) χ → TellsPlan y (planListing p)
   plan-listed y opens long χ can =
@@ -130,12 +133,12 @@ module _ (file table : List ℕ) (p : Plan) (after : List ℕ) (promises : PlanP
   pub listing-refuses : ListingRefuses file table (planListing p)
   listing-refuses = record {
     unreadable = λ n e. refused-listed n (promises .order .fileFirst n e);
-    shortTable = λ y opens. ((λ r. go y opens r (leb ((y .engines + 1) * columnsOut y) (length table)) refl), (λ short. refused-listed 11 (plan-short file table p after promises y opens short)));
+    shortTable = λ y opens. ((λ r. go y opens r (longEnough y table) refl), (λ short. refused-listed 11 (plan-short file table p after promises y opens short)));
   }
     where
-      go : (y : System) → readFile file ≡ opened y → TellsRefusal 11 (planListing p) → (b : Bool) → leb ((y .engines + 1) * columnsOut y) (length table) ≡ b → length table < (y .engines + 1) * columnsOut y
+      go : (y : System) → readFile file ≡ opened y → TellsRefusal 11 (planListing p) → (b : Bool) → longEnough y table ≡ b → TooShort y table
       go y opens r true q =
-          let long = leb-true ((y .engines + 1) * columnsOut y) (length table) q in
+          let long = long-enough-out y table (read-keeps-limits file y opens) .0 q in
           let same : _≡_ {A = ℕ} 11 12 = told-once r (listing-demand2 .impossible y opens long .1 (λ χ can. no-plan-told r (plan-listed y opens long χ can))) in
           absurd (omega arith)
-      go y opens r false q = leb-false ((y .engines + 1) * columnsOut y) (length table) q
+      go y opens r false q = too-short-out y table (read-keeps-limits file y opens) .0 q

@@ -8,15 +8,16 @@ use Rattle.system.specs.Layout.{fieldAt, bodyAt, ruleOf, platformFrom, typeFrom
 use Rattle.loads.specs.Load.{sumOver, apart, fitsEngine, within, less}
 use Rattle.loads.specs.Column.{columnFrom, loadOf}
 use Rattle.partition.specs.Assignment.{numbersFrom}
+use Rattle.partition.specs.Lent.{Lent, lent}
 use Rattle.partition.specs.Shares.{rowOn}
 use Rattle.partition.specs.Cell.{lowest, precedes, cell, lowestRow, recover, recovery}
 use Rattle.planner.specs.Plan.{verdictOf, recordsFrom}
 use Rattle.listing.specs.Listing.{decimalFrom, parted, engineLine, recordLines, listingOf, fileListing}
 use Rattle.listing.specs.Text.{readingVerdict, fileText}
 
--- a table that is long enough for each of them
-abbrev table : List ℕ
-table = replicate 48 0
+-- a table that is long enough for each of them: system A has 12 columns
+abbrev table : Lent
+table = lent (replicate 12 0) (replicate 12 0)
 
 -- document 01's system A, with its two ceilings
 abbrev systemA : ℕ → ℕ → List ℕ
@@ -31,13 +32,13 @@ systemB m =
     1 ∷ 0 ∷ 10 ∷ m ∷ 0 ∷ 0 ∷ 0 ∷ 0 ∷ 10 ∷ 0 ∷ 0 ∷ 0 ∷ 8
     ∷ 2 ∷ 0 ∷ 10 ∷ 0 ∷ 0 ∷ 0 ∷ 2 ∷ 0 ∷ 0 ∷ 0 ∷ 5 ∷ 0 ∷ 4 ∷ []
 
--- a type with u 1, s 1 and n 3; six of them have 4,096 columns
-abbrev typeOfThree : List ℕ
-typeOfThree = 2 ∷ 0 ∷ 10 ∷ 0 ∷ 0 ∷ 0 ∷ 1 ∷ 0 ∷ 0 ∷ 0 ∷ 1 ∷ 0 ∷ 3 ∷ []
+-- a type with u 1, s 1 and n; six of them with n 3 have 4,096 columns, and with one n of 4 there are 5,120
+abbrev typeOf : ℕ → List ℕ
+typeOf n = 2 ∷ 0 ∷ 10 ∷ 0 ∷ 0 ∷ 0 ∷ 1 ∷ 0 ∷ 0 ∷ 0 ∷ 1 ∷ 0 ∷ n ∷ []
 
-abbrev sixTypes : List ℕ
-sixTypes =
-    1 ∷ 0 ∷ 10 ∷ 3 ∷ 0 ∷ 0 ∷ 0 ∷ 0 ∷ 10 ∷ 0 ∷ 0 ∷ 0 ∷ 8 ∷ (typeOfThree ++ typeOfThree ++ typeOfThree ++ typeOfThree ++ typeOfThree ++ typeOfThree)
+abbrev sixTypes : ℕ → List ℕ
+sixTypes n =
+    1 ∷ 0 ∷ 10 ∷ 3 ∷ 0 ∷ 0 ∷ 0 ∷ 0 ∷ 10 ∷ 0 ∷ 0 ∷ 0 ∷ 8 ∷ (typeOf 3 ++ typeOf 3 ++ typeOf 3 ++ typeOf 3 ++ typeOf 3 ++ typeOf n)
 
 -- engines 2 | engine 1 util 8 mem 6 types 2 0 | engine 2 util 10 mem 7 types 1 2, byte by byte: the words too are fixed by this
 abbrev twoEngines : List ℕ
@@ -74,15 +75,15 @@ pub examples : map (λ (file : List ℕ). fileListing file table) (systemA 3 2 �
 unfolding fieldAt bodyAt ruleOf platformFrom typeFrom ruledHead headOf bodyOf ruledField fieldOf endOf fieldsFrom readFile columnsOf sumOver apart fitsEngine within less columnFrom loadOf lowest precedes cell lowestRow recover recovery rowOn numbersFrom verdictOf recordsFrom decimalFrom parted engineLine recordLines listingOf
 examples = refl
 
--- an empty file is `refused 9`, m 17 is `refused 5`, six types of too many columns are `refused 10`, of program `plan` too; a table that is too short is `refused 11`
-pub refusal-examples : map (λ (file : List ℕ). fileListing file table) ([] ∷ systemB 17 ∷ sixTypes ∷ []) ≡ refused9 ∷ refused5 ∷ refused10 ∷ []
+-- an empty file is `refused 9`, m 17 is `refused 5`, six types of too many columns are `refused 10`, of program `plan` too; a table of which a part is too short is `refused 11`
+pub refusal-examples : map (λ (file : List ℕ). fileListing file table) ([] ∷ systemB 17 ∷ sixTypes 4 ∷ sixTypes 3 ∷ []) ≡ refused9 ∷ refused5 ∷ refused10 ∷ refused11 ∷ []
 unfolding fieldAt bodyAt ruleOf platformFrom typeFrom ruledHead headOf bodyOf ruledField fieldOf endOf fieldsFrom readFile columnsOf verdictOf decimalFrom parted listingOf
 refusal-examples = refl
 
-pub text-examples : map fileText ([] ∷ systemB 17 ∷ sixTypes ∷ []) ≡ refused9 ∷ refused5 ∷ refused10 ∷ []
+pub text-examples : map fileText ([] ∷ systemB 17 ∷ sixTypes 4 ∷ []) ≡ refused9 ∷ refused5 ∷ refused10 ∷ []
 unfolding fieldAt bodyAt ruleOf platformFrom typeFrom ruledHead headOf bodyOf ruledField fieldOf endOf fieldsFrom readFile columnsOf readingVerdict decimalFrom parted listingOf
 text-examples = refl
 
-pub short-table-example : fileListing (systemA 3 2) (replicate 47 0) ≡ refused11
+pub short-table-example : map (fileListing (systemA 3 2)) (lent (replicate 11 0) (replicate 12 0) ∷ lent (replicate 12 0) (replicate 11 0) ∷ []) ≡ refused11 ∷ refused11 ∷ []
 unfolding fieldAt bodyAt ruleOf platformFrom typeFrom ruledHead headOf bodyOf ruledField fieldOf endOf fieldsFrom readFile columnsOf verdictOf decimalFrom parted listingOf
 short-table-example = refl

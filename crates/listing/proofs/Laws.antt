@@ -14,6 +14,7 @@ use Rattle.buffer.specs.Written.{Puts}
 use Rattle.buffer.proofs.Laws.{puts-then}
 use Rattle.system.specs.Layout.{Reading}
 use Rattle.loads.specs.declared.EngineLoad.{EngineLoad}
+use Rattle.partition.specs.Lent.{Lent}
 use Rattle.planner.specs.declared.Plan.{Plan}
 use Rattle.planner.specs.Plan.{recordsFrom, recordsOf, verdictOf}
 use Rattle.planner.specs.Demands.{PlanPromises}
@@ -173,6 +174,6 @@ unfolding parted
 line-parts word n = simp (append-assoc, append-nil)
 
 -- the listing of what a plan promises
-pub listing-planned : {x : Reading} {table : List ℕ} {room : ℕ} {p : Plan} {after : List ℕ} → PlanPromises x table room p after
+pub listing-planned : {x : Reading} {table : Lent} {room : ℕ} {p : Plan} {after : Lent} → PlanPromises x table room p after
     → planListing p ≡ verdictListing (verdictOf x table room)
 listing-planned h = rw (h .answers, h .uses, h .counts, h .places)

@@ -1,10 +1,9 @@
 -- The listing of a file over any table that is long enough is the file's text, and what a reader finds in it.
-use Prim.Native.Nat.{ℕ, _+_, _*_, _≤_}
+use Prim.Native.Nat.{ℕ, _≤_}
 use mathlib.Core.Path.{_≡_, refl, sym, ap, subst, _∙_}
 use mathlib.Core.Bool.{true}
 use mathlib.Core.List.{List}
-use native.Mathlib.Nat.{mul-le-mul}
-use native.Mathlib.Omega.{arith}
+use native.Mathlib.Nat.{le-trans}
 use lib.ListN.{length, take}
 use borrow.Author.Tests.{le-leb}
 use Rattle.system.specs.declared.System.{System}
@@ -12,10 +11,11 @@ use Rattle.system.specs.Limits.{engineLimit}
 use Rattle.system.specs.Layout.{Reading, readFile, opened, unread}
 use Rattle.system.proofs.Laws.{read-limits, read-keeps-limits}
 use Rattle.system.proofs.Prefix.{read-prefix}
-use Rattle.partition.specs.Plain.{columnsOut, LongEnough}
+use Rattle.partition.specs.Lent.{Lent}
+use Rattle.partition.specs.Plain.{LongEnough}
 use Rattle.partition.proofs.Plain.{limits-out}
 use Rattle.table.specs.Table.{longEnough}
-use Rattle.table.proofs.Shown.{long-enough-out}
+use Rattle.table.proofs.Room.{long-enough-out}
 use Rattle.planner.specs.Plan.{verdictOf}
 use Rattle.planner.specs.Demands.{PlanPromises}
 use Rattle.listing.specs.Listing.{verdictListing, fileListing}
@@ -23,26 +23,27 @@ use Rattle.listing.specs.Demands.{ListingDemand2, ListingRefuses, Listin
 use Rattle.listing.specs.Text.{readingVerdict, fileText, TextPromises}
 use Rattle.listing.proofs.Laws.{listing-planned}
 
--- 17 × 1,024 entries, rows 0 to 16 of 1,024 columns, are enough for every system that a file gives
-pub long-for-all : (file : List ℕ) (y : System) (table : List ℕ) → readFile file ≡ opened y → 17 * 1024 ≤ length table → LongEnough y table
+-- 4,096 entries in each part, one for each column, are enough for every system that a file gives
+abbrev pub LongForAll : Lent → Type 0
+LongForAll table = (4096 ≤ length (table .rows)) × (4096 ≤ length (table .predecessors))
+
+pub long-for-all : (file : List ℕ) (y : System) (table : Lent) → readFile file ≡ opened y → LongForAll table → LongEnough y table
 long-for-all file y table opens size =
-    let limits = limits-out y .0 (read-keeps-limits file y opens) in
-    let rows : y .engines + 1 ≤ 17 = omega (arith, limits .engines .1) in
-    let all : (y .engines + 1) * columnsOut y ≤ 17 * 1024 = mul-le-mul rows (limits .columns) in
-    omega arith
+    let few = limits-out y .0 (read-keeps-limits file y opens) .columns in
+    (le-trans few (size .0), le-trans few (size .1))
 
 -- where 11 and 15 pass, the verdict does not know the table
-pub verdict-alone : (x : Reading) (table : List ℕ) → ((y : System) → x ≡ opened y → (longEnough y table ≡ true) × (y .engines ≤ engineLimit)) → verdictOf x table engineLimit ≡ readingVerdict x
+pub verdict-alone : (x : Reading) (table : Lent) → ((y : System) → x ≡ opened y → (longEnough y table ≡ true) × (y .engines ≤ engineLimit)) → verdictOf x table engineLimit ≡ readingVerdict x
 unfolding verdictOf readingVerdict
 verdict-alone (unread n) table h = refl
 verdict-alone (opened y) table h = rw (h y refl .0, le-leb (y .engines) engineLimit (h y refl .1))
 
-pub listing-any-table : (file table : List ℕ) → ((y : System) → readFile file ≡ opened y → LongEnough y table) → fileListing file table ≡ fileText file
+pub listing-any-table : (file : List ℕ) (table : Lent) → ((y : System) → readFile file ≡ opened y → LongEnough y table) → fileListing file table ≡ fileText file
 listing-any-table file table long =
     ap verdictListing (verdict-alone (readFile file) table (λ y e. (long-enough-out y table (read-keeps-limits file y e) .1 (long y e), read-limits file y e .engines)))
 
 -- so such a table serves every file
-pub text-promised : {file table old new after : List ℕ} {r : ℕ} → 17 * 1024 ≤ length table → ListingPromises file table old new r after → TextPromises file old new r
+pub text-promised : {file : List ℕ} {table : Lent} {old new : List ℕ} {after : Lent} {r : ℕ} → LongForAll table → ListingPromises file table old new r after → TextPromises file old new r
 text-promised {file = file} {table = table} size promises =
     let long : (y : System) → readFile file ≡ opened y → LongEnough y table = λ y e. long-for-all file y table e size in
     let text = listing-any-table file table long in

@@ -15,8 +15,9 @@ use Rattle.system.specs.Limits.{engineLimit}
 use Rattle.system.specs.Layout.{readFile, opened, unread}
 use Rattle.loads.specs.declared.EngineLoad.{EngineLoad}
 use Rattle.partition.specs.Assignment.{Assignment}
+use Rattle.partition.specs.Lent.{Lent}
 use Rattle.partition.specs.OwnWords.{overInstances, timeOn, memoryOn, sharedMemoryOn}
-use Rattle.partition.specs.Plain.{ceilingNo, columnsOut, LongEnough, EngineOf, placesNo, Partition, Impossible, usedTo, recordNo}
+use Rattle.partition.specs.Plain.{ceilingNo, LongEnough, TooShort, EngineOf, placesNo, Partition, Impossible, usedTo, recordNo}
 use Rattle.planner.specs.declared.Plan.{Plan}
 use Rattle.planner.specs.Plan.{planTable}
 use Rattle.planner.specs.Demands.{PlanPromises}
@@ -96,14 +97,14 @@ pub record TellsPlan (y : System) (text : List ℕ) : Type 0 where
   pub lines : text ≡ planText spelt used (assignedText spelt y mapping)
 
 -- Demand 2, where the file reads and 11 passes: such a text if there is a partition, and `refused 12` exactly if there is none
-pub record ListingDemand2 (file table text : List ℕ) : Type 0 where
+pub record ListingDemand2 (file : List ℕ) (table : Lent) (text : List ℕ) : Type 0 where
   pub given : (y : System) → readFile file ≡ opened y → LongEnough y table → (χ : Assignment) → Partition y (EngineOf y) (ceilingNo y) χ → TellsPlan y text
   pub impossible : (y : System) → readFile file ≡ opened y → LongEnough y table → TellsRefusal 12 text ↔ Impossible y (EngineOf y) (ceilingNo y)
 
--- before that the number of the file's own refusal, whichever it is, and `refused 11` exactly if the table is shorter than (m+1) × columns
-pub record ListingRefuses (file table text : List ℕ) : Type 0 where
+-- before that the number of the file's own refusal, whichever it is, and `refused 11` exactly if a part of the table is shorter than the columns
+pub record ListingRefuses (file : List ℕ) (table : Lent) (text : List ℕ) : Type 0 where
   pub unreadable : (n : ℕ) → readFile file ≡ unread n → TellsRefusal n text
-  pub shortTable : (y : System) → readFile file ≡ opened y → TellsRefusal 11 text ↔ (length table < (y .engines + 1) * columnsOut y)
+  pub shortTable : (y : System) → readFile file ≡ opened y → TellsRefusal 11 text ↔ TooShort y table
 
 -- the number of a refusal, from whichever list
 abbrev pub numberOf : Refusal → ℕ
@@ -127,10 +128,10 @@ pub record WriteListingPromises (p : Plan) (old new : List ℕ) (r : ℕ) : Type
 
 -- what the call `listing` promises of its result, the buffer and the table, and with that the refusals and demand 2; the plan that it lists is the one that `plan_of` gives,
 -- and it leaves the table as that call does
-pub record ListingPromises (file table old new : List ℕ) (r : ℕ) (tableAfter : List ℕ) : Type 0 where
+pub record ListingPromises (file : List ℕ) (table : Lent) (old new : List ℕ) (r : ℕ) (tableAfter : Lent) : Type 0 where
   pub written : Written (fileListing file table) old new r
   pub leavesTable : tableAfter ≡ planTable (readFile file) table engineLimit
   pub refuses : ListingRefuses file table (fileListing file table)
   pub demand2 : ListingDemand2 file table (fileListing file table)
-  pub samePlan : (p : Plan) (after : List ℕ) → PlanPromises (readFile file) table engineLimit p after → planListing p ≡ fileListing file table
-  pub sameTable : (p : Plan) (after : List ℕ) → PlanPromises (readFile file) table engineLimit p after → tableAfter ≡ after
+  pub samePlan : (p : Plan) (after : Lent) → PlanPromises (readFile file) table engineLimit p after → planListing p ≡ fileListing file table
+  pub sameTable : (p : Plan) (after : Lent) → PlanPromises (readFile file) table engineLimit p after → tableAfter ≡ after

@@ -8,6 +8,7 @@ use Rattle.system.specs.Limits.{engineLimit}
 use Rattle.system.specs.Layout.{readFile}
 use Rattle.system.specs.Outcome.{Outcome, accepted, refused, outcomeOf}
 use Rattle.loads.specs.declared.EngineLoad.{EngineLoad}
+use Rattle.partition.specs.Lent.{Lent}
 use Rattle.planner.specs.declared.EngineRecord.{EngineRecord}
 use Rattle.planner.specs.declared.Plan.{Plan}
 use Rattle.planner.specs.Plan.{Verdict, verdictOf, planOutcome, usedEngines, plannedTypes, planLoads, recordsOf}
@@ -94,5 +95,5 @@ abbrev pub verdictListing : Verdict → List ℕ
 verdictListing v = listingOf (planOutcome v) (usedEngines v) (plannedTypes v) (planLoads v)
 
 -- the listing of a file, planned over the lent table
-abbrev pub fileListing : List ℕ → List ℕ → List ℕ
+abbrev pub fileListing : List ℕ → Lent → List ℕ
 fileListing file table = verdictListing (verdictOf (readFile file) table engineLimit)

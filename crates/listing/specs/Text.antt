@@ -11,6 +11,7 @@ use Rattle.system.specs.Limits.{engineLimit}
 use Rattle.system.specs.Layout.{Reading, readFile, opened, unread}
 use Rattle.system.specs.Outcome.{fromInput}
 use Rattle.partition.specs.Assignment.{Assignment}
+use Rattle.partition.specs.Lent.{Lent}
 use Rattle.partition.specs.Plain.{ceilingNo, LongEnough, EngineOf, Partition, Impossible}
 use Rattle.planner.specs.declared.Plan.{Plan}
 use Rattle.planner.specs.Plan.{Verdict, unplanned, placeCheck, judged}
@@ -38,7 +39,7 @@ pub record TellsFile (file text : List ℕ) : Type 0 where
 pub record TextPromises (file old new : List ℕ) (r : ℕ) : Type 0 where
   pub written : Written (fileText file) old new r
   pub tells : TellsFile file (fileText file)
-  pub samePlan : (p : Plan) (table after : List ℕ) → ((y : System) → readFile file ≡ opened y → LongEnough y table) → PlanPromises (readFile file) table engineLimit p after → planListing p ≡ fileText file
+  pub samePlan : (p : Plan) (table after : Lent) → ((y : System) → readFile file ≡ opened y → LongEnough y table) → PlanPromises (readFile file) table engineLimit p after → planListing p ≡ fileText file
 
 -- what the call `listing_read` promises: the same of every file, whatever its length, of whose first bytes, as many as `front` has room for, just these were read;
 -- request 2026-03: there is room for 256

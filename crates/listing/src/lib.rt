@@ -7,6 +7,7 @@ ghost use Prim.Native.Nat.{_+_, _*_, _≤_, _<_};
 ghost use lib.ListN.{length, getD, take, drop};
 ghost use Rattle.buffer.specs.Written.{Puts};
 ghost use Rattle.system.specs.Outcome.{refusalOf};
+ghost use Rattle.partition.specs.Lent.{lent};
 ghost use Rattle.planner.specs.Plan.{recordsOf};
 ghost use Rattle.listing.specs.Listing.{enginesWord, utilWord, memWord, typesWord, refusedWord, space, decimal, parted, recordLine, recordLines, planLines, listingOf};
 ghost use Rattle.listing.specs.Room.{numberRoom, spacedRoom, lineRoom, engineRoom, enginesRoom, listingRoom};
@@ -18,10 +19,10 @@ use buffer::put_bytes;
 use loads::EngineLoad;
 use planner::Plan;
 use system::Answer;
+use system::COLUMN_LIMIT;
 use system::ENGINE_LIMIT;
 use system::FILE_BYTES;
 use system::Refusal;
-use system::TABLE_LIMIT;
 use system::TYPE_LIMIT;
 
 // The words of a listing, one behind the other: all the text that the program has. A word is a part of them, given by its start and its size; `engine` is the first six bytes of `engines`.
@@ -234,10 +235,15 @@ pub fn write_listing(out: &mut [u8; 4096], p: Plan) -> usize
 
 // Writes the listing of a system file, planned over the lent table, at the start of the buffer, and answers its length.
 // The table is left as a plan leaves it.
-pub fn listing(file: &[u8], table: &mut [u16], out: &mut [u8; 4096]) -> usize
-    ensures { λ r. ⌜ ListingPromises (now (file .entry)) (now (table .entry)) (now (out .entry)) (now (out .exit)) r (now (table .exit)) ⌝ }
+pub fn listing(
+    file: &[u8],
+    rows: &mut [u16],
+    predecessors: &mut [u16],
+    out: &mut [u8; 4096],
+) -> usize
+    ensures { λ r. ⌜ ListingPromises (now (file .entry)) (lent (now (rows .entry)) (now (predecessors .entry))) (now (out .entry)) (now (out .exit)) r (lent (now (rows .exit)) (now (predecessors .exit))) ⌝ }
 {
-    let p = planner::plan_of(file, table);
+    let p = planner::plan_of(file, rows, predecessors);
     write_listing(out, p)
 }
 
@@ -245,8 +251,9 @@ pub fn listing(file: &[u8], table: &mut [u16], out: &mut [u8; 4096]) -> usize
 pub fn listing_of(file: &[u8], out: &mut [u8; 4096]) -> usize
     ensures { λ r. ⌜ TextPromises (now (file .entry)) (now (out .entry)) (now (out .exit)) r ⌝ }
 {
-    let mut table = [0u16; TABLE_LIMIT];
-    listing(file, &mut table, out)
+    let mut rows = [0u16; COLUMN_LIMIT];
+    let mut predecessors = [0u16; COLUMN_LIMIT];
+    listing(file, &mut rows, &mut predecessors, out)
 }
 
 // Writes the listing of a file of which `read` bytes were read, at most `FILE_BYTES` of them. A longer file has the same listing.

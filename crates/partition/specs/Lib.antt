@@ -5,6 +5,7 @@ pub mod Listing
 pub mod Cell
 pub mod Shares
 pub mod ForSystem
+pub mod Lent
 pub mod Plain
 pub mod Releases
 pub mod ReleaseCases

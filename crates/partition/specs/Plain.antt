@@ -5,12 +5,14 @@ use Prim.Native.Nat.{ℕ, zero, suc, _+_, _-_, _*_, _≤_, _<_}
 use mathlib.Core.List.{List, []}
 use mathlib.Core.Bool.{Bool, cond}
 use mathlib.Core.Path.{_≡_}
+use mathlib.Core.Logic.{_⊎_}
 use lib.ListN.{length, getD}
 use Rattle.system.specs.declared.Most.the-variants.{NotGiven, AtMost}
 use Rattle.system.specs.declared.TaskType.{TaskType}
 use Rattle.system.specs.declared.System.{System}
 use Rattle.loads.specs.declared.EngineLoad.{EngineLoad}
 use Rattle.partition.specs.Assignment.{Assignment, among, anyOf}
+use Rattle.partition.specs.Lent.{Lent}
 use Rattle.partition.specs.OwnWords.{overInstances, timeOn, memoryOn, sharedMemoryOn, typeAt, Definition1}
 
 -- type t, counted from 1: its u, s, n, d and q; all 0 and no q where there is no such type
@@ -25,9 +27,13 @@ abbrev pub columnsOut : System → ℕ
 columnsOut y =
     (ceilingNo y 1 + 1) * ((ceilingNo y 2 + 1) * ((ceilingNo y 3 + 1) * ((ceilingNo y 4 + 1) * ((ceilingNo y 5 + 1) * (ceilingNo y 6 + 1)))))
 
--- a table that 11 passes has (m+1) × columns entries
-abbrev pub LongEnough : System → List ℕ → Type 0
-LongEnough y table = (y .engines + 1) * columnsOut y ≤ length table
+-- a table that 11 passes has an entry for each column, in both parts (request 2026-10)
+abbrev pub LongEnough : System → Lent → Type 0
+LongEnough y table = (columnsOut y ≤ length (table .rows)) × (columnsOut y ≤ length (table .predecessors))
+
+-- "refusal 11 means either lent part shorter than the columns"
+abbrev pub TooShort : System → Lent → Type 0
+TooShort y table = (length (table .rows) < columnsOut y) ⊎ (length (table .predecessors) < columnsOut y)
 
 -- the limits of document 01, number by number. That there are six types is what an array of the code always has
 pub record LimitsOut (y : System) : Type 0 where
@@ -41,7 +47,7 @@ pub record LimitsOut (y : System) : Type 0 where
   pub replicas : (t q : ℕ) → 1 ≤ t → t ≤ y .typecount → typeNo y t .most ≡ AtMost q → 1 ≤ q
   -- "an entry for .. a type past k (the system's own u, s and n too)" is 0, and so is its d, and it has no q
   pub past : (t : ℕ) → y .typecount < t → (typeNo y t .time ≡ 0) × (typeNo y t .memory ≡ 0) × (typeNo y t .ceiling ≡ 0) × (typeNo y t .data ≡ 0) × (typeNo y t .most ≡ NotGiven)
-  pub columns : columnsOut y ≤ 1024
+  pub columns : columnsOut y ≤ 4096
 
 -- "m identical engines, numbered 1 to m"
 abbrev pub EngineOf : System → ℕ → Type 0

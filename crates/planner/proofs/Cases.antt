@@ -1,12 +1,12 @@
 -- The verdict on a file that opens, and the table after it, by cases: each case with its evidence in plain arithmetic and assignments.
-use Prim.Native.Nat.{ℕ, _+_, _-_, _*_, _<_, _≤_}
+use Prim.Native.Nat.{ℕ, _+_, _-_, _<_, _≤_}
 use mathlib.Core.Path.{_≡_, refl, sym, ap, _∙_}
 use mathlib.Core.List.{List, []}
 use mathlib.Core.Bool.{Bool, true, false}
-use mathlib.Core.Logic.{_↔_}
+use mathlib.Core.Logic.{_↔_, inl, inr}
 use native.Mathlib.Nat.{le-refl}
 use native.Mathlib.Omega.{arith}
-use borrow.Author.Tests.{leb-true, leb-false, le-leb}
+use borrow.Author.Tests.{leb-true, leb-false}
 use lib.ListN.{length, getD, length-map, List·getD-map}
 use lib.Dec.{leb}
 use Rattle.system.specs.declared.System.{System}
@@ -15,7 +15,7 @@ use Rattle.system.specs.Limits.{engineLimit, typeLimit}
 use Rattle.system.specs.Layout.{opened}
 use Rattle.system.specs.Outcome.{fromInput, passes, check, andThen}
 use Rattle.system.proofs.Checks.{check-passed, both-passed}
-use Rattle.system.proofs.Laws.{Limits}
+use Rattle.system.proofs.Laws.{Limits, limits-keep}
 use Rattle.loads.specs.declared.EngineLoad.{EngineLoad}
 use Rattle.loads.specs.Load.{fitsEngine, engineWith, idleEngine, emptyLoad}
 use Rattle.loads.specs.Column.{columnOf}
@@ -23,14 +23,16 @@ use Rattle.loads.proofs.Laws.{engineWith-idle}
 use Rattle.loads.proofs.Order.{within-refl}
 use Rattle.partition.specs.Assignment.{countOn}
 use Rattle.partition.specs.ForSystem.{FeasibleOn, OnFewest, placeable, rowsFor, recoveredFor}
-use Rattle.partition.specs.Plain.{ceilingNo, columnsOut, LongEnough, EngineOf, Impossible, recordNo, StandsOnFewest}
+use Rattle.partition.specs.Lent.{Lent}
+use Rattle.partition.specs.Plain.{ceilingNo, LongEnough, TooShort, EngineOf, Impossible, recordNo, StandsOnFewest}
 use Rattle.partition.proofs.Lists.{not-both, length-enginesTo, distinct-enginesTo, every-among, among-enginesTo, getD-inside}
 use Rattle.partition.proofs.Engines.{onEngines-at}
 use Rattle.partition.proofs.Recovery.{length-recovery}
 use Rattle.partition.proofs.ForSystem.{length-ceilings, feasible-iff-placeable, length-recoveredFor, recoveredFor-past, recovered-on-fewest}
-use Rattle.partition.proofs.Plain.{columns-out, ceiling-out, impossible-out, fewest-out}
-use Rattle.table.specs.Table.{entries, longEnough, tableCheck, filled}
+use Rattle.partition.proofs.Plain.{ceiling-out, impossible-out, fewest-out}
+use Rattle.table.specs.Table.{longEnough, tableCheck, filled}
 use Rattle.table.specs.Meaning.{columnNo, FilledMeans, RecoveredBy}
+use Rattle.table.proofs.Room.{long-enough-out, too-short-out}
 use Rattle.table.proofs.Meaning.{filled-means}
 use Rattle.table.proofs.RecoveredBy.{recovered-by}
 use Rattle.planner.specs.Plan.{planEngines, listCheck, lentCheck, Verdict, planned, unplanned, judged, verdictOf, usedEngines, planLoads, tableLeft, planTable}
@@ -40,7 +42,7 @@ abbrev pub canPlace : System → Bool
 canPlace y = placeable y (planEngines y) (ceilingsOf y)
 
 -- where 11 and 15 pass
-pub lent-passed : (y : System) (table : List ℕ) (room : ℕ) → passes ≡ lentCheck y table room → (longEnough y table ≡ true) × (leb (y .engines) room ≡ true)
+pub lent-passed : (y : System) (table : Lent) (room : ℕ) → passes ≡ lentCheck y table room → (longEnough y table ≡ true) × (leb (y .engines) room ≡ true)
 lent-passed y table room e =
     let both = both-passed (tableCheck y table) (listCheck y room) e in
     (check-passed (longEnough y table) fromInput 11 (both .0), check-passed (leb (y .engines) room) fromInput 15 (both .1))
@@ -48,14 +50,14 @@ lent-passed y table room e =
 -- ---- the tests in plain words
 
 module _ (y : System) (limits : Limits y) where
-  pub long-out : (table : List ℕ) → longEnough y table ≡ true → LongEnough y table
-  long-out table h = rw (columns-out y (limits .six)) (leb-true (entries y (y .engines)) (length table) h)
+  pub long-out : (table : Lent) → longEnough y table ≡ true → LongEnough y table
+  long-out table = long-enough-out y table (limits-keep y limits) .0
 
-  pub long-back : (table : List ℕ) → LongEnough y table → longEnough y table ≡ true
-  long-back table h = le-leb (entries y (y .engines)) (length table) (rw (columns-out y (limits .six)) at h)
+  pub long-back : (table : Lent) → LongEnough y table → longEnough y table ≡ true
+  long-back table = long-enough-out y table (limits-keep y limits) .1
 
-  pub short-out : (table : List ℕ) → longEnough y table ≡ false → length table < (y .engines + 1) * columnsOut y
-  short-out table h = rw (columns-out y (limits .six)) (leb-false (entries y (y .engines)) (length table) h)
+  pub short-out : (table : Lent) → longEnough y table ≡ false → TooShort y table
+  short-out table = too-short-out y table (limits-keep y limits) .0
 
   -- the ceilings are a load within the ceilings
   feasible : FeasibleOn y (planEngines y) (ceilingsOf y) ↔ (canPlace y ≡ true)
@@ -67,7 +69,7 @@ module _ (y : System) (limits : Limits y) where
       .0 (λ f. not-both (feasible .0 f) cannot)
 
   -- the table after a plan, and after 12
-  pub plan-fills : (table : List ℕ) → LongEnough y table → FilledMeans y (y .engines) table (filled y (planEngines y) table)
+  pub plan-fills : (table : Lent) → LongEnough y table → FilledMeans y (y .engines) table (filled y (planEngines y) table)
   plan-fills table long = rw (length-enginesTo (y .engines)) (filled-means y limits (y .engines) table (le-refl (y .engines)) long)
 
   -- ---- a plan that is given
@@ -103,12 +105,11 @@ module _ (y : System) (limits : Limits y) where
         ∙ length-ceilings y limits
 
     -- engine e has row e of the recovery, read in the filled table
-    pub recovered-out : (table : List ℕ) → LongEnough y table
+    pub recovered-out : (table : Lent) → LongEnough y table
         → RecoveredBy y (filled y (planEngines y) table) (usedEngines (planned y)) (ceilingNo y) (λ (e t : ℕ). getD (recordNo (planLoads (planned y)) e .counts) (t - 1) 0)
     recovered-out table long = record {
       column = r .column;
       starts = r .starts ∙ ap (columnNo y) (λ i t. ceiling-out y t i);
-      says = r .says;
       lowestRow = r .lowestRow;
       down = r .down;
       gets = λ i t h. row-of i t h ∙ r .gets i t h;
@@ -123,6 +124,7 @@ module _ (y : System) (limits : Limits y) where
         r : RecoveredBy y (filled y es table) (usedEngines (planned y)) (λ (t : ℕ). getD (ceilingsOf y) (t - 1) 0) (λ (i t : ℕ). getD (getD (rowsFor y es (ceilingsOf y)) (i - 1) []) (t - 1) 0)
         r =
             recovered-by y limits (length es) (filled y es table) (λ i c h k. plan-fills table long .cells i c (omega (arith, length-enginesTo (y .engines))) k)
+            (λ c past k h. plan-fills table long .cellThere c past k (omega (arith, length-enginesTo (y .engines))))
             (ceilingsOf y) (length-ceilings y limits) (within-refl (ceilingsOf y)) few
 
         row-of : (i t : ℕ) → i < usedEngines (planned y) → getD (recordNo (planLoads (planned y)) (i + 1) .counts) (t - 1) 0 ≡ getD (getD (rowsFor y es (ceilingsOf y)) (i + 1 - 1) []) (t - 1) 0
@@ -149,13 +151,18 @@ idle-load y i h =
 
 -- ---- the cases
 
-pub data Case (y : System) (table : List ℕ) (room : ℕ) : Verdict → List ℕ → Type 0 where
-  tooShort : length table < (y .engines + 1) * columnsOut y → Case y table room (unplanned fromInput 11) table
+-- a table is not both long enough and too short
+pub not-short : (y : System) (table : Lent) → LongEnough y table → TooShort y table → ⊥
+not-short y table long (inl h) = omega (arith, long .0, h)
+not-short y table long (inr h) = omega (arith, long .1, h)
+
+pub data Case (y : System) (table : Lent) (room : ℕ) : Verdict → Lent → Type 0 where
+  tooShort : TooShort y table → Case y table room (unplanned fromInput 11) table
   tooSmall : LongEnough y table → room < y .engines → Case y table room (unplanned fromInput 15) table
   noPlace : LongEnough y table → y .engines ≤ room → Impossible y (EngineOf y) (ceilingNo y) → Case y table room (unplanned fromInput 12) (filled y (planEngines y) table)
   isPlanned : LongEnough y table → y .engines ≤ room → canPlace y ≡ true → Case y table room (planned y) (filled y (planEngines y) table)
 
-pub caseOf : (y : System) → Limits y → (table : List ℕ) (room : ℕ) → Case y table room (verdictOf (opened y) table room) (planTable (opened y) table room)
+pub caseOf : (y : System) → Limits y → (table : Lent) (room : ℕ) → Case y table room (verdictOf (opened y) table room) (planTable (opened y) table room)
 unfolding verdictOf
 caseOf y limits table room = go (longEnough y table) (leb (y .engines) room) (canPlace y) refl refl refl
   where
@@ -169,6 +176,6 @@ caseOf y limits table room = go (longEnough y table) (leb (y .engines) room) (ca
 
 -- ---- "What the table held before changes no answer": over any table that is long enough the verdict is the same
 
-pub verdict-any : (y : System) → Limits y → (table other : List ℕ) (room : ℕ) → LongEnough y table → LongEnough y other → verdictOf (opened y) table room ≡ verdictOf (opened y) other room
+pub verdict-any : (y : System) → Limits y → (table other : Lent) (room : ℕ) → LongEnough y table → LongEnough y other → verdictOf (opened y) table room ≡ verdictOf (opened y) other room
 unfolding verdictOf
 verdict-any y limits table other room p q = rw (long-back y limits table p, long-back y limits other q)

@@ -1,5 +1,5 @@
 -- The order of the refusals and demands 1 and 2 hold of the plan as it is defined, for every file, table and room.
-use Prim.Native.Nat.{ℕ, _+_, _-_, _*_, _<_, _≤_}
+use Prim.Native.Nat.{ℕ, _-_, _<_, _≤_}
 use mathlib.Core.Path.{_≡_, refl, sym, ap, subst, _∙_}
 use mathlib.Core.List.{List, [], _∷_}
 use mathlib.Core.Logic.{_↔_, ⊎-elim}
@@ -15,7 +15,8 @@ use Rattle.system.proofs.Laws.{Limits, read-limits}
 use Rattle.loads.specs.declared.EngineLoad.{EngineLoad}
 use Rattle.loads.specs.Load.{idleEngine}
 use Rattle.partition.specs.Assignment.{Assignment}
-use Rattle.partition.specs.Plain.{ceilingNo, columnsOut, LongEnough, EngineOf, Partition, Impossible, recordNo, HoldsNothing, StandsOnFewest}
+use Rattle.partition.specs.Lent.{Lent}
+use Rattle.partition.specs.Plain.{ceilingNo, LongEnough, TooShort, EngineOf, Partition, Impossible, recordNo, HoldsNothing, StandsOnFewest}
 use Rattle.partition.proofs.Lists.{true-or-false, getD-inside}
 use Rattle.table.specs.Table.{filled}
 use Rattle.table.specs.Meaning.{FilledMeans, RecoveredBy}
@@ -23,7 +24,7 @@ use Rattle.planner.specs.declared.Plan.{Plan}
 use Rattle.planner.specs.Plan.{planEngines, Verdict, planned, unplanned, verdictOf, usedEngines, planOutcome, plannedTypes, planLoads, planTable}
 use Rattle.planner.specs.Demands.{Demand1, Demand2, InOrder, Recovers, PlanPromises}
 use Rattle.planner.proofs.Exits.{Plans}
-use Rattle.planner.proofs.Cases.{Case, tooShort, tooSmall, noPlace, isPlanned, caseOf, plan-fills, on-fewest, few-used, length-loads, six-counts, recovered-out, idle-load, verdict-any}
+use Rattle.planner.proofs.Cases.{Case, tooShort, tooSmall, noPlace, isPlanned, caseOf, plan-fills, on-fewest, few-used, length-loads, six-counts, recovered-out, idle-load, not-short, verdict-any}
 
 -- ---- an engine that holds nothing
 
@@ -39,57 +40,57 @@ nothing-at loads e h =
 
 -- ---- a file that opens
 
-module _ {y : System} {table : List ℕ} {room : ℕ} where
-  then-table : {v : Verdict} {after : List ℕ} → Case y table room v after → (planOutcome v ≡ refused fromInput 11) ↔ (length table < (y .engines + 1) * columnsOut y)
+module _ {y : System} {table : Lent} {room : ℕ} where
+  then-table : {v : Verdict} {after : Lent} → Case y table room v after → (planOutcome v ≡ refused fromInput 11) ↔ TooShort y table
   then-table (tooShort short) = (λ o. short, λ h. refl)
-  then-table (tooSmall long small) = (λ o. (let z : _≡_ {A = ℕ} 15 11 = cc in absurd (omega arith)), λ h. absurd (omega (arith, long, h)))
-  then-table (noPlace long enough none) = (λ o. (let z : _≡_ {A = ℕ} 12 11 = cc in absurd (omega arith)), λ h. absurd (omega (arith, long, h)))
-  then-table (isPlanned long enough can) = (λ o. (let z : _≡_ {A = ℕ} 0 1 = cc in absurd (omega arith)), λ h. absurd (omega (arith, long, h)))
+  then-table (tooSmall long small) = (λ o. (let z : _≡_ {A = ℕ} 15 11 = cc in absurd (omega arith)), λ h. absurd (not-short y table long h))
+  then-table (noPlace long enough none) = (λ o. (let z : _≡_ {A = ℕ} 12 11 = cc in absurd (omega arith)), λ h. absurd (not-short y table long h))
+  then-table (isPlanned long enough can) = (λ o. (let z : _≡_ {A = ℕ} 0 1 = cc in absurd (omega arith)), λ h. absurd (not-short y table long h))
 
-  then-list : {v : Verdict} {after : List ℕ} → Case y table room v after → LongEnough y table → (planOutcome v ≡ refused fromInput 15) ↔ (room < y .engines)
-  then-list (tooShort short) h = absurd (omega (arith, short, h))
+  then-list : {v : Verdict} {after : Lent} → Case y table room v after → LongEnough y table → (planOutcome v ≡ refused fromInput 15) ↔ (room < y .engines)
+  then-list (tooShort short) h = absurd (not-short y table h short)
   then-list (tooSmall long small) h = (λ o. small, λ k. refl)
   then-list (noPlace long enough none) h = (λ o. (let z : _≡_ {A = ℕ} 12 15 = cc in absurd (omega arith)), λ k. absurd (omega arith))
   then-list (isPlanned long enough can) h = (λ o. (let z : _≡_ {A = ℕ} 0 1 = cc in absurd (omega arith)), λ k. absurd (omega arith))
 
-  as-lent : {v : Verdict} {after : List ℕ} → Case y table room v after → (s : Source) (n : ℕ) → planOutcome v ≡ refused s n → (n ≡ 12 → ⊥) → after ≡ table
+  as-lent : {v : Verdict} {after : Lent} → Case y table room v after → (s : Source) (n : ℕ) → planOutcome v ≡ refused s n → (n ≡ 12 → ⊥) → after ≡ table
   as-lent (tooShort short) s n o h = refl
   as-lent (tooSmall long small) s n o h = refl
   as-lent (noPlace long enough none) s n o h = absurd (h (cc))
   as-lent (isPlanned long enough can) s n o h = let z : _≡_ {A = ℕ} 0 1 = cc in absurd (omega arith)
 
-  types-same : {v : Verdict} {after : List ℕ} → Case y table room v after → (used : ℕ) → planOutcome v ≡ accepted (used ∷ []) → plannedTypes v ≡ y .typecount
+  types-same : {v : Verdict} {after : Lent} → Case y table room v after → (used : ℕ) → planOutcome v ≡ accepted (used ∷ []) → plannedTypes v ≡ y .typecount
   types-same (tooShort short) used o = let z : _≡_ {A = ℕ} 0 1 = cc in absurd (omega arith)
   types-same (tooSmall long small) used o = let z : _≡_ {A = ℕ} 0 1 = cc in absurd (omega arith)
   types-same (noPlace long enough none) used o = let z : _≡_ {A = ℕ} 0 1 = cc in absurd (omega arith)
   types-same (isPlanned long enough can) used o = refl
 
   module _ (limits : Limits y) where
-    filled-on-12 : {v : Verdict} {after : List ℕ} → Case y table room v after → (s : Source) → planOutcome v ≡ refused s 12 → FilledMeans y (y .engines) table after
+    filled-on-12 : {v : Verdict} {after : Lent} → Case y table room v after → (s : Source) → planOutcome v ≡ refused s 12 → FilledMeans y (y .engines) table after
     filled-on-12 (tooShort short) s o = let z : _≡_ {A = ℕ} 11 12 = cc in absurd (omega arith)
     filled-on-12 (tooSmall long small) s o = let z : _≡_ {A = ℕ} 15 12 = cc in absurd (omega arith)
     filled-on-12 (noPlace long enough none) s o = plan-fills y limits table long
     filled-on-12 (isPlanned long enough can) s o = plan-fills y limits table long
 
-    filled-on-plan : {v : Verdict} {after : List ℕ} → Case y table room v after → (ns : List ℕ) → planOutcome v ≡ accepted ns → FilledMeans y (y .engines) table after
+    filled-on-plan : {v : Verdict} {after : Lent} → Case y table room v after → (ns : List ℕ) → planOutcome v ≡ accepted ns → FilledMeans y (y .engines) table after
     filled-on-plan (tooShort short) ns o = let z : _≡_ {A = ℕ} 0 1 = cc in absurd (omega arith)
     filled-on-plan (tooSmall long small) ns o = let z : _≡_ {A = ℕ} 0 1 = cc in absurd (omega arith)
     filled-on-plan (noPlace long enough none) ns o = plan-fills y limits table long
     filled-on-plan (isPlanned long enough can) ns o = plan-fills y limits table long
 
-    impossible : {v : Verdict} {after : List ℕ} → Case y table room v after → LongEnough y table → y .engines ≤ room → (planOutcome v ≡ refused fromInput 12) ↔ Impossible y (EngineOf y) (ceilingNo y)
-    impossible (tooShort short) h k = absurd (omega (arith, short, h))
+    impossible : {v : Verdict} {after : Lent} → Case y table room v after → LongEnough y table → y .engines ≤ room → (planOutcome v ≡ refused fromInput 12) ↔ Impossible y (EngineOf y) (ceilingNo y)
+    impossible (tooShort short) h k = absurd (not-short y table h short)
     impossible (tooSmall long small) h k = absurd (omega arith)
     impossible (noPlace long enough none) h k = (λ o. none, λ n. refl)
     impossible (isPlanned long enough can) h k = (λ o. (let z : _≡_ {A = ℕ} 0 1 = cc in absurd (omega arith)), λ none. absurd (none _ (on-fewest y limits can .stands .partition)))
 
-    answered : {v : Verdict} {after : List ℕ} → Case y table room v after → LongEnough y table → y .engines ≤ room → (χ : Assignment) → Partition y (EngineOf y) (ceilingNo y) χ → (used : ℕ) × (planOutcome v ≡ accepted (used ∷ []))
-    answered (tooShort short) h k χ p = absurd (omega (arith, short, h))
+    answered : {v : Verdict} {after : Lent} → Case y table room v after → LongEnough y table → y .engines ≤ room → (χ : Assignment) → Partition y (EngineOf y) (ceilingNo y) χ → (used : ℕ) × (planOutcome v ≡ accepted (used ∷ []))
+    answered (tooShort short) h k χ p = absurd (not-short y table h short)
     answered (tooSmall long small) h k χ p = absurd (omega arith)
     answered (noPlace long enough none) h k χ p = absurd (none χ p)
     answered (isPlanned long enough can) h k χ p = (usedEngines (planned y), refl)
 
-    given : {v : Verdict} {after : List ℕ} → Case y table room v after → (used : ℕ) → planOutcome v ≡ accepted (used ∷ []) → StandsOnFewest y (EngineOf y) (ceilingNo y) (planLoads v) used
+    given : {v : Verdict} {after : Lent} → Case y table room v after → (used : ℕ) → planOutcome v ≡ accepted (used ∷ []) → StandsOnFewest y (EngineOf y) (ceilingNo y) (planLoads v) used
     given (tooShort short) used o = let z : _≡_ {A = ℕ} 0 1 = cc in absurd (omega arith)
     given (tooSmall long small) used o = let z : _≡_ {A = ℕ} 0 1 = cc in absurd (omega arith)
     given (noPlace long enough none) used o = let z : _≡_ {A = ℕ} 0 1 = cc in absurd (omega arith)
@@ -97,7 +98,7 @@ module _ {y : System} {table : List ℕ} {room : ℕ} where
         let same : usedEngines (planned y) ≡ used = cc in
         subst (StandsOnFewest y (EngineOf y) (ceilingNo y) (planLoads (planned y))) same (on-fewest y limits can)
 
-    recovers-on : {v : Verdict} {after : List ℕ} → Case y table room v after → (used : ℕ) → planOutcome v ≡ accepted (used ∷ [])
+    recovers-on : {v : Verdict} {after : Lent} → Case y table room v after → (used : ℕ) → planOutcome v ≡ accepted (used ∷ [])
         → RecoveredBy y after used (ceilingNo y) (λ (e t : ℕ). getD (recordNo (planLoads v) e .counts) (t - 1) 0)
     recovers-on (tooShort short) used o = let z : _≡_ {A = ℕ} 0 1 = cc in absurd (omega arith)
     recovers-on (tooSmall long small) used o = let z : _≡_ {A = ℕ} 0 1 = cc in absurd (omega arith)
@@ -106,19 +107,19 @@ module _ {y : System} {table : List ℕ} {room : ℕ} where
         let same : usedEngines (planned y) ≡ used = cc in
         subst (λ (n : ℕ). RecoveredBy y (filled y (planEngines y) table) n (ceilingNo y) (λ (e t : ℕ). getD (recordNo (planLoads (planned y)) e .counts) (t - 1) 0)) same (recovered-out y limits can table long)
 
-    sixteen : {v : Verdict} {after : List ℕ} → Case y table room v after → length (planLoads v) ≡ engineLimit
+    sixteen : {v : Verdict} {after : Lent} → Case y table room v after → length (planLoads v) ≡ engineLimit
     sixteen (tooShort short) = refl
     sixteen (tooSmall long small) = refl
     sixteen (noPlace long enough none) = refl
     sixteen (isPlanned long enough can) = length-loads y limits can
 
-    counts-six : {v : Verdict} {after : List ℕ} → Case y table room v after → (used e : ℕ) → planOutcome v ≡ accepted (used ∷ []) → 1 ≤ e → e ≤ 16 → length (recordNo (planLoads v) e .counts) ≡ 6
+    counts-six : {v : Verdict} {after : Lent} → Case y table room v after → (used e : ℕ) → planOutcome v ≡ accepted (used ∷ []) → 1 ≤ e → e ≤ 16 → length (recordNo (planLoads v) e .counts) ≡ 6
     counts-six (tooShort short) used e o low high = let z : _≡_ {A = ℕ} 0 1 = cc in absurd (omega arith)
     counts-six (tooSmall long small) used e o low high = let z : _≡_ {A = ℕ} 0 1 = cc in absurd (omega arith)
     counts-six (noPlace long enough none) used e o low high = let z : _≡_ {A = ℕ} 0 1 = cc in absurd (omega arith)
     counts-six (isPlanned long enough can) used e o low high = six-counts y limits can e low high
 
-    within : {v : Verdict} {after : List ℕ} → Case y table room v after → (usedEngines v ≤ engineLimit) × (usedEngines v ≤ room)
+    within : {v : Verdict} {after : Lent} → Case y table room v after → (usedEngines v ≤ engineLimit) × (usedEngines v ≤ room)
     within (tooShort short) = (omega arith, omega arith)
     within (tooSmall long small) = (omega arith, omega arith)
     within (noPlace long enough none) = (omega arith, omega arith)
@@ -134,11 +135,11 @@ idle-past : (v : Verdict) (used e : ℕ) → planOutcome v ≡ accepted (used �
 idle-past (unplanned s n) used e o h = let z : _≡_ {A = ℕ} 0 1 = cc in absurd (omega arith)
 idle-past (planned y) used e o h = let same : usedEngines (planned y) ≡ used = cc in nothing-at (planLoads (planned y)) e (idle-load y (e - 1) (omega arith))
 
-file-first : (x : Reading) (table : List ℕ) (room n : ℕ) → x ≡ unread n → planOutcome (verdictOf x table room) ≡ refused fromInput n
+file-first : (x : Reading) (table : Lent) (room n : ℕ) → x ≡ unread n → planOutcome (verdictOf x table room) ≡ refused fromInput n
 unfolding verdictOf
 file-first x table room n e = rw e
 
-module _ (table : List ℕ) (room : ℕ) where
+module _ (table : Lent) (room : ℕ) where
   lent-back : (x : Reading) → Known x → (s : Source) (n : ℕ) → planOutcome (verdictOf x table room) ≡ refused s n → (n ≡ 12 → ⊥) → planTable x table room ≡ table
   lent-back (unread k) known s n o h = refl
   lent-back (opened y) known s n o h = as-lent (caseOf y (known y refl) table room) s n o h
@@ -185,18 +186,18 @@ module _ (table : List ℕ) (room : ℕ) where
 -- ---- so a call whose result is the one defined keeps the demands
 
 -- a plan has a load for each engine that a system can have
-pub length-planLoads : (file table : List ℕ) (room : ℕ) → length (planLoads (verdictOf (readFile file) table room)) ≡ engineLimit
+pub length-planLoads : (file : List ℕ) (table : Lent) (room : ℕ) → length (planLoads (verdictOf (readFile file) table room)) ≡ engineLimit
 length-planLoads file table room = all-loads table room (readFile file) (read-limits file)
 
 -- the used engines are few enough for the records and for the list
-pub used-within : (file table : List ℕ) (room : ℕ) → (usedEngines (verdictOf (readFile file) table room) ≤ engineLimit) × (usedEngines (verdictOf (readFile file) table room) ≤ room)
+pub used-within : (file : List ℕ) (table : Lent) (room : ℕ) → (usedEngines (verdictOf (readFile file) table room) ≤ engineLimit) × (usedEngines (verdictOf (readFile file) table room) ≤ room)
 used-within file table room = few-engines table room (readFile file) (read-limits file)
 
 answer-used : (v : Verdict) (used : ℕ) → planOutcome v ≡ accepted (used ∷ []) → usedEngines v ≡ used
 answer-used (planned y) used o = cc
 answer-used (unplanned s n) used o = let z : _≡_ {A = ℕ} 0 1 = cc in absurd (omega arith)
 
-pub promises-of : (file table : List ℕ) (room : ℕ) (r : Plan) (after : List ℕ) → Plans (readFile file) table room r after → PlanPromises (readFile file) table room r after
+pub promises-of : (file : List ℕ) (table : Lent) (room : ℕ) (r : Plan) (after : Lent) → Plans (readFile file) table room r after → PlanPromises (readFile file) table room r after
 promises-of file table room r after p = record {
   answers = p .answer;
   uses = p .used;
@@ -222,12 +223,12 @@ promises-of file table room r after p = record {
 
 -- ---- "What the table held before changes no answer": two plans of a file, each over a table that is long enough
 
-pub verdict-same : (x : Reading) → Known x → (table other : List ℕ) (room : ℕ) → ((y : System) → x ≡ opened y → LongEnough y table × LongEnough y other) → verdictOf x table room ≡ verdictOf x other room
+pub verdict-same : (x : Reading) → Known x → (table other : Lent) (room : ℕ) → ((y : System) → x ≡ opened y → LongEnough y table × LongEnough y other) → verdictOf x table room ≡ verdictOf x other room
 unfolding verdictOf
 verdict-same (unread n) known table other room long = refl
 verdict-same (opened y) known table other room long = verdict-any y (known y refl) table other room (long y refl .0) (long y refl .1)
 
-pub plan-any-table : (file table other : List ℕ) (room : ℕ) (r s : Plan) (after last : List ℕ) → PlanPromises (readFile file) table room r after → PlanPromises (readFile file) other room s last
+pub plan-any-table : (file : List ℕ) (table other : Lent) (room : ℕ) (r s : Plan) (after last : Lent) → PlanPromises (readFile file) table room r after → PlanPromises (readFile file) other room s last
     → ((y : System) → readFile file ≡ opened y → LongEnough y table × LongEnough y other) → (outcomeOf (r .answer) ≡ outcomeOf (s .answer)) × (r .used ≡ s .used) × (r .typecount ≡ s .typecount) × (r .loads ≡ s .loads)
 plan-any-table file table other room r s after last p q long =
     let same = verdict-same (readFile file) (read-limits file) table other room long in

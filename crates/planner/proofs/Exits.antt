@@ -1,7 +1,6 @@
 -- One law for each way in which a plan ends: what the code hands out there is what the plan is defined as.
 use Prim.Native.Nat.{ℕ}
 use mathlib.Core.Path.{_≡_, refl, sym, ap, _∙_}
-use mathlib.Core.List.{List}
 use mathlib.Core.Bool.{Bool, true, false, true≢false}
 use Rattle.system.specs.declared.System.{System}
 use Rattle.system.specs.declared.Opened.{Opened}
@@ -13,6 +12,7 @@ use Rattle.system.specs.Layout.{Reading, opened, Reads}
 use Rattle.system.specs.Outcome.{outcomeOf, fromInput, Checked, passes, andThen, failsWith}
 use Rattle.system.proofs.Laws.{reads-unread}
 use Rattle.partition.specs.ForSystem.{placeable}
+use Rattle.partition.specs.Lent.{Lent}
 use Rattle.table.specs.declared.Placement.{Placement}
 use Rattle.table.specs.Table.{filled, placement}
 use Rattle.planner.specs.declared.Plan.{Plan}
@@ -20,7 +20,7 @@ use Rattle.planner.specs.Plan.{planEngines, placeCheck, lentCheck, Verdi
 use Rattle.planner.specs.Inner.{refusedPlan}
 
 -- the plan and the table after it are those that are defined
-pub record Plans (x : Reading) (table : List ℕ) (room : ℕ) (r : Plan) (after : List ℕ) : Type 0 where
+pub record Plans (x : Reading) (table : Lent) (room : ℕ) (r : Plan) (after : Lent) : Type 0 where
   pub answer : outcomeOf (r .answer) ≡ planOutcome (verdictOf x table room)
   pub used : r .used ≡ usedEngines (verdictOf x table room)
   pub typecount : r .typecount ≡ plannedTypes (verdictOf x table room)
@@ -37,7 +37,7 @@ givenPlan y p = record { answer = Number (p .used); used = p .used; typecount = 
 -- ---- a file that was refused
 
 -- the answer of the reader is that of the plan
-pub unread-plans : (x : Reading) (r : Opened) → Reads x r → (table : List ℕ) (room : ℕ) → (r .answer ≡ Accepted → ⊥) → Plans x table room (refusedPlan (r .answer)) table
+pub unread-plans : (x : Reading) (r : Opened) → Reads x r → (table : Lent) (room : ℕ) → (r .answer ≡ Accepted → ⊥) → Plans x table room (refusedPlan (r .answer)) table
 unfolding verdictOf
 unread-plans x r reads table room h =
     let (n, is) = reads-unread x r reads h in
@@ -45,7 +45,7 @@ unread-plans x r reads table room h =
 
 -- ---- a file that reads as y
 
-module _ (x : Reading) (y : System) (is : x ≡ opened y) (table : List ℕ) (room : ℕ) where
+module _ (x : Reading) (y : System) (is : x ≡ opened y) (table : Lent) (room : ℕ) where
   -- by what the checks of what is lent say
   verdict-by : (c : Checked) → c ≡ lentCheck y table room → verdictOf x table room ≡ judged y (andThen c (placeCheck y))
   unfolding verdictOf
@@ -54,7 +54,7 @@ module _ (x : Reading) (y : System) (is : x ≡ opened y) (table : List ℕ) (ro
   table-by : (c : Checked) → c ≡ lentCheck y table room → planTable x table room ≡ tableLeft c table (filled y (planEngines y) table)
   table-by c e = rw (is, e)
 
-  plans-of : (v : Verdict) → verdictOf x table room ≡ v → (r : Plan) (after : List ℕ) → outcomeOf (r .answer) ≡ planOutcome v → r .used ≡ usedEngines v → r .typecount ≡ plannedTypes v → r .loads ≡ planLoads v
+  plans-of : (v : Verdict) → verdictOf x table room ≡ v → (r : Plan) (after : Lent) → outcomeOf (r .answer) ≡ planOutcome v → r .used ≡ usedEngines v → r .typecount ≡ plannedTypes v → r .loads ≡ planLoads v
       → planTable x table room ≡ after → Plans x table room r after
   plans-of v same r after a u t l left = record { answer = rw same a; used = rw same u; typecount = rw same t; loads = rw same l; left = sym left }
 

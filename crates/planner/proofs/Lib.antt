@@ -7,3 +7,4 @@ pub mod Cases
 pub mod Demands
 pub mod Listed
 pub mod Releases
+pub mod Document01

@@ -14,6 +14,7 @@ use Rattle.system.specs.Outcome.{accepted, refused, fromInput, outcomeOf}
 use Rattle.system.proofs.Laws.{Limits, read-limits}
 use Rattle.loads.specs.declared.EngineLoad.{EngineLoad}
 use Rattle.partition.specs.Assignment.{Assignment}
+use Rattle.partition.specs.Lent.{Lent}
 use Rattle.partition.specs.OwnWords.{overInstances}
 use Rattle.partition.specs.Plain.{ceilingNo, LongEnough, placesNo, RecordIs, recordNo}
 use Rattle.table.specs.Table.{filled}
@@ -106,13 +107,12 @@ module _ (list : List EngineRecord) (y : System) (limits : Limits y) (enough : y
     laterKept = λ used e o h. (let same : row ≡ used = cc in later-kept e (omega arith));
   }
 
-  list-recovers : (table : List ℕ) → LongEnough y table → RecoveredBy y (filled y (planEngines y) table) row (ceilingNo y) (λ (e t : ℕ). getD (entryNo after e .load .counts) (t - 1) 0)
+  list-recovers : (table : Lent) → LongEnough y table → RecoveredBy y (filled y (planEngines y) table) row (ceilingNo y) (λ (e t : ℕ). getD (entryNo after e .load .counts) (t - 1) 0)
   list-recovers table long =
       let r = recovered-out y limits can table long in
       record {
         column = r .column;
         starts = r .starts;
-        says = r .says;
         lowestRow = r .lowestRow;
         down = r .down;
         gets = λ i t h. ap (λ (z : EngineRecord). getD (z .load .counts) (t - 1) 0) (entry-is (i + 1) (omega arith) (omega arith)) ∙ r .gets i t h;
@@ -129,22 +129,22 @@ unplanned-holds list x n = record {
   laterKept = λ used e o h. refl;
 }
 
-pub plan-list-holds : (list : List EngineRecord) (table : List ℕ) (x : Reading) → Known x → ListHolds x list (planOutcome (verdictOf x table (length list))) (planList (verdictOf x table (length list)) list)
+pub plan-list-holds : (list : List EngineRecord) (table : Lent) (x : Reading) → Known x → ListHolds x list (planOutcome (verdictOf x table (length list))) (planList (verdictOf x table (length list)) list)
 unfolding verdictOf
 plan-list-holds list table (unread n) known = unplanned-holds list (unread n) n
 plan-list-holds list table (opened y) known = go (caseOf y (known y refl) table (length list))
   where
-    go : {v : Verdict} {after : List ℕ} → Case y table (length list) v after → ListHolds (opened y) list (planOutcome v) (planList v list)
+    go : {v : Verdict} {after : Lent} → Case y table (length list) v after → ListHolds (opened y) list (planOutcome v) (planList v list)
     go (tooShort short) = unplanned-holds list (opened y) 11
     go (tooSmall long small) = unplanned-holds list (opened y) 15
     go (noPlace long enough none) = unplanned-holds list (opened y) 12
     go (isPlanned long enough can) = planned-holds list y (known y refl) enough can
 
-plan-list-recovers : (list : List EngineRecord) (table : List ℕ) (x : Reading) → Known x → (y : System) (used : ℕ) → x ≡ opened y → planOutcome (verdictOf x table (length list)) ≡ accepted (used ∷ [])
+plan-list-recovers : (list : List EngineRecord) (table : Lent) (x : Reading) → Known x → (y : System) (used : ℕ) → x ≡ opened y → planOutcome (verdictOf x table (length list)) ≡ accepted (used ∷ [])
     → RecoveredBy y (planTable x table (length list)) used (ceilingNo y) (λ (e t : ℕ). getD (entryNo (planList (verdictOf x table (length list)) list) e .load .counts) (t - 1) 0)
 plan-list-recovers list table x known y used e = rw e (go (known y e) (caseOf y (known y e) table (length list)))
   where
-    go : Limits y → {v : Verdict} {after : List ℕ} → Case y table (length list) v after → planOutcome v ≡ accepted (used ∷ []) → RecoveredBy y after used (ceilingNo y) (λ (d t : ℕ). getD (entryNo (planList v list) d .load .counts) (t - 1) 0)
+    go : Limits y → {v : Verdict} {after : Lent} → Case y table (length list) v after → planOutcome v ≡ accepted (used ∷ []) → RecoveredBy y after used (ceilingNo y) (λ (d t : ℕ). getD (entryNo (planList v list) d .load .counts) (t - 1) 0)
     go limits (tooShort short) o = let z : _≡_ {A = ℕ} 0 1 = cc in absurd (omega arith)
     go limits (tooSmall long small) o = let z : _≡_ {A = ℕ} 0 1 = cc in absurd (omega arith)
     go limits (noPlace long enough none) o = let z : _≡_ {A = ℕ} 0 1 = cc in absurd (omega arith)
@@ -155,7 +155,7 @@ plan-list-recovers list table x known y used e = rw e (go (known y e) (caseOf y 
 
 -- ---- so a call whose result is the one defined keeps the demands
 
-pub list-promises-of : (file table : List ℕ) (list : List EngineRecord) (answer : Answer) (tableAfter : List ℕ) (listAfter : List EngineRecord)
+pub list-promises-of : (file : List ℕ) (table : Lent) (list : List EngineRecord) (answer : Answer) (tableAfter : Lent) (listAfter : List EngineRecord)
     → outcomeOf answer ≡ planOutcome (verdictOf (readFile file) table (length list))
     → tableAfter ≡ planTable (readFile file) table (length list)
     → listAfter ≡ planList (verdictOf (readFile file) table (length list)) list
@@ -178,7 +178,7 @@ list-promises-of file table list answer tableAfter listAfter a t l = record {
     known = read-limits file
 
 -- "What the table held before changes no answer": two plans of a file into the same list, each over a table that is long enough
-pub list-any-table : (file table other : List ℕ) (list : List EngineRecord) (a b : Answer) (after last : List ℕ) (l k : List EngineRecord) → ListPromises (readFile file) table list a after l → ListPromises (readFile file) other list b last k
+pub list-any-table : (file : List ℕ) (table other : Lent) (list : List EngineRecord) (a b : Answer) (after last : Lent) (l k : List EngineRecord) → ListPromises (readFile file) table list a after l → ListPromises (readFile file) other list b last k
     → ((y : System) → readFile file ≡ opened y → LongEnough y table × LongEnough y other) → (outcomeOf a ≡ outcomeOf b) × (l ≡ k)
 list-any-table file table other list a b after last l k p q long =
     let same = verdict-same (readFile file) (read-limits file) table other (length list) long in

@@ -10,6 +10,7 @@ use Rattle.system.specs.Layout.{readFile, opened}
 use Rattle.system.specs.Outcome.{Outcome, accepted, outcomeOf}
 use Rattle.system.proofs.Laws.{read-limits}
 use Rattle.partition.specs.Assignment.{Assignment}
+use Rattle.partition.specs.Lent.{Lent}
 use Rattle.partition.specs.Plain.{ceilingNo, LongEnough, EngineOf, Partition}
 use Rattle.partition.specs.Releases.{Fewest}
 use Rattle.partition.proofs.ReleaseSheets.{sheets-add, sheets-share}
@@ -51,11 +52,11 @@ plans-share f1 f2 own shared one two q1 q2 a alike is =
     (second .0, second .1, rw (fewest-once (second .2) (r .1)) (r .2))
 
 -- `Asked` asks nothing but what a call was lent and promises: of the plan by value, and of the plan into a list
-pub asked-of : (file table after : List ℕ) (y : System) (r : Plan) → readFile file ≡ opened y → LongEnough y table → PlanPromises (readFile file) table 16 r after → Asked file y (outcomeOf (r .answer))
+pub asked-of : (file : List ℕ) (table after : Lent) (y : System) (r : Plan) → readFile file ≡ opened y → LongEnough y table → PlanPromises (readFile file) table 16 r after → Asked file y (outcomeOf (r .answer))
 asked-of file table after y r reads long p =
     record { table = table; room = 16; loads = r .loads; reads = reads; tableLong = long; listLong = read-limits file y reads .engines; keeps = p .demand2 }
 
-pub asked-list : (file table after : List ℕ) (list listAfter : List EngineRecord) (y : System) (answer : Answer) → readFile file ≡ opened y → LongEnough y table → y .engines ≤ length list
+pub asked-list : (file : List ℕ) (table after : Lent) (list listAfter : List EngineRecord) (y : System) (answer : Answer) → readFile file ≡ opened y → LongEnough y table → y .engines ≤ length list
     → ListPromises (readFile file) table list answer after listAfter → Asked file y (outcomeOf answer)
 asked-list file table after list listAfter y answer reads long room p =
     record { table = table; room = length list; loads = planLoads (verdictOf (readFile file) table (length list)); reads = reads; tableLong = long; listLong = room; keeps = p .demand2 }

@@ -1,6 +1,6 @@
 -- Demands 1 and 2 of the plan, as the contracts of both plan calls cite them. What they say of files that open is in plain arithmetic and in assignments of single instances
 -- (partition/specs/Plain; table/specs/Meaning for a filled table), so that no word of a contract can make them true.
-use Prim.Native.Nat.{ℕ, _+_, _-_, _*_, _≤_, _<_}
+use Prim.Native.Nat.{ℕ, _-_, _≤_, _<_}
 use mathlib.Core.List.{List, [], _∷_}
 use mathlib.Core.Path.{_≡_}
 use mathlib.Core.Logic.{_↔_}
@@ -11,22 +11,23 @@ use Rattle.system.specs.Layout.{Reading, opened, unread}
 use Rattle.system.specs.Outcome.{Outcome, Source, accepted, refused, fromInput, outcomeOf}
 use Rattle.loads.specs.declared.EngineLoad.{EngineLoad}
 use Rattle.partition.specs.Assignment.{Assignment}
+use Rattle.partition.specs.Lent.{Lent}
 use Rattle.partition.specs.OwnWords.{overInstances}
-use Rattle.partition.specs.Plain.{ceilingNo, columnsOut, LongEnough, EngineOf, placesNo, Partition, Impossible, RecordIs, recordNo, HoldsNothing, StandsOnFewest}
+use Rattle.partition.specs.Plain.{ceilingNo, LongEnough, TooShort, EngineOf, placesNo, Partition, Impossible, RecordIs, recordNo, HoldsNothing, StandsOnFewest}
 use Rattle.table.specs.Meaning.{FilledMeans, RecoveredBy}
 use Rattle.planner.specs.declared.Plan.{Plan}
 use Rattle.planner.specs.declared.EngineRecord.{EngineRecord}
 use Rattle.planner.specs.Plan.{verdictOf, usedEngines, planOutcome, plannedTypes, planLoads, planTable, planList}
 
--- "Plan continues 11, 15, 12": 1 to 10 and 31 are judged before 11, which is for a table shorter than (m+1) × columns, and 11 before 15, which is for a list shorter than m.
+-- "Plan continues 11, 15, 12": 1 to 10 and 31 are judged before 11, which is for a part of the table shorter than the columns, and 11 before 15, which is for a list shorter than m.
 -- Demand 2 says when it is 12
-pub record InOrder (x : Reading) (table : List ℕ) (room : ℕ) (outcome : Outcome) : Type 0 where
+pub record InOrder (x : Reading) (table : Lent) (room : ℕ) (outcome : Outcome) : Type 0 where
   pub fileFirst : (n : ℕ) → x ≡ unread n → outcome ≡ refused fromInput n
-  pub thenTable : (y : System) → x ≡ opened y → (outcome ≡ refused fromInput 11) ↔ (length table < (y .engines + 1) * columnsOut y)
+  pub thenTable : (y : System) → x ≡ opened y → (outcome ≡ refused fromInput 11) ↔ TooShort y table
   pub thenList : (y : System) → x ≡ opened y → LongEnough y table → (outcome ≡ refused fromInput 15) ↔ (room < y .engines)
 
 -- Demand 1: a refused plan leaves the table as it was lent, except that 12 leaves it filled; a plan that is given leaves it filled
-pub record Demand1 (x : Reading) (table : List ℕ) (outcome : Outcome) (after : List ℕ) : Type 0 where
+pub record Demand1 (x : Reading) (table : Lent) (outcome : Outcome) (after : Lent) : Type 0 where
   pub asLent : (s : Source) (n : ℕ) → outcome ≡ refused s n → (n ≡ 12 → ⊥) → after ≡ table
   pub unreadLent : (n : ℕ) → x ≡ unread n → after ≡ table
   pub filledOn12 : (y : System) (s : Source) → x ≡ opened y → outcome ≡ refused s 12 → FilledMeans y (y .engines) table after
@@ -34,7 +35,7 @@ pub record Demand1 (x : Reading) (table : List ℕ) (outcome : Outcome) (after :
 
 -- Demand 2: where the file reads and 11 and 15 pass, a plan is refused 12 exactly when the n(t) instances of each type cannot be partitioned among the engines 1 to m;
 -- a plan that is given is such a partition on the fewest engines, one load of six counts for each engine that a system can have, and the engines past the answer hold nothing
-pub record Demand2 (x : Reading) (table : List ℕ) (room : ℕ) (outcome : Outcome) (loads : List EngineLoad) : Type 0 where
+pub record Demand2 (x : Reading) (table : Lent) (room : ℕ) (outcome : Outcome) (loads : List EngineLoad) : Type 0 where
   pub impossible : (y : System) → x ≡ opened y → LongEnough y table → y .engines ≤ room → (outcome ≡ refused fromInput 12) ↔ Impossible y (EngineOf y) (ceilingNo y)
   pub answered : (y : System) → x ≡ opened y → LongEnough y table → y .engines ≤ room → (χ : Assignment) → Partition y (EngineOf y) (ceilingNo y) χ → (used : ℕ) × (outcome ≡ accepted (used ∷ []))
   pub given : (y : System) (used : ℕ) → x ≡ opened y → outcome ≡ accepted (used ∷ []) → StandsOnFewest y (EngineOf y) (ceilingNo y) loads used
@@ -43,12 +44,12 @@ pub record Demand2 (x : Reading) (table : List ℕ) (room : ℕ) (outcome : Outc
   pub idlePast : (used e : ℕ) → outcome ≡ accepted (used ∷ []) → used < e → HoldsNothing (recordNo loads e)
 
 -- "the recovery of n(t) instances of each type", read in the table that the plan leaves: engine e has row e of it
-abbrev pub Recovers : Reading → Outcome → List EngineLoad → List ℕ → Type 0
+abbrev pub Recovers : Reading → Outcome → List EngineLoad → Lent → Type 0
 Recovers x outcome loads after =
     (y : System) (used : ℕ) → x ≡ opened y → outcome ≡ accepted (used ∷ []) → RecoveredBy y after used (ceilingNo y) (λ (e t : ℕ). getD (recordNo loads e .counts) (t - 1) 0)
 
 -- what the call `plan_of` promises: its whole result and the table; with that demands 1 and 2, and that the two other numbers of a given plan are those of the answer and of the file
-pub record PlanPromises (x : Reading) (table : List ℕ) (room : ℕ) (r : Plan) (after : List ℕ) : Type 0 where
+pub record PlanPromises (x : Reading) (table : Lent) (room : ℕ) (r : Plan) (after : Lent) : Type 0 where
   pub answers : outcomeOf (r .answer) ≡ planOutcome (verdictOf x table room)
   pub uses : r .used ≡ usedEngines (verdictOf x table room)
   pub counts : r .typecount ≡ plannedTypes (verdictOf x table room)
@@ -85,7 +86,7 @@ pub record ListHolds (x : Reading) (list : List EngineRecord) (outcome : Outcome
   pub laterKept : (used e : ℕ) → outcome ≡ accepted (used ∷ []) → used < e → entryNo after e ≡ entryNo list e
 
 -- what the call `plan_into` promises of its answer, the table and the list, and with that demands 1 and 2. The room is the list's length
-pub record ListPromises (x : Reading) (table : List ℕ) (list : List EngineRecord) (answer : Answer) (tableAfter : List ℕ) (listAfter : List EngineRecord) : Type 0 where
+pub record ListPromises (x : Reading) (table : Lent) (list : List EngineRecord) (answer : Answer) (tableAfter : Lent) (listAfter : List EngineRecord) : Type 0 where
   pub answers : outcomeOf answer ≡ planOutcome (verdictOf x table (length list))
   pub leavesTable : tableAfter ≡ planTable x table (length list)
   pub leavesList : listAfter ≡ planList (verdictOf x table (length list)) list

@@ -1,5 +1,6 @@
 -- The definitions of crate `planner`, in reading order.
 pub mod Plan
 pub mod Demands
+pub mod Document01
 pub mod Releases
 pub mod Inner

@@ -13,6 +13,7 @@ use Rattle.loads.specs.declared.EngineLoad.{EngineLoad}
 use Rattle.loads.specs.Load.{engineWith, idleEngine}
 use Rattle.partition.specs.Assignment.{enginesTo}
 use Rattle.partition.specs.ForSystem.{rowFor, placeable, recoveredFor}
+use Rattle.partition.specs.Lent.{Lent}
 use Rattle.table.specs.Table.{tableCheck, filled}
 use Rattle.planner.specs.declared.EngineRecord.{EngineRecord}
 
@@ -29,7 +30,7 @@ abbrev pub placeCheck : System → Checked
 placeCheck y = check (placeable y (planEngines y) (ceilingsOf y)) fromInput 12
 
 -- what is lent is judged before any work: 11, then 15
-abbrev pub lentCheck : System → List ℕ → ℕ → Checked
+abbrev pub lentCheck : System → Lent → ℕ → Checked
 lentCheck y table room = andThen (tableCheck y table) (listCheck y room)
 
 -- a system that is planned, or the refusal
@@ -43,7 +44,7 @@ judged y passes = planned y
 judged y (fails s n) = unplanned s n
 
 -- 1 to 10 and 31 as the file is read, then 11, 15, 12
-unfoldable pub verdictOf : Reading → List ℕ → ℕ → Verdict
+unfoldable pub verdictOf : Reading → Lent → ℕ → Verdict
 verdictOf (unread n) table room = unplanned fromInput n
 verdictOf (opened y) table room = judged y (andThen (lentCheck y table room) (placeCheck y))
 
@@ -68,12 +69,12 @@ planLoads (planned y) = map (engineWith y) (recoveredFor engineLimit y (planEngi
 planLoads (unplanned s n) = replicate engineLimit idleEngine
 
 -- the table where the checks of what is lent refuse, and where they pass
-abbrev pub tableLeft : Checked → List ℕ → List ℕ → List ℕ
+abbrev pub tableLeft : Checked → Lent → Lent → Lent
 tableLeft (fails s n) lent done = lent
 tableLeft passes lent done = done
 
 -- "The table is left filled": after a plan and after 12; 1 to 10, 31, 11 and 15 leave it as lent
-abbrev pub planTable : Reading → List ℕ → ℕ → List ℕ
+abbrev pub planTable : Reading → Lent → ℕ → Lent
 planTable (unread n) table room = table
 planTable (opened y) table room = tableLeft (lentCheck y table room) table (filled y (planEngines y) table)
 

@@ -7,13 +7,14 @@ use Rattle.system.specs.declared.System.{System}
 use Rattle.system.specs.Layout.{readFile, opened}
 use Rattle.system.specs.Outcome.{Outcome, accepted}
 use Rattle.loads.specs.declared.EngineLoad.{EngineLoad}
+use Rattle.partition.specs.Lent.{Lent}
 use Rattle.partition.specs.Plain.{LongEnough}
 use Rattle.partition.specs.Releases.{Bounds, TogetherAtMost, NoMore, BothReleases, SameButRule}
 use Rattle.planner.specs.Demands.{Demand2}
 
 -- `outcome` is what a plan of the file answered, table and list being long enough
 pub record Asked (file : List ℕ) (y : System) (outcome : Outcome) : Type 0 where
-  pub table : List ℕ
+  pub table : Lent
   pub room : ℕ
   pub loads : List EngineLoad
   pub reads : readFile file ≡ opened y

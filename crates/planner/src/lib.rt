@@ -7,6 +7,7 @@ ghost use lib.ListN.{length, take, drop};
 ghost use Rattle.system.specs.Limits.{engineLimit, keepsLimits};
 ghost use Rattle.system.specs.Layout.{readFile};
 ghost use Rattle.system.specs.Outcome.{checkedOf, andThen};
+ghost use Rattle.partition.specs.Lent.{lent};
 ghost use Rattle.table.specs.Table.{roomCheck};
 ghost use Rattle.planner.specs.Plan.{listCheck, recordsOf};
 ghost use Rattle.planner.specs.Demands.{PlanPromises, ListPromises};
@@ -96,12 +97,12 @@ fn list_check(y: System, room: usize) -> Check
     Check::Fails(Refusal::Input(15))
 }
 
-// What is lent is judged before any work: 11 for a table of `entries` entries, then 15.
-fn lent_check(y: System, entries: usize, room: usize) -> Check
+// What is lent is judged before any work: 11 for parts of `rows` and of `predecessors` entries, then 15.
+fn lent_check(y: System, rows: usize, predecessors: usize, room: usize) -> Check
     requires { ⌜ keepsLimits y ≡ true ⌝ }
-    ensures { λ r. ⌜ checkedOf r ≡ andThen (roomCheck y entries) (listCheck y room) ⌝ }
+    ensures { λ r. ⌜ checkedOf r ≡ andThen (roomCheck y rows predecessors) (listCheck y room) ⌝ }
 {
-    let check = table::table_check(y, entries);
+    let check = table::table_check(y, rows, predecessors);
     if let Check::Fails(why) = check {
         return Check::Fails(why);
     }
@@ -109,8 +110,8 @@ fn lent_check(y: System, entries: usize, room: usize) -> Check
 }
 
 // The plan of a file where the list that is to hold it has room for `room` records: refusals 1 to 10 and 31, 11, 15, 12.
-fn plan_for(file: &[u8], table: &mut [u16], room: usize) -> Plan
-    ensures { λ r. ⌜ PlanPromises (readFile (now (file .entry))) (now (table .entry)) room r (now (table .exit)) ⌝ }
+fn plan_for(file: &[u8], rows: &mut [u16], predecessors: &mut [u16], room: usize) -> Plan
+    ensures { λ r. ⌜ PlanPromises (readFile (now (file .entry))) (lent (now (rows .entry)) (now (predecessors .entry))) room r (lent (now (rows .exit)) (now (predecessors .exit))) ⌝ }
 {
     let read = system::read_system(file);
     let answer = read.answer;
@@ -118,12 +119,12 @@ fn plan_for(file: &[u8], table: &mut [u16], room: usize) -> Plan
         return refused_plan(answer);
     };
     let y = read.system;
-    let check = lent_check(y, table.len(), room);
+    let check = lent_check(y, rows.len(), predecessors.len(), room);
     if let Check::Fails(why) = check {
         return refused_plan(Answer::Refused(why));
     }
     let engines = table::engines_to(y.engines);
-    let placement = table::place(table, y, engines, table::ceilings_of(y));
+    let placement = table::place(rows, predecessors, y, engines, table::ceilings_of(y));
     if !placement.placed {
         return refused_plan(Answer::Refused(Refusal::Input(12)));
     }
@@ -136,18 +137,18 @@ fn plan_for(file: &[u8], table: &mut [u16], room: usize) -> Plan
     }
 }
 
-// The plan of a file: document 01's "Plan", by value. The lent table need not be clean.
-pub fn plan_of(file: &[u8], table: &mut [u16]) -> Plan
-    ensures { λ r. ⌜ PlanPromises (readFile (now (file .entry))) (now (table .entry)) engineLimit r (now (table .exit)) ⌝ }
+// The plan of a file: document 01's "Plan", by value. The lent parts need not be clean.
+pub fn plan_of(file: &[u8], rows: &mut [u16], predecessors: &mut [u16]) -> Plan
+    ensures { λ r. ⌜ PlanPromises (readFile (now (file .entry))) (lent (now (rows .entry)) (now (predecessors .entry))) engineLimit r (lent (now (rows .exit)) (now (predecessors .exit))) ⌝ }
 {
-    plan_for(file, table, ENGINE_LIMIT)
+    plan_for(file, rows, predecessors, ENGINE_LIMIT)
 }
 
 // The plan for a list of `room` records, with the records that go into it.
-fn plan_records(file: &[u8], table: &mut [u16], room: usize) -> ListPlan
-    ensures { λ r. ⌜ Lists (readFile (now (file .entry))) (now (table .entry)) room r (now (table .exit)) ⌝ }
+fn plan_records(file: &[u8], rows: &mut [u16], predecessors: &mut [u16], room: usize) -> ListPlan
+    ensures { λ r. ⌜ Lists (readFile (now (file .entry))) (lent (now (rows .entry)) (now (predecessors .entry))) room r (lent (now (rows .exit)) (now (predecessors .exit))) ⌝ }
 {
-    let plan = plan_for(file, table, room);
+    let plan = plan_for(file, rows, predecessors, room);
     let answer = plan.answer;
     let loads = plan.loads;
     let records = records_of(loads);
@@ -159,20 +160,30 @@ fn plan_records(file: &[u8], table: &mut [u16], room: usize) -> ListPlan
 }
 
 // The plan of a file into a lent list: a record for each used engine, the later records unchanged. Refused 15 where the list is shorter than m.
-pub fn plan_into(file: &[u8], table: &mut [u16], list: &mut [EngineRecord]) -> Answer
-    ensures { λ r. ⌜ ListPromises (readFile (now (file .entry))) (now (table .entry)) (now (list .entry)) r (now (table .exit)) (now (list .exit)) ⌝ }
+pub fn plan_into(
+    file: &[u8],
+    rows: &mut [u16],
+    predecessors: &mut [u16],
+    list: &mut [EngineRecord],
+) -> Answer
+    ensures { λ r. ⌜ ListPromises (readFile (now (file .entry))) (lent (now (rows .entry)) (now (predecessors .entry))) (now (list .entry)) r (lent (now (rows .exit)) (now (predecessors .exit))) (now (list .exit)) ⌝ }
 {
-    let plan = plan_records(file, table, list.len());
+    let plan = plan_records(file, rows, predecessors, list.len());
     put_records(list, plan.records, plan.used);
     plan.answer
 }
 
 // The same into a list that is handed over and back: a function that lends no list of its own calls this one.
-pub fn plan_list(file: &[u8], table: &mut [u16], list: [EngineRecord; ENGINE_LIMIT]) -> PlannedList
-    ensures { λ r. ⌜ ListPromises (readFile (now (file .entry))) (now (table .entry)) list (r .answer) (now (table .exit)) (r .list) ⌝ }
+pub fn plan_list(
+    file: &[u8],
+    rows: &mut [u16],
+    predecessors: &mut [u16],
+    list: [EngineRecord; ENGINE_LIMIT],
+) -> PlannedList
+    ensures { λ r. ⌜ ListPromises (readFile (now (file .entry))) (lent (now (rows .entry)) (now (predecessors .entry))) list (r .answer) (lent (now (rows .exit)) (now (predecessors .exit))) (r .list) ⌝ }
 {
     let mut records = list;
-    let answer = plan_into(file, table, &mut records);
+    let answer = plan_into(file, rows, predecessors, &mut records);
     PlannedList {
         answer: answer,
         list: records,

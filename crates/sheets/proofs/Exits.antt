@@ -17,6 +17,7 @@ use Rattle.system.specs.Outcome.{fromInput, refused, refusalOf, Checked, passes
 use Rattle.system.proofs.Laws.{unread-with}
 use Rattle.system.proofs.Checks.{check-passed, both-passed}
 use Rattle.partition.specs.ForSystem.{rowFor}
+use Rattle.partition.specs.Lent.{Lent}
 use Rattle.table.specs.declared.Placement.{Placement}
 use Rattle.table.specs.Table.{tableCheck, filled, placement}
 use Rattle.planner.specs.Plan.{planEngines, tableLeft}
@@ -32,7 +33,7 @@ refused-same : (why : Refusal) (n : ℕ) → refusalOf why ≡ refused fromInput
 refused-same (Input m) n e = cc
 refused-same (State m) n e = let z : _≡_ {A = ℕ} 0 1 = cc in absurd (omega arith)
 
-pub unread-checks : (x : Reading) (r : Opened) → Reads x r → (why : Refusal) → r .answer ≡ Declined why → (sheet table : List ℕ) → Checks x sheet table (Refused why) table
+pub unread-checks : (x : Reading) (r : Opened) → Reads x r → (why : Refusal) → r .answer ≡ Declined why → (sheet : List ℕ) (table : Lent) → Checks x sheet table (Refused why) table
 unread-checks x r reads why is sheet table =
     let (n, same, says) = unread-with x r reads why is in
     rw same (record { answer = refused-same why n says; left = refl })
@@ -43,7 +44,7 @@ fails-judged : (why : Refusal) (later : Checked) (fewer : Bool) → judgedSheet 
 fails-judged (Input n) later fewer = refl
 fails-judged (State n) later fewer = refl
 
-fails-left : (why : Refusal) (later : Checked) (table done : List ℕ) → tableLeft (andThen (failsWith why) later) table done ≡ table
+fails-left : (why : Refusal) (later : Checked) (table done : Lent) → tableLeft (andThen (failsWith why) later) table done ≡ table
 fails-left (Input n) later table done = refl
 fails-left (State n) later table done = refl
 
@@ -51,11 +52,11 @@ fails-alone : (why : Refusal) (fewer : Bool) → judgedSheet (failsWith why) few
 fails-alone (Input n) fewer = refl
 fails-alone (State n) fewer = refl
 
-left-alone : (why : Refusal) (table done : List ℕ) → tableLeft (failsWith why) table done ≡ table
+left-alone : (why : Refusal) (table done : Lent) → tableLeft (failsWith why) table done ≡ table
 left-alone (Input n) table done = refl
 left-alone (State n) table done = refl
 
-module _ (x : Reading) (y : System) (is : x ≡ opened y) (sheet table : List ℕ) where
+module _ (x : Reading) (y : System) (is : x ≡ opened y) (sheet : List ℕ) (table : Lent) where
   -- 11
   pub lent-checks : (why : Refusal) → failsWith why ≡ tableCheck y table → Checks x sheet table (Refused why) table
   unfolding sheetCheck

@@ -1,24 +1,26 @@
 -- What `check_sheet` promises, from what it answers and leaves by definition: one verdict over the four tests, and what each test means.
-use Prim.Native.Nat.{ℕ, _+_, _*_, _<_}
+use Prim.Native.Nat.{ℕ, _<_}
 use mathlib.Core.Path.{_≡_, refl, sym, _∙_}
 use mathlib.Core.List.{List}
 use mathlib.Core.Bool.{Bool, true, false}
 use mathlib.Core.Logic.{_↔_}
 use native.Mathlib.Omega.{arith}
-use lib.ListN.{length, getD}
+use lib.ListN.{getD}
 use Rattle.system.specs.declared.System.{System}
 use Rattle.system.specs.Limits.{keepsLimits}
 use Rattle.system.specs.Layout.{Reading, readFile, opened, unread}
 use Rattle.system.specs.Outcome.{Source, fromInput, Checked, check, andThen}
 use Rattle.system.proofs.Laws.{limits-of, read-keeps-limits}
 use Rattle.partition.specs.Assignment.{Assignment}
-use Rattle.partition.specs.Plain.{columnsOut, LongEnough, usedTo}
+use Rattle.partition.specs.Lent.{Lent}
+use Rattle.partition.specs.Plain.{LongEnough, TooShort, usedTo}
 use Rattle.partition.proofs.Lists.{not-both}
 use Rattle.table.specs.Table.{longEnough, filled}
 use Rattle.table.specs.Meaning.{FilledMeans}
+use Rattle.table.proofs.Room.{too-short-out}
 use Rattle.planner.specs.declared.EngineRecord.{EngineRecord}
 use Rattle.planner.specs.Plan.{planEngines, tableLeft}
-use Rattle.planner.proofs.Cases.{long-out, long-back, short-out, plan-fills}
+use Rattle.planner.proofs.Cases.{long-out, long-back, plan-fills}
 use Rattle.sheets.specs.declared.SheetAnswer.{SheetAnswer}
 use Rattle.sheets.specs.Checking.{laidOut, summedUp, addedUp, SheetOutcome, right, wrong, sheetOutcomeOf, recordsCheck, statedLoads, sheetCheck, fewerDo, judgedSheet, checkOutcome, checkTable}
 use Rattle.sheets.specs.Meaning.{sheetOut, GoodForAll, Stated, Each, SumsAndFit, AddUp, ChecksInOrder, CheckPromises}
@@ -73,7 +75,7 @@ says-right true true false c f g o = let z : _≡_ {A = ℕ} 0 1 = cc in absurd 
 says-right true true true false f g o = let z : _≡_ {A = ℕ} 0 1 = cc in absurd (omega arith)
 says-right true true true true f g o = (refl, refl, refl, refl, cc)
 
-left-by : (l a b c f : Bool) (s : Source) (n : ℕ) (table done : List ℕ) → verdict l a b c f ≡ wrong s n → tableLeft (checks l a b c) table done ≡ table
+left-by : (l a b c f : Bool) (s : Source) (n : ℕ) (table done : Lent) → verdict l a b c f ≡ wrong s n → tableLeft (checks l a b c) table done ≡ table
 left-by false a b c f s n table done o = refl
 left-by true false b c f s n table done o = refl
 left-by true true false c f s n table done o = refl
@@ -87,7 +89,7 @@ no-true false h = refl
 
 -- main: a file that opens
 
-module _ (y : System) (sheet table : List ℕ) where
+module _ (y : System) (sheet : List ℕ) (table : Lent) where
   abbrev long : Bool
   long = longEnough y table
 
@@ -112,10 +114,10 @@ module _ (y : System) (sheet table : List ℕ) where
   o = checkOutcome (opened y) sheet table
 
   module _ (keeps : keepsLimits y ≡ true) where
-    then-table : (o ≡ wrong fromInput 11) ↔ (length table < (y .engines + 1) * columnsOut y)
+    then-table : (o ≡ wrong fromInput 11) ↔ TooShort y table
     then-table =
         let said = says-11 sums totals (fewerDo y sheet) long layout in
-        ((λ e. short-out y (limits-of y keeps) table (said .0 (sym outcome-is ∙ e))), (λ h. outcome-is ∙ said .1 (no-true long (λ q. omega (arith, long-out y (limits-of y keeps) table q, h)))))
+        ((λ e. too-short-out y table keeps .0 (said .0 (sym outcome-is ∙ e))), (λ h. outcome-is ∙ said .1 (too-short-out y table keeps .1 h)))
 
     module _ (room : LongEnough y table) where
       is-long : long ≡ true
@@ -194,11 +196,11 @@ module _ (y : System) (sheet table : List ℕ) where
 -- main: any file
 
 -- the answer and the table are those that are defined
-pub record Checks (x : Reading) (sheet table : List ℕ) (r : SheetAnswer) (after : List ℕ) : Type 0 where
+pub record Checks (x : Reading) (sheet : List ℕ) (table : Lent) (r : SheetAnswer) (after : Lent) : Type 0 where
   pub answer : sheetOutcomeOf r ≡ checkOutcome x sheet table
   pub left : after ≡ checkTable x sheet table
 
-module _ (sheet table : List ℕ) where
+module _ (sheet : List ℕ) (table : Lent) where
   lent-back : (x : Reading) (s : Source) (n : ℕ) → checkOutcome x sheet table ≡ wrong s n → checkTable x sheet table ≡ table
   lent-back (unread k) s n e = refl
   lent-back (opened y) s n e =
@@ -215,7 +217,7 @@ module _ (sheet table : List ℕ) where
     orRight = λ y e. rw e (or-right y sheet table (known y e));
   }
 
-pub promises-of : (file sheet table : List ℕ) (r : SheetAnswer) (after : List ℕ) → Checks (readFile file) sheet table r after → CheckPromises (readFile file) sheet table r after
+pub promises-of : (file sheet : List ℕ) (table : Lent) (r : SheetAnswer) (after : Lent) → Checks (readFile file) sheet table r after → CheckPromises (readFile file) sheet table r after
 promises-of file sheet table r after p = record {
   answers = p .answer;
   leavesTable = p .left;

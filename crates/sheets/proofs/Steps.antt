@@ -17,7 +17,7 @@ use Rattle.loads.specs.declared.EngineLoad.{EngineLoad}
 use Rattle.loads.specs.Load.{idleEngine}
 use Rattle.loads.proofs.Steps.{ceilings}
 use Rattle.partition.specs.Listing.{sameList}
-use Rattle.table.specs.Table.{upTo}
+use Rattle.table.specs.Parts.{upTo}
 use Rattle.sheets.specs.declared.Taken.{Taken}
 use Rattle.sheets.specs.Sheet.{recordRule, fieldSize, statedLoad, isNext, takenAt, loadsFrom}
 

@@ -24,7 +24,8 @@ use Rattle.loads.specs.Load.{holdsNone, idleEngine}
 use Rattle.loads.proofs.Order.{within-refl}
 use Rattle.partition.specs.Assignment.{Assignment, countOn}
 use Rattle.partition.specs.ForSystem.{OnFewest as RecoveredOn}
-use Rattle.partition.specs.Plain.{ceilingNo, columnsOut, LongEnough, EngineOf, Impossible, usedTo}
+use Rattle.partition.specs.Lent.{Lent}
+use Rattle.partition.specs.Plain.{ceilingNo, LongEnough, TooShort, EngineOf, Impossible, usedTo}
 use Rattle.partition.proofs.Lists.{distinct-enginesTo}
 use Rattle.partition.proofs.ForSystem.{length-ceilings, recovered-on-fewest}
 use Rattle.partition.proofs.Plain.{usedTo-usedOf}
@@ -33,7 +34,7 @@ use Rattle.buffer.specs.Written.{Puts}
 use Rattle.planner.specs.declared.Plan.{Plan}
 use Rattle.planner.specs.Plan.{planEngines, Verdict, planned, unplanned, verdictOf, usedEngines, planOutcome, plannedTypes, planLoads, planTable}
 use Rattle.planner.specs.Demands.{PlanPromises}
-use Rattle.planner.proofs.Cases.{canPlace, plan-fills, on-fewest, few-used, length-loads, idle-load, Case, tooShort, tooSmall, noPlace, isPlanned, caseOf}
+use Rattle.planner.proofs.Cases.{canPlace, plan-fills, on-fewest, few-used, length-loads, idle-load, not-short, Case, tooShort, tooSmall, noPlace, isPlanned, caseOf}
 use Rattle.sheets.specs.Sheet.{sheetBytes, sheetSize, usedIn}
 use Rattle.sheets.specs.Writing.{sheetVerdict, planSheet, writeOutcome, writtenTo, writeTable}
 use Rattle.sheets.specs.Checking.{right, fewerDo, checkOutcome}
@@ -114,7 +115,7 @@ module _ (y : System) (keeps : keepsLimits y ≡ true) (can : canPlace y ≡ tru
       ∙ ap (sheetWith (y .typecount)) (gather-to (usedEngines (planned y)) loads few (used-mapped ∙ uses) (λ i h. ap (λ (l : EngineLoad). holdsNone (l .counts)) (idle-load y i h) ∙ idle-none))
 
   -- the check finds it right, and told no fewer
-  right-planned : (other : List ℕ) → LongEnough y other → checkOutcome (opened y) (planSheet (planned y)) other ≡ right false
+  right-planned : (other : Lent) → LongEnough y other → checkOutcome (opened y) (planSheet (planned y)) other ≡ right false
   right-planned other long =
       let is = sheet-of y keeps (planSheet (planned y)) mapping (on-fewest-engines .good) sheet-mapped in
       let none = no-fewer (fewerDo y (planSheet (planned y))) (fewer-out y keeps (planSheet (planned y)) mapping is .0) in
@@ -167,24 +168,24 @@ record Planned (y : System) (buffer : List ℕ) (v : Verdict) (n : ℕ) : Type 0
   pub size : n ≡ length (planSheet (planned y))
   pub bytes : writtenTo v buffer ≡ planSheet (planned y) ++ drop n buffer
 
-module _ (y : System) (keeps : keepsLimits y ≡ true) (table buffer : List ℕ) where
-  then-table : {v : Verdict} {after : List ℕ} → Case y table engineLimit v after → (writeOutcome v (length buffer) ≡ refused fromInput 11) ↔ (length table < (y .engines + 1) * columnsOut y)
+module _ (y : System) (keeps : keepsLimits y ≡ true) (table : Lent) (buffer : List ℕ) where
+  then-table : {v : Verdict} {after : Lent} → Case y table engineLimit v after → (writeOutcome v (length buffer) ≡ refused fromInput 11) ↔ TooShort y table
   unfolding writeOutcome
   then-table (tooShort less) = (λ o. less, λ h. refl)
   then-table (tooSmall long small) = absurd (omega (arith, small, limits-of y keeps .engines))
-  then-table (noPlace long enough none) = (λ o. (let z : _≡_ {A = ℕ} 12 11 = cc in absurd (omega arith)), λ h. absurd (omega (arith, long, h)))
-  then-table (isPlanned long enough can) = (λ o. absurd (omega (arith, is-30 y buffer fromInput 11 o .1)), λ h. absurd (omega (arith, long, h)))
+  then-table (noPlace long enough none) = (λ o. (let z : _≡_ {A = ℕ} 12 11 = cc in absurd (omega arith)), λ h. absurd (not-short y table long h))
+  then-table (isPlanned long enough can) = (λ o. absurd (omega (arith, is-30 y buffer fromInput 11 o .1)), λ h. absurd (not-short y table long h))
 
-  then-place : {v : Verdict} {after : List ℕ} → Case y table engineLimit v after → LongEnough y table → (writeOutcome v (length buffer) ≡ refused fromInput 12) ↔ Impossible y (EngineOf y) (ceilingNo y)
+  then-place : {v : Verdict} {after : Lent} → Case y table engineLimit v after → LongEnough y table → (writeOutcome v (length buffer) ≡ refused fromInput 12) ↔ Impossible y (EngineOf y) (ceilingNo y)
   unfolding writeOutcome
-  then-place (tooShort less) room = absurd (omega (arith, less, room))
+  then-place (tooShort less) room = absurd (not-short y table room less)
   then-place (tooSmall long small) room = absurd (omega (arith, small, limits-of y keeps .engines))
   then-place (noPlace long enough none) room = (λ o. none, λ h. refl)
   then-place (isPlanned long enough can) room = (λ o. absurd (omega (arith, is-30 y buffer fromInput 12 o .1)), λ none. absurd (none _ (on-fewest-engines y keeps can .good)))
 
   module _ (χ : Assignment) (f : GoodOnFewest y χ) where
-    then-room : {v : Verdict} {after : List ℕ} → Case y table engineLimit v after → LongEnough y table → (writeOutcome v (length buffer) ≡ refused fromInput 30) ↔ (length buffer < sizeFor y χ)
-    then-room (tooShort less) room = absurd (omega (arith, less, room))
+    then-room : {v : Verdict} {after : Lent} → Case y table engineLimit v after → LongEnough y table → (writeOutcome v (length buffer) ≡ refused fromInput 30) ↔ (length buffer < sizeFor y χ)
+    then-room (tooShort less) room = absurd (not-short y table room less)
     then-room (tooSmall long small) room = absurd (omega (arith, small, limits-of y keeps .engines))
     then-room (noPlace long enough none) room = absurd (none χ (f .good))
     then-room (isPlanned long enough can) room = (
@@ -192,28 +193,28 @@ module _ (y : System) (keeps : keepsLimits y ≡ true) (table buffer : List ℕ)
       (λ h. outcome-by y buffer true (lt-ltb (length buffer) (length (planSheet (planned y))) (rw (size-out y keeps can χ f) h))),
     )
 
-    or-written : {v : Verdict} {after : List ℕ} → Case y table engineLimit v after → LongEnough y table → sizeFor y χ ≤ length buffer → writeOutcome v (length buffer) ≡ accepted (sizeFor y χ ∷ [])
-    or-written (tooShort less) room h = absurd (omega (arith, less, room))
+    or-written : {v : Verdict} {after : Lent} → Case y table engineLimit v after → LongEnough y table → sizeFor y χ ≤ length buffer → writeOutcome v (length buffer) ≡ accepted (sizeFor y χ ∷ [])
+    or-written (tooShort less) room h = absurd (not-short y table room less)
     or-written (tooSmall long small) room h = absurd (omega (arith, small, limits-of y keeps .engines))
     or-written (noPlace long enough none) room h = absurd (none χ (f .good))
     or-written (isPlanned long enough can) room h =
         outcome-by y buffer false (le-ltb (length buffer) (length (planSheet (planned y))) (rw (size-out y keeps can χ f) h))
         ∙ ap (λ (n : ℕ). accepted (n ∷ [])) (size-out y keeps can χ f)
 
-  table-lent : {v : Verdict} {after : List ℕ} → Case y table engineLimit v after → (s : Source) (n : ℕ) → writeOutcome v (length buffer) ≡ refused s n → (n ≡ 12 → ⊥) → (n ≡ 30 → ⊥) → after ≡ table
+  table-lent : {v : Verdict} {after : Lent} → Case y table engineLimit v after → (s : Source) (n : ℕ) → writeOutcome v (length buffer) ≡ refused s n → (n ≡ 12 → ⊥) → (n ≡ 30 → ⊥) → after ≡ table
   unfolding writeOutcome
   table-lent (tooShort less) s n o not12 not30 = refl
   table-lent (tooSmall long small) s n o not12 not30 = refl
   table-lent (noPlace long enough none) s n o not12 not30 = absurd (not12 (cc))
   table-lent (isPlanned long enough can) s n o not12 not30 = absurd (not30 (is-30 y buffer s n o .1))
 
-  table-filled : {v : Verdict} {after : List ℕ} → Case y table engineLimit v after → LongEnough y table → FilledMeans y (y .engines) table after
-  table-filled (tooShort less) room = absurd (omega (arith, less, room))
+  table-filled : {v : Verdict} {after : Lent} → Case y table engineLimit v after → LongEnough y table → FilledMeans y (y .engines) table after
+  table-filled (tooShort less) room = absurd (not-short y table room less)
   table-filled (tooSmall long small) room = absurd (omega (arith, small, limits-of y keeps .engines))
   table-filled (noPlace long enough none) room = plan-fills y (limits-of y keeps) table long
   table-filled (isPlanned long enough can) room = plan-fills y (limits-of y keeps) table long
 
-  planned-on : {v : Verdict} {after : List ℕ} → Case y table engineLimit v after → (n : ℕ) → writeOutcome v (length buffer) ≡ accepted (n ∷ []) → Planned y buffer v n
+  planned-on : {v : Verdict} {after : Lent} → Case y table engineLimit v after → (n : ℕ) → writeOutcome v (length buffer) ≡ accepted (n ∷ []) → Planned y buffer v n
   unfolding writeOutcome
   planned-on (tooShort less) n o = let z : _≡_ {A = ℕ} 0 1 = cc in absurd (omega arith)
   planned-on (tooSmall long small) n o = let z : _≡_ {A = ℕ} 0 1 = cc in absurd (omega arith)
@@ -233,12 +234,12 @@ module _ (y : System) (keeps : keepsLimits y ≡ true) (table buffer : List ℕ)
   front-written : {v : Verdict} (n : ℕ) → Planned y buffer v n → take n (writtenTo v buffer) ≡ planSheet (planned y)
   front-written n p = ap (take n) (p .bytes) ∙ rw (p .size) (take-append-seam (planSheet (planned y)) (drop (length (planSheet (planned y))) buffer))
 
-  right-written : {v : Verdict} (n : ℕ) → Planned y buffer v n → (other : List ℕ) → LongEnough y other → checkOutcome (opened y) (take n (writtenTo v buffer)) other ≡ right false
+  right-written : {v : Verdict} (n : ℕ) → Planned y buffer v n → (other : Lent) → LongEnough y other → checkOutcome (opened y) (take n (writtenTo v buffer)) other ≡ right false
   right-written n p other long = rw (front-written n p) (right-planned y keeps (p .placeable) other long)
 
 -- main: the plan that is given for a file that opens, over any table, and the sheet that is written
 
-plan-is : {y : System} {table : List ℕ} {room : ℕ} {v : Verdict} {after : List ℕ} → Case y table room v after → (used : ℕ) → planOutcome v ≡ accepted (used ∷ []) → (v ≡ planned y) × (usedEngines (planned y) ≡ used)
+plan-is : {y : System} {table : Lent} {room : ℕ} {v : Verdict} {after : Lent} → Case y table room v after → (used : ℕ) → planOutcome v ≡ accepted (used ∷ []) → (v ≡ planned y) × (usedEngines (planned y) ≡ used)
 plan-is (tooShort less) used o = let z : _≡_ {A = ℕ} 0 1 = cc in absurd (omega arith)
 plan-is (tooSmall long small) used o = let z : _≡_ {A = ℕ} 0 1 = cc in absurd (omega arith)
 plan-is (noPlace long enough none) used o = let z : _≡_ {A = ℕ} 0 1 = cc in absurd (omega arith)
@@ -253,13 +254,13 @@ of-plan y keeps can y′ p table room after used e q o =
     let count : usedEngines (planned y) ≡ used = is .1 in
     as-planned y keeps can ∙ (λ i. sheetWith (types i) (recordsTo (placed i) (count i)))
 
-plan-written : (y : System) → keepsLimits y ≡ true → (table buffer : List ℕ) {v : Verdict} (n : ℕ) → Planned y buffer v n → OfPlan (opened y) (take n (writtenTo v buffer))
+plan-written : (y : System) → keepsLimits y ≡ true → (table : Lent) (buffer : List ℕ) {v : Verdict} (n : ℕ) → Planned y buffer v n → OfPlan (opened y) (take n (writtenTo v buffer))
 plan-written y keeps table buffer n p = subst (OfPlan (opened y)) (sym (front-written y keeps table buffer n p)) (of-plan y keeps (p .placeable))
 
 -- main: any file
 
 -- the answer, the table and the buffer are those that are defined
-pub record Writes (x : Reading) (table buffer : List ℕ) (r : Answer) (tableAfter bufferAfter : List ℕ) : Type 0 where
+pub record Writes (x : Reading) (table : Lent) (buffer : List ℕ) (r : Answer) (tableAfter : Lent) (bufferAfter : List ℕ) : Type 0 where
   pub answer : outcomeOf r ≡ writeOutcome (sheetVerdict x table) (length buffer)
   pub table-left : tableAfter ≡ writeTable x table
   pub buffer-left : bufferAfter ≡ writtenTo (sheetVerdict x table) buffer
@@ -270,7 +271,7 @@ unfolding writtenTo
 buffer-lent (unplanned t k) buffer s n o = refl
 buffer-lent (planned y) buffer s n o = buffer-by y buffer true (is-30 y buffer s n o .0)
 
-module _ (table buffer : List ℕ) where
+module _ (table : Lent) (buffer : List ℕ) where
   file-first : (x : Reading) (n : ℕ) → x ≡ unread n → writeOutcome (sheetVerdict x table) (length buffer) ≡ refused fromInput n
   unfolding writeOutcome verdictOf
   file-first x n e = rw e
@@ -280,7 +281,7 @@ module _ (table buffer : List ℕ) where
   lent-back (unread k) known s n o not12 not30 = refl
   lent-back (opened y) known s n o not12 not30 = table-lent y (known y refl) table buffer (caseOf y (limits-of y (known y refl)) table engineLimit) s n o not12 not30
 
-pub promises-written : (file table buffer : List ℕ) (r : Answer) (tableAfter bufferAfter : List ℕ) → Writes (readFile file) table buffer r tableAfter bufferAfter → WriteSheetPromises (readFile file) table buffer r tableAfter bufferAfter
+pub promises-written : (file : List ℕ) (table : Lent) (buffer : List ℕ) (r : Answer) (tableAfter : Lent) (bufferAfter : List ℕ) → Writes (readFile file) table buffer r tableAfter bufferAfter → WriteSheetPromises (readFile file) table buffer r tableAfter bufferAfter
 promises-written file table buffer r tableAfter bufferAfter p = record {
   answers = p .answer;
   leavesTable = p .table-left;
@@ -334,8 +335,8 @@ pub record Given (x : Reading) (v : Verdict) : Type 0 where
   pub same : v ≡ planned system
   pub placeable : canPlace system ≡ true
 
-module _ (table : List ℕ) (used : ℕ) where
-  given-case : {y : System} {v : Verdict} {after : List ℕ} → Case y table engineLimit v after → planOutcome v ≡ accepted (used ∷ []) → Given (opened y) v
+module _ (table : Lent) (used : ℕ) where
+  given-case : {y : System} {v : Verdict} {after : Lent} → Case y table engineLimit v after → planOutcome v ≡ accepted (used ∷ []) → Given (opened y) v
   given-case (tooShort less) o = let z : _≡_ {A = ℕ} 0 1 = cc in absurd (omega arith)
   given-case (tooSmall long small) o = let z : _≡_ {A = ℕ} 0 1 = cc in absurd (omega arith)
   given-case (noPlace long enough none) o = let z : _≡_ {A = ℕ} 0 1 = cc in absurd (omega arith)
@@ -346,7 +347,7 @@ module _ (table : List ℕ) (used : ℕ) where
   given-of (unread n) known o = let z : _≡_ {A = ℕ} 0 1 = cc in absurd (omega arith)
   given-of (opened y) known o = given-case (caseOf y (limits-of y (known y refl)) table engineLimit) o
 
-module _ (file table buffer : List ℕ) (r : Plan) (after : List ℕ) (p : PlanPromises (readFile file) table engineLimit r after) where
+module _ (file : List ℕ) (table : Lent) (buffer : List ℕ) (r : Plan) (after : Lent) (p : PlanPromises (readFile file) table engineLimit r after) where
   abbrev v : Verdict
   v = sheetVerdict (readFile file) table
 

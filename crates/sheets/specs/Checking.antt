@@ -12,6 +12,7 @@ use Rattle.system.specs.Outcome.{Source, fromInput, fromState, Checked, passes,
 use Rattle.loads.specs.declared.EngineLoad.{EngineLoad}
 use Rattle.partition.specs.Listing.{sameList}
 use Rattle.partition.specs.ForSystem.{rowFor}
+use Rattle.partition.specs.Lent.{Lent}
 use Rattle.table.specs.Table.{tableCheck, filled}
 use Rattle.planner.specs.Plan.{planEngines, tableLeft}
 use Rattle.board.specs.Boards.{standingOf}
@@ -62,7 +63,7 @@ abbrev pub statedLoads : System → List ℕ → List EngineLoad
 statedLoads y sheet = loadsIn (y .engines) (y .typecount) sheet
 
 -- 11, 32, 33, 34, of a file that opens
-unfoldable pub sheetCheck : System → List ℕ → List ℕ → Checked
+unfoldable pub sheetCheck : System → List ℕ → Lent → Checked
 sheetCheck y sheet table = andThen (tableCheck y table) (recordsCheck y sheet (statedLoads y sheet))
 
 -- by the cells, all instances can be placed on fewer engines
@@ -74,11 +75,11 @@ judgedSheet (fails s n) fewer = wrong s n
 judgedSheet passes fewer = right fewer
 
 -- 1 to 10 and 31 as the file is read, then the checks
-abbrev pub checkOutcome : Reading → List ℕ → List ℕ → SheetOutcome
+abbrev pub checkOutcome : Reading → List ℕ → Lent → SheetOutcome
 checkOutcome (unread n) sheet table = wrong fromInput n
 checkOutcome (opened y) sheet table = judgedSheet (sheetCheck y sheet table) (fewerDo y sheet)
 
 -- "filling the table only for one accepted"
-abbrev pub checkTable : Reading → List ℕ → List ℕ → List ℕ
+abbrev pub checkTable : Reading → List ℕ → Lent → Lent
 checkTable (unread n) sheet table = table
 checkTable (opened y) sheet table = tableLeft (sheetCheck y sheet table) table (filled y (planEngines y) table)

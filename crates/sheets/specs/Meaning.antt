@@ -13,8 +13,9 @@ use Rattle.system.specs.Layout.{Reading, opened, unread}
 use Rattle.system.specs.Outcome.{Outcome, Source, accepted, refused, fromInput, outcomeOf}
 use Rattle.loads.specs.declared.EngineLoad.{EngineLoad}
 use Rattle.partition.specs.Assignment.{Assignment}
+use Rattle.partition.specs.Lent.{Lent}
 use Rattle.partition.specs.OwnWords.{overInstances, timeOn, memoryOn, sharedMemoryOn}
-use Rattle.partition.specs.Plain.{ceilingNo, columnsOut, LongEnough, EngineOf, placesNo, Partition, Impossible, hosts, usedTo, recordNo}
+use Rattle.partition.specs.Plain.{ceilingNo, LongEnough, TooShort, EngineOf, placesNo, Partition, Impossible, hosts, usedTo, recordNo}
 use Rattle.writer.specs.Meaning.{twoOut, fourOut}
 use Rattle.table.specs.Meaning.{FilledMeans}
 use Rattle.planner.specs.declared.EngineRecord.{EngineRecord}
@@ -112,9 +113,9 @@ AddUp y rs = (t : ℕ) → 1 ≤ t → totalIn t rs ≡ ceilingNo y t
 -- The check
 
 -- "in this order, after 11": each number is said exactly where its check fails and all before it pass
-pub record ChecksInOrder (x : Reading) (sheet table : List ℕ) (o : SheetOutcome) : Type 0 where
+pub record ChecksInOrder (x : Reading) (sheet : List ℕ) (table : Lent) (o : SheetOutcome) : Type 0 where
   pub fileFirst : (n : ℕ) → x ≡ unread n → o ≡ wrong fromInput n
-  pub thenTable : (y : System) → x ≡ opened y → (o ≡ wrong fromInput 11) ↔ (length table < (y .engines + 1) * columnsOut y)
+  pub thenTable : (y : System) → x ≡ opened y → (o ≡ wrong fromInput 11) ↔ TooShort y table
   pub thenLayout : (y : System) → x ≡ opened y → LongEnough y table → (o ≡ wrong fromInput 32) ↔ ((rs : List EngineRecord) → Stated y sheet rs → ⊥)
   pub orStated : (y : System) → x ≡ opened y → LongEnough y table → (o ≡ wrong fromInput 32 → ⊥) → (rs : List EngineRecord) × Stated y sheet rs
   pub thenSums : (y : System) → x ≡ opened y → LongEnough y table → (rs : List EngineRecord) → Stated y sheet rs → (o ≡ wrong fromInput 33) ↔ (Each (SumsAndFit y) rs → ⊥)
@@ -123,7 +124,7 @@ pub record ChecksInOrder (x : Reading) (sheet table : List ℕ) (o : SheetOutcom
 
 -- What the call `check_sheet` promises: its answer and the table, whole; the order of its refusals; that exactly the sheets of good assignments of all instances are right;
 -- that "fewer" is said exactly when some good assignment uses fewer engines than the sheet's fourth byte says; and that only a right sheet fills the table
-pub record CheckPromises (x : Reading) (sheet table : List ℕ) (r : SheetAnswer) (after : List ℕ) : Type 0 where
+pub record CheckPromises (x : Reading) (sheet : List ℕ) (table : Lent) (r : SheetAnswer) (after : Lent) : Type 0 where
   pub answers : sheetOutcomeOf r ≡ checkOutcome x sheet table
   pub leavesTable : after ≡ checkTable x sheet table
   pub order : ChecksInOrder x sheet table (sheetOutcomeOf r)
@@ -142,9 +143,9 @@ pub record GoodOnFewest (y : System) (χ : Assignment) : Type 0 where
   pub fewest : (χ′ : Assignment) → GoodForAll y χ′ → usedTo (y .engines) χ ≤ usedTo (y .engines) χ′
 
 -- 1 to 10 and 31, then 11, 12, 30: a sheet on u engines has 5 + u × (12 + 2k) bytes
-pub record SheetsInOrder (x : Reading) (table buffer : List ℕ) (o : Outcome) : Type 0 where
+pub record SheetsInOrder (x : Reading) (table : Lent) (buffer : List ℕ) (o : Outcome) : Type 0 where
   pub fileFirst : (n : ℕ) → x ≡ unread n → o ≡ refused fromInput n
-  pub thenTable : (y : System) → x ≡ opened y → (o ≡ refused fromInput 11) ↔ (length table < (y .engines + 1) * columnsOut y)
+  pub thenTable : (y : System) → x ≡ opened y → (o ≡ refused fromInput 11) ↔ TooShort y table
   pub thenPlace : (y : System) → x ≡ opened y → LongEnough y table → (o ≡ refused fromInput 12) ↔ Impossible y (EngineOf y) (ceilingNo y)
   pub thenRoom : (y : System) → x ≡ opened y → LongEnough y table → (χ : Assignment) → GoodOnFewest y χ
       → (o ≡ refused fromInput 30) ↔ (length buffer < 5 + usedTo (y .engines) χ * (12 + 2 * y .typecount))
@@ -167,12 +168,12 @@ recordsTo loads (suc e) = recordsTo loads e ++ (record { number = suc e; load = 
 -- the number of engines that it uses, and then the records of just these engines, 1 to that number
 abbrev pub OfPlan : Reading → List ℕ → Type 0
 OfPlan x sheet =
-    (y : System) (p : Plan) (table : List ℕ) (room : ℕ) (after : List ℕ) (used : ℕ) → x ≡ opened y → PlanPromises x table room p after → outcomeOf (p .answer) ≡ accepted (used ∷ [])
+    (y : System) (p : Plan) (table : Lent) (room : ℕ) (after : Lent) (used : ℕ) → x ≡ opened y → PlanPromises x table room p after → outcomeOf (p .answer) ≡ accepted (used ∷ [])
     → sheet ≡ sheetWith (y .typecount) (recordsTo (p .loads) used)
 
 -- What the call `write_sheet` promises: its answer, the table and the buffer, whole; the order of its refusals; demand 1; the bytes; that the check finds them right, and no fewer engines;
 -- and that they are those of the plan that `plan_of` gives
-pub record WriteSheetPromises (x : Reading) (table buffer : List ℕ) (r : Answer) (tableAfter bufferAfter : List ℕ) : Type 0 where
+pub record WriteSheetPromises (x : Reading) (table : Lent) (buffer : List ℕ) (r : Answer) (tableAfter : Lent) (bufferAfter : List ℕ) : Type 0 where
   pub answers : outcomeOf r ≡ writeOutcome (sheetVerdict x table) (length buffer)
   pub leavesTable : tableAfter ≡ writeTable x table
   pub leavesBuffer : bufferAfter ≡ writtenTo (sheetVerdict x table) buffer
@@ -182,5 +183,5 @@ pub record WriteSheetPromises (x : Reading) (table buffer : List ℕ) (r : Answe
   pub unreadLent : (n : ℕ) → x ≡ unread n → tableAfter ≡ table
   pub tableFilled : (y : System) → x ≡ opened y → LongEnough y table → FilledMeans y (y .engines) table tableAfter
   pub writes : (y : System) (n : ℕ) → x ≡ opened y → outcomeOf r ≡ accepted (n ∷ []) → SheetWritten y n buffer bufferAfter
-  pub isRight : (y : System) (n : ℕ) (other : List ℕ) → x ≡ opened y → outcomeOf r ≡ accepted (n ∷ []) → LongEnough y other → checkOutcome x (take n bufferAfter) other ≡ right false
+  pub isRight : (y : System) (n : ℕ) (other : Lent) → x ≡ opened y → outcomeOf r ≡ accepted (n ∷ []) → LongEnough y other → checkOutcome x (take n bufferAfter) other ≡ right false
   pub samePlan : (n : ℕ) → outcomeOf r ≡ accepted (n ∷ []) → OfPlan x (take n bufferAfter)

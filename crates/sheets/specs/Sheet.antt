@@ -11,7 +11,7 @@ use Rattle.system.specs.Layout.{byteAt, word2, word4}
 use Rattle.loads.specs.declared.EngineLoad.{EngineLoad}
 use Rattle.loads.specs.Load.{holdsNone, idleEngine}
 use Rattle.partition.specs.Shares.{usedLoads}
-use Rattle.table.specs.Table.{upTo}
+use Rattle.table.specs.Parts.{upTo}
 use Rattle.board.specs.Boards.{countsOf}
 use Rattle.sheets.specs.declared.SheetRule.{SheetRule}
 use Rattle.sheets.specs.declared.Taken.{Taken}

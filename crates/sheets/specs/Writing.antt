@@ -7,11 +7,12 @@ use lib.Dec.{ltb}
 use Rattle.system.specs.Limits.{engineLimit}
 use Rattle.system.specs.Layout.{Reading}
 use Rattle.system.specs.Outcome.{Outcome, accepted, refused, fromInput}
+use Rattle.partition.specs.Lent.{Lent}
 use Rattle.planner.specs.Plan.{Verdict, planned, unplanned, verdictOf, plannedTypes, planLoads, planTable}
 use Rattle.sheets.specs.Sheet.{sheetBytes}
 
 -- a plan by value: 1 to 10 and 31, then 11, 12. Its list has room for every engine, so that 15 does not arise
-abbrev pub sheetVerdict : Reading → List ℕ → Verdict
+abbrev pub sheetVerdict : Reading → Lent → Verdict
 sheetVerdict x table = verdictOf x table engineLimit
 
 -- the sheet of a plan
@@ -31,5 +32,5 @@ writtenTo (planned y) buffer =
     cond (ltb (length buffer) (length (planSheet (planned y)))) buffer (planSheet (planned y) ++ drop (length (planSheet (planned y))) buffer)
 
 -- the table: filled by a plan, by 12 and by 30, else as lent
-abbrev pub writeTable : Reading → List ℕ → List ℕ
+abbrev pub writeTable : Reading → Lent → Lent
 writeTable x table = planTable x table engineLimit

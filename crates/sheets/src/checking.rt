@@ -10,6 +10,7 @@ ghost use Rattle.system.specs.Limits.{typeLimit};
 ghost use Rattle.system.specs.Layout.{readFile};
 ghost use Rattle.system.specs.Outcome.{checkedOf};
 ghost use Rattle.partition.specs.Listing.{sameList};
+ghost use Rattle.partition.specs.Lent.{lent};
 ghost use Rattle.sheets.specs.Sheet.{statedCount, statedCounts, statedLoad, takenAt, loadsIn};
 ghost use Rattle.sheets.specs.Checking.{layoutCheck, sumsCheck, totalsCheck, recordsCheck};
 ghost use Rattle.sheets.specs.Meaning.{CheckPromises};
@@ -190,8 +191,13 @@ fn records_check(sheet: &[u8], y: System, loads: [EngineLoad; ENGINE_LIMIT]) -> 
 
 // Checks a sheet against its system file: right, with whether some good assignment uses fewer engines; or refused 1 to 10 and 31, then 11, 32, 33, 34.
 // The table need not be clean, and is filled only for a sheet that is right.
-pub fn check_sheet(file: &[u8], sheet: &[u8], table: &mut [u16]) -> SheetAnswer
-    ensures { λ r. ⌜ CheckPromises (readFile (now (file .entry))) (now (sheet .entry)) (now (table .entry)) r (now (table .exit)) ⌝ }
+pub fn check_sheet(
+    file: &[u8],
+    sheet: &[u8],
+    rows: &mut [u16],
+    predecessors: &mut [u16],
+) -> SheetAnswer
+    ensures { λ r. ⌜ CheckPromises (readFile (now (file .entry))) (now (sheet .entry)) (lent (now (rows .entry)) (now (predecessors .entry))) r (lent (now (rows .exit)) (now (predecessors .exit))) ⌝ }
 {
     let read = system::read_system(file);
     let answer = read.answer;
@@ -199,8 +205,8 @@ pub fn check_sheet(file: &[u8], sheet: &[u8], table: &mut [u16]) -> SheetAnswer
         return SheetAnswer::Refused(why);
     }
     let y = read.system;
-    let lent = table::table_check(y, table.len());
-    if let Check::Fails(why) = lent {
+    let room = table::table_check(y, rows.len(), predecessors.len());
+    if let Check::Fails(why) = room {
         return SheetAnswer::Refused(why);
     }
     let loads = loads_in(sheet, y.engines, y.typecount);
@@ -209,6 +215,6 @@ pub fn check_sheet(file: &[u8], sheet: &[u8], table: &mut [u16]) -> SheetAnswer
         return SheetAnswer::Refused(why);
     }
     let engines = table::engines_to(y.engines);
-    let placement = table::place(table, y, engines, table::ceilings_of(y));
+    let placement = table::place(rows, predecessors, y, engines, table::ceilings_of(y));
     SheetAnswer::Right(placement.used < used_engines(loads))
 }

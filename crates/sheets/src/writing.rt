@@ -7,6 +7,7 @@ ghost use Rattle.buffer.specs.Written.{Puts};
 ghost use Rattle.system.specs.Limits.{typeLimit};
 ghost use Rattle.system.specs.Rules.{headSize};
 ghost use Rattle.system.specs.Layout.{readFile};
+ghost use Rattle.partition.specs.Lent.{lent};
 ghost use Rattle.sheets.specs.Sheet.{recordRule, ruleAt, fieldSize, headBytes, countsBytes, recordBytes, engineBytes, engineSize, usedIn, recordsBytes, sheetBytes, sheetSize};
 ghost use Rattle.sheets.specs.Meaning.{WriteSheetPromises};
 use crate::rules::HEADER;
@@ -97,10 +98,15 @@ pub(crate) fn put_sheet(out: &mut [u8], k: usize, loads: [EngineLoad; ENGINE_LIM
 
 // Writes the plan of a file as a sheet at the start of the buffer, and answers its length; or refused 1 to 10 and 31, then 11, 12, 30, and nothing is written.
 // The table need not be clean; it is left filled from 12 on. Bytes past the sheet stay as they were.
-pub fn write_sheet(file: &[u8], table: &mut [u16], buffer: &mut [u8]) -> Answer
-    ensures { λ r. ⌜ WriteSheetPromises (readFile (now (file .entry))) (now (table .entry)) (now (buffer .entry)) r (now (table .exit)) (now (buffer .exit)) ⌝ }
+pub fn write_sheet(
+    file: &[u8],
+    rows: &mut [u16],
+    predecessors: &mut [u16],
+    buffer: &mut [u8],
+) -> Answer
+    ensures { λ r. ⌜ WriteSheetPromises (readFile (now (file .entry))) (lent (now (rows .entry)) (now (predecessors .entry))) (now (buffer .entry)) r (lent (now (rows .exit)) (now (predecessors .exit))) (now (buffer .exit)) ⌝ }
 {
-    let plan = planner::plan_of(file, table);
+    let plan = planner::plan_of(file, rows, predecessors);
     let answer = plan.answer;
     let Answer::Number(used) = answer else {
         return answer;

@@ -295,8 +295,8 @@ module _ (p : List ℕ) (last k c : ℕ) (here : Reached p last k c) where
       let some : 1 ≤ k → eqb (y .typecount) 0 ≡ false = λ h. ne-eqb (y .typecount) 0 (λ e. omega (arith, here .types)) in
       record {
         no-type = λ e. ends (unread 9) (rw (here .not-first, here .types, e));
-        columns-over = λ h large. ends (unread 10) (rw (here .not-first, some h, here .columns, lt-leb c 1024 large));
-        opens = λ h small. (y, ends (opened y) (rw (here .not-first, some h, here .columns, le-leb c 1024 small)));
+        columns-over = λ h large. ends (unread 10) (rw (here .not-first, some h, here .columns, lt-leb c 4096 large));
+        opens = λ h small. (y, ends (opened y) (rw (here .not-first, some h, here .columns, le-leb c 4096 small)));
       }
 
 pub later-fields : LaterFields

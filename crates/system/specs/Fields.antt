@@ -61,8 +61,8 @@ pub record NextField (p : List ℕ) (last k : ℕ) : Type 0 where
 -- where nothing comes next: no type, then too many columns; any other file opens
 pub record FileEnd (p : List ℕ) (k c : ℕ) : Type 0 where
   pub no-type : k ≡ 0 → readFile p ≡ unread 9
-  pub columns-over : 1 ≤ k → 1024 < c → readFile p ≡ unread 10
-  pub opens : 1 ≤ k → c ≤ 1024 → (y : System) × (readFile p ≡ opened y)
+  pub columns-over : 1 ≤ k → 4096 < c → readFile p ≡ unread 10
+  pub opens : 1 ≤ k → c ≤ 4096 → (y : System) × (readFile p ≡ opened y)
 
 -- with the laws of the first field (`Order`) every file's refusal is told: it is empty, or its first field is refused, or it has such a beginning
 pub record LaterFields : Type 0 where

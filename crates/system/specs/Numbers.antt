@@ -12,9 +12,9 @@ typeLimit = 6
 abbrev pub sizeLimit : ℕ
 sizeLimit = 1000000
 
--- document 01's bound on the columns
+-- the largest number of columns: 1,024 in document 01, 4,096 since request 2026-10
 abbrev pub columnLimit : ℕ
-columnLimit = 1024
+columnLimit = 4096
 
 -- the bytes that program `plan` reads (request 2026-03)
 abbrev pub fileBytes : ℕ

@@ -10,7 +10,6 @@ pub use limits::ENGINE_LIMIT;
 pub use limits::FILE_BYTES;
 pub use limits::NO_COLUMN;
 pub use limits::SIZE_LIMIT;
-pub use limits::TABLE_LIMIT;
 pub use limits::TYPE_LIMIT;
 pub use limits::columns_fault;
 pub use limits::columns_within;

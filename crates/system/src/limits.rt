@@ -19,12 +19,9 @@ pub const TYPE_LIMIT: usize = 6;
 pub const SIZE_LIMIT: u32 = 1000000;
 
 // The largest product of all n + 1.
-pub const COLUMN_LIMIT: usize = 1024;
+pub const COLUMN_LIMIT: usize = 4096;
 
-// The entries of the largest table.
-pub const TABLE_LIMIT: usize = (ENGINE_LIMIT + 1) * COLUMN_LIMIT;
-
-// What a cell of the table holds that says no.
+// What a cell holds that says no, and the lent table where a column has no predecessor.
 pub const NO_COLUMN: u16 = 65535;
 
 // The bytes that program `plan` reads.

@@ -1,4 +1,4 @@
--- Laws of a table that is filled up to an entry: the cells of the entries before it, then what the table held.
+-- Laws of a part that is filled up to an entry: the entries before it, then what the part held.
 use Prim.Native.Nat.{ℕ, suc, _+_, _-_, _≤_, _<_}
 use mathlib.Core.Path.{_≡_, sym, ap, _∙_}
 use mathlib.Core.List.{List, _++_}
@@ -6,7 +6,7 @@ use native.Mathlib.Numerals.{add-one}
 use native.Mathlib.Omega.{arith}
 use lib.ListN.{length, getD, set, take, drop, length-append, length-drop, take-append-drop, List·getD-append}
 use lib.Seq.{set-at, drop-cons, append-snoc, drop-append-add, drop-drop, ext-getD, getD-take, length-take-le}
-use Rattle.table.specs.Table.{upTo}
+use Rattle.table.specs.Parts.{upTo}
 use Rattle.table.proofs.Filled.{length-upTo, getD-upTo}
 
 unfoldable pub begun : (ℕ → ℕ) → ℕ → List ℕ → List ℕ
@@ -21,7 +21,7 @@ module _ (f : ℕ → ℕ) (k : ℕ) (table : List ℕ) (room : k ≤ length tab
   unfolding begun
   getD-begun j h = List·getD-append (upTo f k) (drop k table) 0 j (rw (length-upTo f k) h) ∙ getD-upTo f k j h
 
-  -- where the entries before k hold their cells already
+  -- where the entries before k stand already
   pub begun-start : ((j : ℕ) → j < k → getD table j 0 ≡ f j) → begun f k table ≡ table
   unfolding begun
   begun-start h =

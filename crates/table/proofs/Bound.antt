@@ -1,4 +1,4 @@
--- How many pairs a fill tries at most: m times the product of (n + 1)(n + 2)/2, and just as many where no type fits an empty engine.
+-- The bound of request 2026-05: the product of (n + 1)(n + 2)/2 is what the columns under every column are together; and where no type fits an empty engine, column 0 alone has a yes.
 use Prim.Native.Nat.{ℕ, zero, suc, _+_, _-_, _*_, _≤_, _<_}
 use mathlib.Core.Path.{_≡_, refl, sym, ap, subst, _∙_}
 use mathlib.Core.List.{List, [], _∷_, map}
@@ -26,11 +26,8 @@ use Rattle.partition.specs.ForSystem.{cellFor}
 use Rattle.partition.specs.Plain.{ceilingNo}
 use Rattle.partition.proofs.Cells.{cell-predecessor, cell-zero-yes}
 use Rattle.partition.proofs.Plain.{ceiling-out}
-use Rattle.table.specs.Pairs.{triedAt, pairsOf}
-use Rattle.table.specs.Search.{visitedTo}
 use Rattle.table.specs.Meaning.{sumBelow, triangle, boundOut, NoneFits}
-use Rattle.table.proofs.Sums.{sum-same, sum-le, sum-constant, sum-times, sum-blocks}
-use Rattle.table.proofs.Pairs.{pairs-rows, visited-own, visited-self, tried-accepted, tried-all, tried-le, cell-ends}
+use Rattle.table.proofs.Sums.{sum-same, sum-times, sum-blocks}
 
 -- intermediate: 1 + 2 + .. + (n + 1)
 
@@ -105,20 +102,7 @@ module _ (y : System) (limits : Limits y) where
   room : columns y ≤ noColumn
   room = omega (arith, limits .columns)
 
-  -- main: the bound
-
-  row-bounded : (i : ℕ) → sumBelow (columns y) (λ (c : ℕ). length (triedAt y (i + 1) c)) ≤ boundOut y
-  row-bounded i =
-      rw (bound-out y (limits .six), add-one i)
-      (sum-le (columns y) (λ (c : ℕ). length (triedAt y (suc i) c)) (λ (c : ℕ). columnsOf (loadOf ns c))
-      (λ c l. tried-le ns c (cellFor y (suc i) c) (cell-ends (fitsEngine y) ns room i c l)))
-
-  pub pairs-bounded : (rows : ℕ) → pairsOf y rows ≤ rows * boundOut y
-  pairs-bounded rows =
-      rw (pairs-rows y rows, ← (sum-constant rows (boundOut y)))
-      (sum-le rows (λ (i : ℕ). sumBelow (columns y) (λ (c : ℕ). length (triedAt y (i + 1) c))) (λ (i : ℕ). boundOut y) (λ i l. row-bounded i))
-
-  -- main: the bound is met where no type fits
+  -- main: where no type fits
 
   module _ (nothing : NoneFits y) where
     none-held : (x : List ℕ) → within x ns ≡ true → fitsEngine y x ≡ true → holdsNone x ≡ true
@@ -135,7 +119,7 @@ module _ (y : System) (limits : Limits y) where
             (nothing (suc j) (omega arith) some))
 
     -- a row says yes at column 0 alone
-    yes-at-zero : (i c : ℕ) → c < columns y → saysYes (cellFor y i c) ≡ true → c ≡ 0
+    pub yes-at-zero : (i c : ℕ) → c < columns y → saysYes (cellFor y i c) ≡ true → c ≡ 0
     yes-at-zero zero c small h = cell-zero-yes (fitsEngine y) ns c h
     yes-at-zero (suc i) c small h =
         let p = cellFor y (suc i) c in
@@ -145,29 +129,6 @@ module _ (y : System) (limits : Limits y) where
         let rest : fitsEngine y (loadOf ns (c - p)) ≡ true = rw (loadOf-difference ns c p small (omega arith) (r .dominated)) (r .differenceFits) in
         let none : c - p ≡ 0 = holdsNone-loadOf ns (c - p) (omega arith) (none-held (loadOf ns (c - p)) (loadOf-within ns (c - p)) rest) in
         omega arith
-
-    tried-met : (i c : ℕ) → c < columns y → length (triedAt y (suc i) c) ≡ columnsOf (loadOf ns c)
-    tried-met i c small =
-        let p = cellFor y (suc i) c in
-        ⊎-elim
-        (λ h. tried-all ns c p h ∙ visited-own ns c)
-        (λ (low, under).
-        let first : c ≡ 0 = yes-at-zero (suc i) c small (ap not (ne-eqb p noColumn (λ e. omega (arith, room)))) in
-        let same : p ≡ c = omega (arith, dominated-le ns c p small low under) in
-        tried-accepted ns c p low under ∙ ap (λ (k : ℕ). visitedTo ns (loadOf ns c) (k + 1)) same ∙ visited-self ns c small)
-        (cell-ends (fitsEngine y) ns room i c small)
-
-    row-met : (i : ℕ) → sumBelow (columns y) (λ (c : ℕ). length (triedAt y (i + 1) c)) ≡ boundOut y
-    row-met i =
-        sum-same (columns y) (λ (c : ℕ). length (triedAt y (i + 1) c)) (λ (c : ℕ). columnsOf (loadOf ns c))
-        (λ c l. ap (λ (k : ℕ). length (triedAt y k c)) (add-one i) ∙ tried-met i c l)
-        ∙ sym (bound-out y (limits .six))
-
-    pub pairs-met : (rows : ℕ) → pairsOf y rows ≡ rows * boundOut y
-    pairs-met rows =
-        pairs-rows y rows
-        ∙ sum-same rows (λ (i : ℕ). sumBelow (columns y) (λ (c : ℕ). length (triedAt y (i + 1) c))) (λ (i : ℕ). boundOut y) (λ i l. row-met i)
-        ∙ sum-constant rows (boundOut y)
 
 -- main: "For one type with n 1,023 and m 16 the bound is 8,396,800"
 pub bound-one-type : (y : System) → y .engines ≡ 16 → ceilingNo y 1 ≡ 1023 → ceilingNo y 2 ≡ 0 → ceilingNo y 3 ≡ 0 → ceilingNo y 4 ≡ 0 → ceilingNo y 5 ≡ 0 → ceilingNo y 6 ≡ 0

@@ -1,44 +1,48 @@
--- A filled table says what document 01's "Table" says of it, in plain words, and so do the calls that fill one.
+-- Two filled parts say what request 2026-10 says of them, by document 01's cells and in plain words, and so do the calls that fill them.
 use Prim.Native.Nat.{ℕ, zero, suc, _+_, _-_, _*_, _≤_, _<_}
 use mathlib.Core.Path.{_≡_, refl, sym, ap, subst, _∙_}
-use mathlib.Core.Bool.{Bool, true, false, cond, _&&_, and-true, false≢true}
+use mathlib.Core.Bool.{Bool, true, false, cond, _&&_, _||_, and-true, false≢true}
 use mathlib.Core.List.{List, [], _∷_}
 use mathlib.Core.Logic.{_↔_}
 use native.Mathlib.Numerals.{add-one}
-use native.Mathlib.Nat.{le-refl, mul-le-mul-right, add-mul, add-zero, suc-inj}
+use native.Mathlib.Nat.{le-refl, zero-add, add-zero, suc-inj}
 use native.Mathlib.Omega.{arith}
-use borrow.Author.Tests.{eqb-true, eqb-false, eq-eqb, ne-eqb, leb-true, leb-false, le-leb, lt-leb}
-use lib.ListN.{length, getD, drop}
-use lib.Seq.{getD-drop}
-use lib.Dec.{leb, eqb}
+use borrow.Author.Tests.{eqb-true, eqb-false, eq-eqb, ne-eqb, leb-true, leb-false, le-leb, lt-leb, lt-ltb, le-ltb}
+use lib.ListN.{length, getD, length-map}
+use lib.Dec.{leb, ltb, eqb}
 use Rattle.system.specs.declared.System.{System}
 use Rattle.system.specs.declared.Answer.{Answer}
 use Rattle.system.specs.Values.{ceilingsOf}
-use Rattle.system.specs.Limits.{columns, typeLimit}
+use Rattle.system.specs.Limits.{columns, keepsLimits}
 use Rattle.system.specs.Layout.{Reading, readFile, opened, unread}
 use Rattle.system.specs.Outcome.{Outcome, Source, accepted, refused, fromInput, outcomeOf}
-use Rattle.system.proofs.Laws.{Limits, read-limits}
+use Rattle.system.proofs.Laws.{Limits, limits-keep, columnsOf-pos, read-limits}
 use Rattle.loads.specs.Load.{fitsEngine, within, less}
 use Rattle.loads.specs.Column.{columnFrom, columnOf, loadOf}
 use Rattle.loads.proofs.Order.{Below, none, more}
 use Rattle.loads.proofs.Column.{length-loadOf, loadOf-below, columnOf-loadOf, loadOf-difference, dominated-le}
-use Rattle.partition.specs.Assignment.{among, every, enginesTo}
-use Rattle.partition.specs.Cell.{saysYes, cell}
-use Rattle.partition.specs.ForSystem.{FeasibleOn, cellFor}
-use Rattle.partition.specs.Plain.{ceilingNo, columnsOut, LongEnough, Impossible}
+use Rattle.partition.specs.Assignment.{among, every, enginesTo, numbersFrom}
+use Rattle.partition.specs.Cell.{saysYes}
+use Rattle.partition.specs.ForSystem.{cellFor}
+use Rattle.partition.specs.Plain.{ceilingNo, columnsOut, LongEnough, TooShort, Impossible}
 use Rattle.partition.proofs.Lists.{distinct-enginesTo, length-enginesTo, among-enginesTo, tested-among, not-both}
 use Rattle.partition.proofs.ForSystem.{length-ceilings, ground}
 use Rattle.partition.proofs.Cells.{cell-predecessor, cell-lowest}
 use Rattle.partition.proofs.Theorems.{cell-yes-iff-feasible}
 use Rattle.partition.proofs.Plain.{columns-out, ceiling-out, impossible-out}
-use Rattle.table.specs.Pairs.{triedAt, pairsOf}
-use Rattle.table.specs.Table.{entries, longEnough, filledTo, fillOutcome, fillTable, entriesNeeded}
-use Rattle.table.specs.Meaning.{countIn, strideAfter, columnNo, noGreater, MayPrecede, FilledMeans, sumBelow, pairsOut, FillPromises, NeedPromises}
-use Rattle.table.proofs.Filled.{length-filledTo, filledTo-at, drop-filledTo}
-use Rattle.table.proofs.Sums.{sum-same}
-use Rattle.table.proofs.Pairs.{pairs-rows, EndsAt, tried-counted, cell-ends}
+use Rattle.partition.specs.Lent.{Lent}
+use Rattle.table.specs.Parts.{lowestFor, rowAt, predecessorAt}
+use Rattle.table.specs.Pairs.{triedAt, Pair, cellPairs, rowCounted, pairsCounted, countedOf}
+use Rattle.table.specs.Table.{longEnough, filledTo, fillOutcome, fillTable, columnsNeeded}
+use Rattle.table.specs.Meaning.{countIn, strideAfter, columnNo, noGreater, rowOf, predecessorOf, MayPrecede, FilledMeans, sumBelow, triedOut, pairsOut, FillPromises, NeedPromises}
+use Rattle.table.proofs.Filled.{length-partOf, getD-partOf, past-partOf}
+use Rattle.table.proofs.Sums.{sum-same, sum-constant}
+use Rattle.table.proofs.Pairs.{length-forEach, EndsAt, tried-counted, cell-ends}
 use Rattle.table.proofs.Preceding.{cell-one}
-use Rattle.table.proofs.Bound.{pairs-bounded, pairs-met}
+use Rattle.table.proofs.LowestRows.{row-yes, row-zero, row-pos, row-at}
+use Rattle.table.proofs.Counted.{forEach-those}
+use Rattle.table.proofs.CountedBound.{counted-bound, counted-met}
+use Rattle.table.proofs.Room.{long-enough-out, too-short-out}
 
 -- intermediate: a cell that says no
 
@@ -192,111 +196,258 @@ module _ (y : System) (limits : Limits y) where
       go true q = ((λ h n. let z : cellFor y 1 (c - p) ≡ 0 = rw q at one in absurd (omega (arith, z, says .1 n))), (λ h. refl))
       go false q = ((λ h. absurd (false≢true h)), (λ h. absurd (h (says .0 (rw q at one)))))
 
-  module _ (rows : ℕ) (after : List ℕ) (shown : (i c : ℕ) → i ≤ rows → c < columnsOut y → getD after (i * columnsOut y + c) 0 ≡ cellFor y i c) where
+  -- main: the entries of filled parts
+
+  same-columns : columnsOut y ≡ columns y
+  same-columns = columns-out y (limits .six)
+
+  keeps : keepsLimits y ≡ true
+  keeps = limits-keep y limits
+
+  module _ (r : ℕ) (few : r ≤ y .engines) (c : ℕ) (small : c < columns y) where
+    -- a row below the lowest says no
+    no-below : (i : ℕ) → i ≤ r → i < lowestFor y r c → cellFor y i c ≡ 65535
+    no-below i h l =
+        no-cell (cellFor y i c) .1
+        (λ s. absurd (false≢true (sym (lt-leb (lowestFor y r c) i l) ∙ sym (row-yes y keeps r i c small h) ∙ s)))
+
+    -- row i is below a column's row exactly when it says no there
+    row-below : (i : ℕ) → i ≤ r → (cellFor y i c ≡ 65535) ↔ (i < rowAt y r c)
+    row-below i h = go (leb (lowestFor y r c) r) refl
+      where
+        says : saysYes (cellFor y i c) ≡ leb (lowestFor y r c) i
+        says = row-yes y keeps r i c small h
+
+        below-no : cellFor y i c ≡ 65535 → i < lowestFor y r c
+        below-no e = back (leb (lowestFor y r c) i) refl
+          where
+            back : (b : Bool) → leb (lowestFor y r c) i ≡ b → i < lowestFor y r c
+            back true q = absurd (no-cell (cellFor y i c) .0 e (says ∙ q))
+            back false q = leb-false (lowestFor y r c) i q
+
+        go : (b : Bool) → leb (lowestFor y r c) r ≡ b → (cellFor y i c ≡ 65535) ↔ (i < cond b (lowestFor y r c) (y .engines + 1))
+        go true q = (below-no, no-below i h)
+        go false q = ((λ e. omega arith), (λ l. no-below i h (omega (arith, leb-false (lowestFor y r c) r q))))
+
+    -- a row that there is, and none
+    row-there : rowAt y r c ≤ r → rowAt y r c ≡ lowestFor y r c
+    row-there = go (leb (lowestFor y r c) r)
+      where
+        go : (b : Bool) → cond b (lowestFor y r c) (y .engines + 1) ≤ r → cond b (lowestFor y r c) (y .engines + 1) ≡ lowestFor y r c
+        go true h = refl
+        go false h = absurd (omega arith)
+
+    row-none : r < rowAt y r c → (rowAt y r c ≡ y .engines + 1) × (predecessorAt y r c ≡ 65535)
+    row-none = go (leb (lowestFor y r c) r) refl (eqb c 0)
+      where
+        go : (b : Bool) → leb (lowestFor y r c) r ≡ b → (d : Bool) → r < cond b (lowestFor y r c) (y .engines + 1)
+            → (cond b (lowestFor y r c) (y .engines + 1) ≡ y .engines + 1) × (cond d 65535 (cond b (cellFor y (lowestFor y r c) c) 65535) ≡ 65535)
+        go true q d h = absurd (omega (arith, leb-true (lowestFor y r c) r q))
+        go false q true h = (refl, refl)
+        go false q false h = (refl, refl)
+
+    predecessor-there : 0 < c → rowAt y r c ≤ r → predecessorAt y r c ≡ cellFor y (rowAt y r c) c
+    predecessor-there past h =
+        let low = row-there h in
+        let here : lowestFor y r c ≤ r = omega (arith, low, h) in
+        rw (ne-eqb c 0 (λ e. omega arith), le-leb (lowestFor y r c) r here)
+
+  -- main: what parts say that hold these entries
+
+  module _ (r : ℕ) (few : r ≤ y .engines) (after : Lent) (rowsHold : (c : ℕ) → c < columns y → rowOf after c ≡ rowAt y r c)
+      (predecessorsHold : (c : ℕ) → c < columns y → predecessorOf after c ≡ predecessorAt y r c) where
     narrow : (c : ℕ) → c < columnsOut y → c < columns y
-    narrow c k = rw (columns-out y (limits .six)) at k
+    narrow c k = rw same-columns at k
 
-    next : (i c : ℕ) → i < rows → c < columnsOut y → getD after ((i + 1) * columnsOut y + c) 0 ≡ cellFor y (suc i) c
-    next i c h k = shown (i + 1) c (omega arith) k ∙ ap (λ (r : ℕ). cellFor y r c) (add-one i)
+    parts-cells : (i c : ℕ) → i ≤ r → c < columnsOut y → (cellFor y i c ≡ 65535) ↔ (i < rowOf after c)
+    parts-cells i c h k = rw (rowsHold c (narrow c k)) (row-below r few c (narrow c k) i h)
 
-    row-precedes : (i c : ℕ) → i < rows → c < columnsOut y → (getD after ((i + 1) * columnsOut y + c) 0 ≡ 65535 → ⊥) → MayPrecede y after i c (getD after ((i + 1) * columnsOut y + c) 0)
-    row-precedes i c h k says =
-        let e = next i c h k in
+    parts-there : (c : ℕ) → 0 < c → c < columnsOut y → rowOf after c ≤ r → predecessorOf after c ≡ cellFor y (rowOf after c) c
+    parts-there c past k h =
+        rw (rowsHold c (narrow c k), predecessorsHold c (narrow c k)) (predecessor-there r few c (narrow c k) past (rw (rowsHold c (narrow c k)) at h))
+
+    parts-says : (i c : ℕ) → i ≤ r → c < columnsOut y → (i < rowOf after c) ↔ Impossible y (λ (e : ℕ). (1 ≤ e) × (e ≤ i)) (countIn y c)
+    parts-says i c h k =
+        let cells = parts-cells i c h k in
+        let says = cell-says i c (omega arith) (narrow c k) in
+        ((λ l. says .0 (cells .1 l)), (λ n. cells .0 (says .1 n)))
+
+    parts-none : (c : ℕ) → c < columnsOut y → r < rowOf after c → (rowOf after c ≡ y .engines + 1) × (predecessorOf after c ≡ 65535)
+    parts-none c k h = rw (rowsHold c (narrow c k), predecessorsHold c (narrow c k)) (row-none r few c (narrow c k) (rw (rowsHold c (narrow c k)) at h))
+
+    parts-zero : (rowOf after 0 ≡ 0) × (predecessorOf after 0 ≡ 65535)
+    parts-zero =
+        let some : 0 < columns y = columnsOf-pos (ceilingsOf y) in
+        (rowsHold 0 some ∙ rw (row-zero y r, le-leb 0 r (omega arith)), predecessorsHold 0 some)
+
+    -- a column past column 0 whose row is there has a row from 1, at which its predecessor is the cell
+    parts-row : (c : ℕ) → 0 < c → c < columnsOut y → rowOf after c ≤ r → (i : ℕ) × (rowOf after c ≡ suc i) × (saysYes (cellFor y (suc i) c) ≡ true) × (predecessorOf after c ≡ cellFor y (suc i) c)
+    parts-row c past k h = go (rowOf after c) refl
+      where
+        low : rowOf after c ≡ lowestFor y r c
+        low = rowsHold c (narrow c k) ∙ row-there r few c (narrow c k) (rw (rowsHold c (narrow c k)) at h)
+
+        go : (i : ℕ) → rowOf after c ≡ i → (j : ℕ) × (rowOf after c ≡ suc j) × (saysYes (cellFor y (suc j) c) ≡ true) × (predecessorOf after c ≡ cellFor y (suc j) c)
+        go zero e = absurd (omega (arith, low, row-pos y keeps r c past (narrow c k)))
+        go (suc i) e = (i, e, row-at y r (suc i) c (sym low ∙ e) (omega arith), parts-there c past k h ∙ ap (λ (j : ℕ). cellFor y j c) e)
+
+    parts-precedes : (c : ℕ) → 0 < c → c < columnsOut y → rowOf after c ≤ r → MayPrecede y after c (predecessorOf after c)
+    parts-precedes c past k h =
+        let (i, row, says, held) = parts-row c past k h in
         let p = cellFor y (suc i) c in
-        let r = cell-predecessor (fitsEngine y) (ceilingsOf y) i c (yes-cell p (λ z. says (e ∙ z))) in
-        let low : p < columnsOut y = omega (arith, r .notAbove) in
-        subst (MayPrecede y after i c) (sym e)
+        let before = cell-predecessor (fitsEngine y) (ceilingsOf y) i c says in
+        let inside : p < columnsOut y = omega (arith, before .notAbove) in
+        subst (MayPrecede y after c) (sym held)
         (record {
-          inside = low;
-          noMore = no-greater p c ∙ r .dominated;
-          yesBefore = λ z. no-cell (cellFor y i p) .0 (sym (shown i p (omega arith) low) ∙ z) (r .yesBefore);
-          fits = fits-out c p (narrow c k) (narrow p low) (r .dominated) .0 (r .differenceFits);
+          inside = inside;
+          noMore = no-greater p c ∙ before .dominated;
+          yesBefore = earlier i p inside (omega arith) (before .yesBefore) row;
+          fits = fits-out c p (narrow c k) (narrow p inside) (before .dominated) .0 (before .differenceFits);
         })
+      where
+        -- row i says yes at p, so that the row of p is not above it
+        earlier : (i p : ℕ) → p < columnsOut y → i ≤ r → saysYes (cellFor y i p) ≡ true → rowOf after c ≡ suc i → rowOf after p < rowOf after c
+        earlier i p inside l says row = go (leb (rowOf after p) i) refl
+          where
+            go : (b : Bool) → leb (rowOf after p) i ≡ b → rowOf after p < rowOf after c
+            go true q = omega (arith, row, leb-true (rowOf after p) i q)
+            go false q = absurd (no-cell (cellFor y i p) .0 (parts-cells i p l inside .1 (leb-false (rowOf after p) i q)) says)
 
-    row-lowest : (i c p : ℕ) → i < rows → c < columnsOut y → MayPrecede y after i c p → getD after ((i + 1) * columnsOut y + c) 0 ≤ p
-    row-lowest i c p h k m =
-        let low = m .inside in
+    parts-lowest : (c p : ℕ) → 0 < c → c < columnsOut y → rowOf after c ≤ r → MayPrecede y after c p → predecessorOf after c ≤ p
+    parts-lowest c p past k h m =
+        let (i, row, says, held) = parts-row c past k h in
+        let inside = m .inside in
         let under = sym (no-greater p c) ∙ m .noMore in
-        subst (λ (v : ℕ). v ≤ p) (sym (next i c h k))
+        subst (λ (v : ℕ). v ≤ p) (sym held)
         (cell-lowest (fitsEngine y) (ceilingsOf y) i c p
         (record {
           dominated = under;
-          differenceFits = fits-out c p (narrow c k) (narrow p low) under .1 (m .fits);
-          yesBefore = yes-cell (cellFor y i p) (λ z. m .yesBefore (shown i p (omega arith) low ∙ z));
-          notAbove = dominated-le (ceilingsOf y) c p (narrow c k) (narrow p low) under;
+          differenceFits = fits-out c p (narrow c k) (narrow p inside) under .1 (m .fits);
+          yesBefore = yes-cell (cellFor y i p) (λ z. absurd (omega (arith, parts-cells i p (omega arith) inside .0 z, m .yesBefore, row)));
+          notAbove = dominated-le (ceilingsOf y) c p (narrow c k) (narrow p inside) under;
         }))
 
-    row-zero : (c : ℕ) → c < columnsOut y → getD after c 0 ≡ cond (eqb c 0) 0 65535
-    unfolding cell
-    row-zero c k =
-        let here : 0 * columnsOut y + c ≡ c = omega arith in
-        subst (λ (j : ℕ). getD after j 0 ≡ cond (eqb c 0) 0 65535) here (shown 0 c (omega arith) k)
-
   -- main: the whole table
-  pub filled-means : (rows : ℕ) (table : List ℕ) → rows ≤ y .engines → LongEnough y table → FilledMeans y rows table (filledTo y rows table)
-  filled-means rows table few long =
-      let same = columns-out y (limits .six) in
+
+  module _ (r : ℕ) (table : Lent) where
+    filled-rows : (c : ℕ) → c < columns y → rowOf (filledTo y r table) c ≡ rowAt y r c
+    filled-rows c small = getD-partOf y (rowAt y r) (table .rows) c small
+
+    filled-predecessors : (c : ℕ) → c < columns y → predecessorOf (filledTo y r table) c ≡ predecessorAt y r c
+    filled-predecessors c small = getD-partOf y (predecessorAt y r) (table .predecessors) c small
+
+  pub filled-means : (r : ℕ) (table : Lent) → r ≤ y .engines → LongEnough y table → FilledMeans y r table (filledTo y r table)
+  filled-means r table few long =
+      let after = filledTo y r table in
+      let rows = filled-rows r table in
+      let predecessors = filled-predecessors r table in
       record {
-        cells = shown;
+        cells = parts-cells r few after rows predecessors;
+        cellThere = parts-there r few after rows predecessors;
+        says = parts-says r few after rows predecessors;
+        none = parts-none r few after rows predecessors;
+        columnZero = parts-zero r few after rows predecessors;
         ceilings = count-under;
-        numbered = λ c k. column-no c (rw same at k);
-        rowZero = row-zero rows (filledTo y rows table) shown;
-        precedes = row-precedes rows (filledTo y rows table) shown;
-        lowest = row-lowest rows (filledTo y rows table) shown;
-        says = λ i c h k. rw (same, filledTo-at y rows table i c h (rw same at k)) (cell-says i c (omega arith) (rw same at k));
-        past = λ k h. past k (rw same at h);
-        asLong = length-filledTo y rows table room;
+        numbered = λ c k. column-no c (rw same-columns at k);
+        precedes = parts-precedes r few after rows predecessors;
+        lowest = parts-lowest r few after rows predecessors;
+        past = λ k h.
+            let past : columns y ≤ k = rw same-columns at h in
+            (past-partOf y (rowAt y r) (table .rows) k past, past-partOf y (predecessorAt y r) (table .predecessors) k past);
+        asLong = (length-partOf y (rowAt y r) (table .rows) (rw same-columns at (long .0)), length-partOf y (predecessorAt y r) (table .predecessors) (rw same-columns at (long .1)));
       }
-    where
-      shown : (i c : ℕ) → i ≤ rows → c < columnsOut y → getD (filledTo y rows table) (i * columnsOut y + c) 0 ≡ cellFor y i c
-      shown i c h k = let same = columns-out y (limits .six) in rw same (filledTo-at y rows table i c h (rw same at k))
-
-      room : entries y rows ≤ length table
-      room =
-          let same = columns-out y (limits .six) in
-          omega (arith, rw same at long, mul-le-mul-right (columns y) few, add-mul (y .engines) 1 (columns y), add-mul rows 1 (columns y))
-
-      past : (k : ℕ) → entries y rows ≤ k → getD (filledTo y rows table) k 0 ≡ getD table k 0
-      past k h =
-          let n = entries y rows in
-          let up : n + (k - n) ≡ k = omega arith in
-          subst (λ (j : ℕ). getD (filledTo y rows table) j 0 ≡ getD table j 0) up
-          (sym (getD-drop n (filledTo y rows table) (k - n) 0) ∙ ap (λ (l : List ℕ). getD l (k - n) 0) (drop-filledTo y rows table) ∙ getD-drop n table (k - n) 0)
 
   -- main: the pairs tried, counted in the filled table
 
-  -- by the table, where a row has `width` columns, whether p is tried for row i, column c
-  abbrev shownTried : List ℕ → ℕ → ℕ → ℕ → ℕ → ℕ
-  shownTried after width i c p = cond (noGreater y p c && leb p (getD after (i * width + c) 0)) 1 0
-
-  cell-counted : (rows : ℕ) (table : List ℕ) (i c : ℕ) → i < rows → c < columns y → length (triedAt y (i + 1) c) ≡ sumBelow (columns y) (shownTried (filledTo y rows table) (columns y) (i + 1) c)
-  cell-counted rows table i c h l =
-      subst (λ (v : ℕ). length (triedAt y (i + 1) c) ≡ sumBelow (columns y) (λ (p : ℕ). cond (noGreater y p c && leb p v) 1 0)) (sym (filledTo-at y rows table (i + 1) c (omega arith) l))
-      (tried-counted ns c r ends
-      ∙ sum-same (columns y) (λ (p : ℕ). cond (within (loadOf ns p) (loadOf ns c) && leb p r) 1 0) (λ (p : ℕ). cond (noGreater y p c && leb p r) 1 0)
-      (λ p k. ap (λ (b : Bool). cond (b && leb p r) 1 0) (sym (no-greater p c))))
+  -- of one cell, in a row from 1
+  cell-counted : (r : ℕ) (table : Lent) (i c : ℕ) → r ≤ y .engines → i < r → c < columns y
+      → length (cond (leb (i + 1) (lowestFor y r c)) (cellPairs y (i + 1) c) []) ≡ sumBelow (columns y) (triedOut y (filledTo y r table) (i + 1) c)
+  cell-counted r table i c few h small =
+      go (leb (i + 1) low) (eqb low (i + 1)) refl refl
+      ∙ ap (λ (row : ℕ). sumBelow (columns y) (shown row (predecessorAt y r c))) (sym (filled-rows r table c small))
+      ∙ ap (λ (before : ℕ). sumBelow (columns y) (shown (rowOf (filledTo y r table) c) before)) (sym (filled-predecessors r table c small))
     where
       ns : List ℕ
       ns = ceilingsOf y
 
-      r : ℕ
-      r = cellFor y (i + 1) c
+      low : ℕ
+      low = lowestFor y r c
 
-      ends : EndsAt ns c (cellFor y (i + 1) c)
-      ends = rw (add-one i) (cell-ends (fitsEngine y) ns (omega (arith, limits .columns)) i c l)
+      held : ℕ
+      held = cellFor y (i + 1) c
 
-  pub pairs-counted : (rows : ℕ) (table : List ℕ) → pairsOf y rows ≡ pairsOut y rows (filledTo y rows table)
-  pairs-counted rows table =
-      pairs-rows y rows
-      ∙ subst (λ (width : ℕ). sumBelow rows inRow ≡ sumBelow rows (shownRow width)) (sym (columns-out y (limits .six)))
-      (sum-same rows inRow (shownRow (columns y))
-      (λ i h. sum-same (columns y) (λ (c : ℕ). length (triedAt y (i + 1) c)) (λ (c : ℕ). sumBelow (columns y) (shownTried (filledTo y rows table) (columns y) (i + 1) c)) (λ c l. cell-counted rows table i c h l)))
+      listed : length (cellPairs y (i + 1) c) ≡ length (triedAt y (i + 1) c)
+      listed = length-map {B = Pair} (triedAt y (i + 1) c) (λ (q : ℕ). record { row = i + 1; column = c; tried = q })
+
+      ends : EndsAt ns c held
+      ends = rw (add-one i) (cell-ends (fitsEngine y) ns (omega (arith, limits .columns)) i c small)
+
+      counted : length (cellPairs y (i + 1) c) ≡ sumBelow (columns y) (λ (p : ℕ). cond (within (loadOf ns p) (loadOf ns c) && leb p held) 1 0)
+      counted = listed ∙ tried-counted ns c held ends
+
+      -- by a row and a predecessor
+      shown : ℕ → ℕ → ℕ → ℕ
+      shown row before p = cond (leb (i + 1) row && noGreater y p c && (ltb (i + 1) row || leb p before)) 1 0
+
+      -- a row below: nothing
+      past : (row before : ℕ) → row < i + 1 → 0 ≡ sumBelow (columns y) (shown row before)
+      past row before l =
+          omega (arith, sum-same (columns y) (shown row before) (λ (p : ℕ). 0) (λ p k. rw (lt-leb (i + 1) row l)), sum-constant (columns y) 0)
+
+      -- a row above: all columns under c, none of them past 65,535
+      all : (row before : ℕ) → i + 1 < row → held ≡ 65535 → length (cellPairs y (i + 1) c) ≡ sumBelow (columns y) (shown row before)
+      all row before l e =
+          counted ∙ sum-same (columns y) (λ (p : ℕ). cond (within (loadOf ns p) (loadOf ns c) && leb p held) 1 0) (shown row before)
+          (λ p k. rw (le-leb p held (omega (arith, e, k, limits .columns)), le-leb (i + 1) row (omega arith), lt-ltb (i + 1) row l, no-greater p c))
+
+      -- the row itself: up to the predecessor
+      own : (row before : ℕ) → row ≡ i + 1 → before ≡ held → length (cellPairs y (i + 1) c) ≡ sumBelow (columns y) (shown row before)
+      own row before e f =
+          counted ∙ sum-same (columns y) (λ (p : ℕ). cond (within (loadOf ns p) (loadOf ns c) && leb p held) 1 0) (shown row before)
+          (λ p k. rw (f, e, le-leb (i + 1) (i + 1) (omega arith), le-ltb (i + 1) (i + 1) (omega arith), no-greater p c))
+
+      -- where the lowest row is there
+      is-row : low ≤ r → rowAt y r c ≡ low
+      is-row l = rw (le-leb low r l)
+
+      is-predecessor : low ≡ i + 1 → predecessorAt y r c ≡ held
+      is-predecessor e =
+          rw (ne-eqb c 0 (λ (z : c ≡ 0). omega (arith, ap (lowestFor y r) z, row-zero y r)), le-leb low r (omega (arith, e)))
+          (ap (λ (j : ℕ). cellFor y j c) e)
+
+      go : (b d : Bool) → leb (i + 1) low ≡ b → eqb low (i + 1) ≡ d → length (cond b (cellPairs y (i + 1) c) []) ≡ sumBelow (columns y) (shown (rowAt y r c) (predecessorAt y r c))
+      go false d q e =
+          let below = leb-false (i + 1) low q in
+          past (rowAt y r c) (predecessorAt y r c) (omega (arith, is-row (omega arith)))
+      go true true q e =
+          let same = eqb-true low (i + 1) e in
+          own (rowAt y r c) (predecessorAt y r c) (is-row (omega (arith, same)) ∙ same) (is-predecessor same)
+      go true false q e =
+          let above : i + 1 < low = omega (arith, leb-true (i + 1) low q, eqb-false low (i + 1) e) in
+          let no = no-below r few c small (i + 1) (omega arith) above in
+          all (rowAt y r c) (predecessorAt y r c) (row-below r few c small (i + 1) (omega arith) .0 no) no
+
+  pub pairs-counted : (r : ℕ) (table : Lent) → r ≤ y .engines → countedOf y r ≡ pairsOut y r (filledTo y r table)
+  unfolding pairsCounted
+  pairs-counted r table few =
+      length-forEach (rowCounted y r) 1 r
+      ∙ subst (λ (width : ℕ). sumBelow r (λ (i : ℕ). length (rowCounted y r (1 + i))) ≡ sumBelow r (shownRow width)) (sym same-columns)
+      (sum-same r (λ (i : ℕ). length (rowCounted y r (1 + i))) (shownRow (columns y)) (λ i h. in-row i h))
     where
-      inRow : ℕ → ℕ
-      inRow i = sumBelow (columns y) (λ (c : ℕ). length (triedAt y (i + 1) c))
-
       shownRow : ℕ → ℕ → ℕ
-      shownRow width i = sumBelow width (λ (c : ℕ). sumBelow width (shownTried (filledTo y rows table) width (i + 1) c))
+      shownRow width i = sumBelow width (λ (c : ℕ). sumBelow width (triedOut y (filledTo y r table) (i + 1) c))
+
+      inCell : ℕ → ℕ → List Pair
+      inCell i c = cond (leb i (lowestFor y r c)) (cellPairs y i c) []
+
+      in-row : (i : ℕ) → i < r → length (rowCounted y r (1 + i)) ≡ shownRow (columns y) i
+      in-row i h =
+          let next : 1 + i ≡ i + 1 = omega arith in
+          ap (λ (j : ℕ). length (rowCounted y r j)) next
+          ∙ ap length (forEach-those (λ (c : ℕ). leb (i + 1) (lowestFor y r c)) (cellPairs y (i + 1)) (numbersFrom 0 (columns y)))
+          ∙ length-forEach (inCell (i + 1)) 0 (columns y)
+          ∙ sum-same (columns y) (λ (c : ℕ). length (inCell (i + 1) (0 + c))) (λ (c : ℕ). sumBelow (columns y) (triedOut y (filledTo y r table) (i + 1) c))
+          (λ c small. ap (λ (d : ℕ). length (inCell (i + 1) d)) (zero-add c) ∙ cell-counted r table i c few h small)
 
 -- main: what the calls promise
 
@@ -306,46 +457,44 @@ same-number m n e = cc
 clash : {A : Type 0} (o : Outcome) {s : Source} {n : ℕ} {ns : List ℕ} → o ≡ accepted ns → o ≡ refused s n → A
 clash o p q = let z : _≡_ {A = ℕ} 0 1 = cc in absurd (omega arith)
 
-lent : (x : Reading) (o : Outcome) {table after : List ℕ} → after ≡ fillTable x table → o ≡ fillOutcome x table → (s : Source) (n : ℕ) → o ≡ refused s n → after ≡ table
-lent (unread k) a left told s n o = left
-lent (opened y) a {table = table} {after = after} left told s n o = go (longEnough y table) refl
+as-lent : (x : Reading) (o : Outcome) {table after : Lent} → after ≡ fillTable x table → o ≡ fillOutcome x table → (s : Source) (n : ℕ) → o ≡ refused s n → after ≡ table
+as-lent (unread k) a left told s n o = left
+as-lent (opened y) a {table = table} {after = after} left told s n o = go (longEnough y table) refl
   where
     go : (b : Bool) → longEnough y table ≡ b → after ≡ table
-    go true q = let yes : a ≡ accepted (pairsOf y (y .engines) ∷ []) = told ∙ rw q in clash a yes o
+    go true q = let yes : a ≡ accepted (countedOf y (y .engines) ∷ []) = told ∙ rw q in clash a yes o
     go false q = left ∙ rw q
 
 module _ (x : Reading) (known : (y : System) → x ≡ opened y → Limits y) (answer : Answer) where
-  pub need-promises : outcomeOf answer ≡ entriesNeeded x → NeedPromises x answer
+  pub need-promises : outcomeOf answer ≡ columnsNeeded x → NeedPromises x answer
   need-promises e = record {
     answers = e;
-    refuses = λ n is. e ∙ ap entriesNeeded is;
-    needs = λ y is. e ∙ ap entriesNeeded is ∙ ap (λ (c : ℕ). accepted ((y .engines + 1) * c ∷ [])) (sym (columns-out y (known y is .six)));
+    refuses = λ n is. e ∙ ap columnsNeeded is;
+    needs = λ y is. e ∙ ap columnsNeeded is ∙ ap (λ (c : ℕ). accepted (c ∷ [])) (sym (columns-out y (known y is .six)));
   }
 
-  module _ (table after : List ℕ) (told : outcomeOf answer ≡ fillOutcome x table) (left : after ≡ fillTable x table) where
-    long-or-short : (y : System) → x ≡ opened y → (LongEnough y table → longEnough y table ≡ true) × (length table < (y .engines + 1) * columnsOut y → longEnough y table ≡ false)
-    long-or-short y is =
-        let same = columns-out y (known y is .six) in
-        ((λ h. le-leb (entries y (y .engines)) (length table) (rw same at h)), (λ h. lt-leb (entries y (y .engines)) (length table) (rw same at h)))
+  module _ (table after : Lent) (told : outcomeOf answer ≡ fillOutcome x table) (left : after ≡ fillTable x table) where
+    long-is : (y : System) → x ≡ opened y → LongEnough y table → longEnough y table ≡ true
+    long-is y is h = long-enough-out y table (limits-keep y (known y is)) .1 h
 
     short-told : (y : System) → x ≡ opened y → longEnough y table ≡ false → (outcomeOf answer ≡ refused fromInput 11) × (after ≡ table)
     short-told y is q = (told ∙ ap (λ (r : Reading). fillOutcome r table) is ∙ rw q, left ∙ ap (λ (r : Reading). fillTable r table) is ∙ rw q)
 
-    long-told : (y : System) → x ≡ opened y → longEnough y table ≡ true → (outcomeOf answer ≡ accepted (pairsOf y (y .engines) ∷ [])) × (after ≡ filledTo y (y .engines) table)
+    long-told : (y : System) → x ≡ opened y → longEnough y table ≡ true → (outcomeOf answer ≡ accepted (countedOf y (y .engines) ∷ [])) × (after ≡ filledTo y (y .engines) table)
     long-told y is q =
         (told ∙ ap (λ (r : Reading). fillOutcome r table) is ∙ rw q, left ∙ ap (λ (r : Reading). fillTable r table) is ∙ rw (q, length-enginesTo (y .engines)))
 
-    then-table : (y : System) → x ≡ opened y → (b : Bool) → longEnough y table ≡ b → (outcomeOf answer ≡ refused fromInput 11) ↔ (length table < (y .engines + 1) * columnsOut y)
-    then-table y is true q = ((λ o. clash (outcomeOf answer) (long-told y is q .0) o), (λ h. absurd (not-both q (long-or-short y is .1 h))))
-    then-table y is false q =
-        ((λ o. rw (columns-out y (known y is .six)) (leb-false (entries y (y .engines)) (length table) q)), (λ h. short-told y is q .0))
+    then-table : (y : System) → x ≡ opened y → (b : Bool) → longEnough y table ≡ b → (outcomeOf answer ≡ refused fromInput 11) ↔ TooShort y table
+    then-table y is true q =
+        ((λ o. clash (outcomeOf answer) (long-told y is q .0) o), (λ h. absurd (not-both q (too-short-out y table (limits-keep y (known y is)) .1 h))))
+    then-table y is false q = ((λ o. too-short-out y table (limits-keep y (known y is)) .0 q), (λ h. short-told y is q .0))
 
     -- a number that is answered is that of the pairs
-    pairs-told : (y : System) (pairs : ℕ) → x ≡ opened y → outcomeOf answer ≡ accepted (pairs ∷ []) → pairs ≡ pairsOf y (y .engines)
+    pairs-told : (y : System) (pairs : ℕ) → x ≡ opened y → outcomeOf answer ≡ accepted (pairs ∷ []) → pairs ≡ countedOf y (y .engines)
     pairs-told y pairs is o = go (longEnough y table) refl
       where
-        go : (b : Bool) → longEnough y table ≡ b → pairs ≡ pairsOf y (y .engines)
-        go true q = same-number pairs (pairsOf y (y .engines)) (sym o ∙ long-told y is q .0)
+        go : (b : Bool) → longEnough y table ≡ b → pairs ≡ countedOf y (y .engines)
+        go true q = same-number pairs (countedOf y (y .engines)) (sym o ∙ long-told y is q .0)
         go false q = clash (outcomeOf answer) o (short-told y is q .0)
 
     pub fill-promises : FillPromises x table answer after
@@ -355,20 +504,21 @@ module _ (x : Reading) (known : (y : System) → x ≡ opened y → Limits y) (a
       fileFirst = λ n is. told ∙ ap (λ (r : Reading). fillOutcome r table) is;
       thenTable = λ y is. then-table y is (longEnough y table) refl;
       fills = λ y is long.
-          let done = long-told y is (long-or-short y is .0 long) in
+          let done = long-told y is (long-is y is long) in
           rw (done .1) (filled-means y (known y is) (y .engines) table (le-refl (y .engines)) long);
       counts = λ y is long.
-          let done = long-told y is (long-or-short y is .0 long) in
-          done .0 ∙ ap (λ (pairs : ℕ). accepted (pairs ∷ [])) (pairs-counted y (known y is) (y .engines) table ∙ ap (pairsOut y (y .engines)) (sym (done .1)));
-      bounded = λ y pairs is o. rw (pairs-told y pairs is o) (pairs-bounded y (known y is) (y .engines));
-      met = λ y pairs is o nothing. pairs-told y pairs is o ∙ pairs-met y (known y is) nothing (y .engines);
-      asLent = λ s n o. lent x (outcomeOf answer) left told s n o;
+          let done = long-told y is (long-is y is long) in
+          done .0 ∙ ap (λ (pairs : ℕ). accepted (pairs ∷ [])) (pairs-counted y (known y is) (y .engines) table (le-refl (y .engines)) ∙ ap (pairsOut y (y .engines)) (sym (done .1)));
+      bounded = λ y pairs is o. rw (pairs-told y pairs is o) (counted-bound y (limits-keep y (known y is)) (y .engines) (le-refl (y .engines)));
+      met = λ y pairs is o nothing.
+          ap (λ (n : ℕ). n + y .engines) (pairs-told y pairs is o) ∙ counted-met y (limits-keep y (known y is)) (y .engines) (le-refl (y .engines)) nothing;
+      asLent = λ s n o. as-lent x (outcomeOf answer) left told s n o;
     }
 
 -- of a file
 module _ (file : List ℕ) where
-  pub file-needs : (a : Answer) → outcomeOf a ≡ entriesNeeded (readFile file) → NeedPromises (readFile file) a
+  pub file-needs : (a : Answer) → outcomeOf a ≡ columnsNeeded (readFile file) → NeedPromises (readFile file) a
   file-needs a e = need-promises (readFile file) (read-limits file) a e
 
-  pub file-fills : (a : Answer) (table after : List ℕ) → (outcomeOf a ≡ fillOutcome (readFile file) table) × (after ≡ fillTable (readFile file) table) → FillPromises (readFile file) table a after
+  pub file-fills : (a : Answer) (table after : Lent) → (outcomeOf a ≡ fillOutcome (readFile file) table) × (after ≡ fillTable (readFile file) table) → FillPromises (readFile file) table a after
   file-fills a table after (told, left) = fill-promises (readFile file) (read-limits file) a table after told left

@@ -20,14 +20,14 @@ use Rattle.partition.specs.Assignment.{numbersFrom}
 use Rattle.partition.specs.Cell.{noColumn, saysYes, cell}
 use Rattle.partition.proofs.Lists.{true-or-false}
 use Rattle.partition.proofs.Cells.{cell-predecessor}
-use Rattle.table.specs.Pairs.{those, upToOne, forEach, columnsUnder, triedAt, Pair, pairsTried, pairsOf}
-use Rattle.table.specs.Search.{visitedTo}
+use Rattle.table.specs.Pairs.{those, upToOne, forEach, columnsUnder}
+use Rattle.table.specs.Under.{visitedTo}
 use Rattle.table.specs.Meaning.{sumBelow}
 use Rattle.table.proofs.Sums.{sum-same, sum-constant, sum-times, sum-more, sum-cut, sum-first, sum-blocks}
 
 -- main: the number of pairs, row by row and column by column
 
-length-forEach : {A : Type 0} (each : ℕ → List A) (a n : ℕ) → length (forEach (numbersFrom a n) each) ≡ sumBelow n (λ (i : ℕ). length (each (a + i)))
+pub length-forEach : {A : Type 0} (each : ℕ → List A) (a n : ℕ) → length (forEach (numbersFrom a n) each) ≡ sumBelow n (λ (i : ℕ). length (each (a + i)))
 unfolding forEach numbersFrom
 length-forEach each a zero = unfold sumBelow in refl
 length-forEach {A = A} each a (suc n) =
@@ -42,27 +42,6 @@ length-forEach {A = A} each a (suc n) =
 pub length-forEach-more : {A : Type 0} (each : ℕ → List A) (a n : ℕ) → length (forEach (numbersFrom a (n + 1)) each) ≡ length (forEach (numbersFrom a n) each) + length (each (a + n))
 unfolding sumBelow
 length-forEach-more each a n = rw (add-one n, length-forEach each a n, length-forEach each a (suc n))
-
-pub pairs-rows : (y : System) (rows : ℕ) → pairsOf y rows ≡ sumBelow rows (λ (i : ℕ). sumBelow (columns y) (λ (c : ℕ). length (triedAt y (i + 1) c)))
-unfolding pairsTried
-pairs-rows y rows =
-    length-forEach row 1 rows
-    ∙ sum-same rows (λ (i : ℕ). length (row (1 + i))) (λ (i : ℕ). inRow (i + 1)) (λ i l. ap (λ (k : ℕ). length (row k)) (omega arith) ∙ row-length (i + 1))
-  where
-    tried : ℕ → ℕ → List Pair
-    tried i c = map (λ (p : ℕ). record { row = i; column = c; tried = p }) (triedAt y i c)
-
-    row : ℕ → List Pair
-    row i = forEach (numbersFrom 0 (columns y)) (tried i)
-
-    inRow : ℕ → ℕ
-    inRow i = sumBelow (columns y) (λ (c : ℕ). length (triedAt y i c))
-
-    row-length : (i : ℕ) → length (row i) ≡ inRow i
-    row-length i =
-        length-forEach (tried i) 0 (columns y)
-        ∙ sum-same (columns y) (λ (c : ℕ). length (tried i (0 + c))) (λ (c : ℕ). length (triedAt y i c))
-        (λ c l. length-map (triedAt y i (0 + c)) (λ (p : ℕ). record { row = i; column = 0 + c; tried = p }) ∙ ap (λ (k : ℕ). length (triedAt y i k)) (zero-add c))
 
 -- intermediate: how many pass a test, up to one that does
 

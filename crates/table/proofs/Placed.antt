@@ -24,10 +24,11 @@ use Rattle.partition.proofs.Lists.{distinct-enginesTo, every-enginesTo, among-e
 use Rattle.partition.proofs.Recovery.{length-recovery}
 use Rattle.partition.proofs.Engines.{map-same, rowOn-map}
 use Rattle.table.proofs.Spread.{no-rows}
+use Rattle.partition.specs.Lent.{Lent}
 use Rattle.table.specs.declared.Engines.{Engines}
 use Rattle.table.specs.declared.Placement.{Placement}
 use Rattle.table.specs.Table.{longEnough, unplaced, placement}
-use Rattle.table.specs.Recovery.{recoveredOnto, rowsPlaced, listed, MayPlace}
+use Rattle.table.specs.Chain.{recoveredOnto, rowsPlaced, listed, MayPlace}
 
 -- main: the rows as the code makes them, from the row and column that it found, an idle engine and what recovery gave
 
@@ -86,7 +87,7 @@ module _ (y : System) (es x : List ℕ) where
 
 -- main: a load may be placed on all engines of a system, listed in order
 
-pub may-place-on-all : (y : System) (e : Engines) (x table : List ℕ) → keepsLimits y ≡ true → e .count ≡ y .engines → listed e ≡ enginesTo (y .engines) → longEnough y table ≡ true → within x (ceilingsOf y) ≡ true → MayPlace y e x table
+pub may-place-on-all : (y : System) (e : Engines) (x : List ℕ) (table : Lent) → keepsLimits y ≡ true → e .count ≡ y .engines → listed e ≡ enginesTo (y .engines) → longEnough y table ≡ true → within x (ceilingsOf y) ≡ true → MayPlace y e x table
 may-place-on-all y e x table keeps count are long under = record {
   limits = keeps;
   few = omega (arith, count);

@@ -1,7 +1,6 @@
 -- Laws of recovery into an array of engines: row 0 changes nothing, and one row more puts one load more.
 use Prim.Native.Nat.{ℕ, zero, suc, _-_, _≤_, _<_}
 use mathlib.Core.Path.{_≡_, refl, sym, ap, _∙_}
-use mathlib.Core.Bool.{true}
 use mathlib.Core.List.{List, [], _∷_, _++_, map, map-append, append-assoc}
 use native.Mathlib.Omega.{arith}
 use lib.ListN.{length, drop, set}
@@ -13,9 +12,8 @@ use Rattle.loads.specs.declared.EngineLoad.{EngineLoad}
 use Rattle.loads.specs.Load.{fitsEngine, engineWith}
 use Rattle.partition.specs.Cell.{recover}
 use Rattle.partition.specs.ForSystem.{cellFor}
-use Rattle.partition.proofs.Cells.{Predecessor, cell-predecessor, recover-append}
-use Rattle.table.specs.Recovery.{YesAt, rowLoad, recoveredOnto}
-use Rattle.table.proofs.Shown.{shows-fewer}
+use Rattle.partition.proofs.Cells.{recover-append}
+use Rattle.table.specs.Chain.{rowLoad, recoveredOnto}
 
 drop-set : {A : Type 0} (l : List A) (i : ℕ) (a : A) → i < length l → drop i (set l i a) ≡ a ∷ drop (suc i) l
 drop-set l i a h = ap (drop i) (set-split l i a h) ∙ drop-at (lib.ListN.take i l) (a ∷ drop (suc i) l) i (length-take-le i l (le-of-lt h))
@@ -42,22 +40,3 @@ module _ (y : System) (c : ℕ) (loads : List EngineLoad) where
   recoveredOnto-row (suc i) p engine l r some room ep ee el er =
       let same : suc i - 1 ≡ i = omega arith in
       er ∙ rw (el, ee, ep, same) (suc-row i room)
-
--- where recovery goes on: the load of the row fits, and the row before says yes at the cell's column
-module _ {y : System} {width : ℕ} {table : List ℕ} {row c : ℕ} (at : YesAt y row width table c) (some : 1 ≤ row) (p : ℕ) (held : p ≡ cellFor y row c) where
-  predecessor : Predecessor (fitsEngine y) (ceilingsOf y) (row - 1) c p
-  predecessor =
-      let up : row ≡ suc (row - 1) = omega arith in
-      let here : p ≡ cellFor y (suc (row - 1)) c = rw (← up) held in
-      rw here (cell-predecessor (fitsEngine y) (ceilingsOf y) (row - 1) c (rw (← up) (at .says)))
-
-  pub row-fits : fitsEngine y (rowLoad y c p) ≡ true
-  row-fits = predecessor .differenceFits
-
-  pub row-before : YesAt y (row - 1) width table p
-  row-before =
-      record {
-        shows = shows-fewer (at .shows) (row - 1) (omega arith);
-        inside = omega (arith, at .inside, predecessor .notAbove);
-        says = predecessor .yesBefore;
-      }

@@ -1,12 +1,13 @@
--- Request 2026-09 holds of the entries of every filled table: the lowest row that says yes there is the lowest yes row of the cells, of which partition proves the bounds.
-use Prim.Native.Nat.{ℕ, _+_, _*_, _≤_, _<_}
-use mathlib.Core.Path.{_≡_, refl, sym, ap, _∙_}
+-- Request 2026-09 holds of the rows of every filled table: the row of a load's column is the lowest yes row of the cells, of which partition proves the bounds.
+use Prim.Native.Nat.{ℕ, _≤_, _<_}
+use mathlib.Core.Path.{_≡_, refl, _∙_}
 use mathlib.Core.Bool.{Bool, true, false}
 use mathlib.Core.List.{List}
+use mathlib.Core.Logic.{_↔_}
 use native.Mathlib.Nat.{le-antisymm}
 use native.Mathlib.Omega.{arith}
 use borrow.Author.Tests.{leb-true, leb-false}
-use lib.ListN.{length, getD}
+use lib.ListN.{length}
 use lib.Dec.{leb}
 use Rattle.system.specs.declared.System.{System}
 use Rattle.system.specs.Values.{ceilingsOf}
@@ -18,18 +19,19 @@ use Rattle.loads.proofs.Column.{columnOf-lt}
 use Rattle.partition.specs.Assignment.{enginesTo}
 use Rattle.partition.specs.Cell.{saysYes}
 use Rattle.partition.specs.ForSystem.{cellFor, rowFor}
+use Rattle.partition.specs.Lent.{Lent}
 use Rattle.partition.specs.Plain.{columnsOut}
 use Rattle.partition.specs.Releases.{Serving, Within, instancesIn}
-use Rattle.partition.proofs.Lists.{not-both, distinct-enginesTo, length-enginesTo, among-enginesTo}
+use Rattle.partition.proofs.Lists.{distinct-enginesTo, length-enginesTo, among-enginesTo}
 use Rattle.partition.proofs.Rows.{lowestRow-le, lowestRow-yes}
 use Rattle.partition.proofs.Plain.{columns-out}
 use Rattle.partition.proofs.Releases.{within-ceilings, releases-within}
-use Rattle.table.specs.Meaning.{columnNo, FilledMeans}
+use Rattle.table.specs.Meaning.{columnNo, rowOf, FilledMeans}
 use Rattle.table.specs.Releases.{LowestYes, TableReleases}
-use Rattle.table.proofs.Meaning.{no-cell}
+use Rattle.table.proofs.Meaning.{no-cell, yes-cell}
 use Rattle.table.proofs.RecoveredBy.{start-no}
 
-module _ (y : System) (limits : Limits y) (rows : ℕ) (few : rows ≤ y .engines) (table after : List ℕ) (filled : FilledMeans y rows table after) where
+module _ (y : System) (limits : Limits y) (rows : ℕ) (few : rows ≤ y .engines) (table after : Lent) (filled : FilledMeans y rows table after) where
   -- as many engines as the table has rows past row 0
   abbrev es : List ℕ
   es = enginesTo rows
@@ -47,18 +49,13 @@ module _ (y : System) (limits : Limits y) (rows : ℕ) (few : rows ≤ y .engine
     low : columnOf (ceilingsOf y) x < columnsOut y
     low = omega (arith, columns-out y (limits .six), columnOf-lt (ceilingsOf y) x under)
 
-    -- an entry at the load's column is the cell
-    entry-is : (i : ℕ) → i ≤ rows → getD after (i * columnsOut y + columnNo y (instancesIn x)) 0 ≡ cellFor y i c
-    entry-is i h =
-        ap (λ (d : ℕ). getD after (i * columnsOut y + d) 0) (sym (start-no y limits rows after (filled .cells) x (w .six) under))
-        ∙ filled .cells i c h low
+    -- the row at the load's column
+    abbrev row : ℕ
+    row = rowOf after (columnNo y (instancesIn x))
 
-    yes-of : (v : ℕ) → (v ≡ 65535 → ⊥) → saysYes v ≡ true
-    yes-of v never = go (saysYes v) refl
-      where
-        go : (b : Bool) → saysYes v ≡ b → saysYes v ≡ true
-        go true q = q
-        go false q = absurd (never (no-cell v .1 (λ says. not-both says q)))
+    -- a row is below it exactly when its cell says no
+    row-below : (i : ℕ) → i ≤ rows → (cellFor y i c ≡ 65535) ↔ (i < row)
+    row-below i h = rw (← (start-no y limits x (w .six))) (filled .cells i c h low)
 
     row-within-table : rowFor y es x ≤ length es → rowFor y es x ≤ rows
     row-within-table h = omega (arith, h, length-enginesTo rows)
@@ -69,29 +66,33 @@ module _ (y : System) (limits : Limits y) (rows : ℕ) (few : rows ≤ y .engine
     row-first : (i : ℕ) → i ≤ rows → saysYes (cellFor y i c) ≡ true → rowFor y es x ≤ i
     row-first i h says = lowestRow-le (fitsEngine y) (ceilingsOf y) (length es) c i (omega (arith, length-enginesTo rows)) says
 
-    -- the lowest row of the cells is the lowest one of the table
+    -- a row of the table at which the cell says yes is not below the table's, and the table's own says yes
+    row-most : (i : ℕ) → i ≤ rows → saysYes (cellFor y i c) ≡ true → row ≤ i
+    row-most i h says = go (leb row i) refl
+      where
+        go : (b : Bool) → leb row i ≡ b → row ≤ i
+        go true q = leb-true row i q
+        go false q = absurd (no-cell (cellFor y i c) .0 (row-below i h .1 (leb-false row i q)) says)
+
+    row-says : row ≤ rows → saysYes (cellFor y row c) ≡ true
+    row-says h = yes-cell (cellFor y row c) (λ z. absurd (omega (arith, row-below row h .0 z)))
+
+    -- the lowest row of the cells is that of the table
     table-row : rowFor y es x ≤ length es → LowestYes y rows after (instancesIn x) (rowFor y es x)
-    table-row h = record {
-      within = row-within-table h;
-      says = λ z. no-cell (cellFor y (rowFor y es x) c) .0 (sym (entry-is (rowFor y es x) (row-within-table h)) ∙ z) (row-yes h);
-      before = λ i less.
-          let inside : i ≤ rows = omega (arith, row-within-table h) in
-          entry-is i inside ∙ no-cell (cellFor y i c) .1 (λ says. omega (arith, row-first i inside says));
-    }
+    table-row h =
+        let inside = row-within-table h in
+        let most = row-most (rowFor y es x) inside (row-yes h) in
+        record {
+          within = inside;
+          says = le-antisymm most (row-first row (omega arith) (row-says (omega arith)));
+        }
 
     -- and no other is
-    only-row : (r : ℕ) → LowestYes y rows after (instancesIn x) r → rowFor y es x ≡ r
-    only-row r l = le-antisymm up (down (leb r (rowFor y es x)) refl)
-      where
-        up : rowFor y es x ≤ r
-        up = row-first r (l .within) (yes-of (cellFor y r c) (λ z. l .says (entry-is r (l .within) ∙ z)))
-
-        down : (b : Bool) → leb r (rowFor y es x) ≡ b → r ≤ rowFor y es x
-        down true q = leb-true r (rowFor y es x) q
-        down false q =
-            let below = leb-false r (rowFor y es x) q in
-            let inside : rowFor y es x ≤ rows = omega (arith, l .within) in
-            absurd (no-cell (cellFor y (rowFor y es x) c) .0 (sym (entry-is (rowFor y es x) inside) ∙ l .before (rowFor y es x) below) (row-yes (omega (arith, inside, length-enginesTo rows))))
+    only-row : (k : ℕ) → LowestYes y rows after (instancesIn x) k → rowFor y es x ≡ k
+    only-row k l =
+        let inside : row ≤ rows = omega (arith, l .says, l .within) in
+        let up = row-first row inside (row-says inside) in
+        le-antisymm up (row-most (rowFor y es x) (omega (arith, up)) (row-yes (omega (arith, up, length-enginesTo rows)))) ∙ l .says
 
   bounds-read : TableReleases y rows after
   bounds-read a b both first second w la lb h =
@@ -107,5 +108,5 @@ module _ (y : System) (limits : Limits y) (rows : ℕ) (few : rows ≤ y .engine
       inB = record { six = w .six .1; ceilings = λ t low. omega (arith, w .sums t low, w .inside .ceilings t low) }
 
 -- main: of every file that opens, whatever rows of its table were filled
-pub table-releases : (file : List ℕ) (y : System) → readFile file ≡ opened y → (rows : ℕ) (table after : List ℕ) → rows ≤ y .engines → FilledMeans y rows table after → TableReleases y rows after
+pub table-releases : (file : List ℕ) (y : System) → readFile file ≡ opened y → (rows : ℕ) (table after : Lent) → rows ≤ y .engines → FilledMeans y rows table after → TableReleases y rows after
 table-releases file y reads rows table after few filled = bounds-read y (read-limits file y reads) rows few table after filled

@@ -16,7 +16,7 @@ use Rattle.loads.specs.Column.{columnFrom, columnOf, loadOf}
 use Rattle.loads.proofs.Order.{Below, none, more}
 use Rattle.loads.proofs.Column.{columnOf-horner, loadOf-digit}
 use Rattle.partition.proofs.Lists.{true-or-false}
-use Rattle.table.specs.Search.{nextUnder, risesAt, jumpsFrom}
+use Rattle.table.specs.Under.{nextUnder, risesAt, jumpsFrom}
 
 -- intermediate: the two cases of a step
 

@@ -1,11 +1,11 @@
--- What a filled table says, in plain words, and what the calls that fill one promise. Of the table only `Table` is known here.
+-- What a filled table says, in plain words, and what the calls that fill one promise.
 use Prim.Native.Nat.{ℕ, zero, suc, _+_, _-_, _*_, _/_, _≤_, _<_}
 use mathlib.Core.List.{List, [], _∷_}
-use mathlib.Core.Bool.{Bool, true, cond, _&&_}
+use mathlib.Core.Bool.{Bool, true, cond, _&&_, _||_}
 use mathlib.Core.Path.{_≡_}
 use mathlib.Core.Logic.{_↔_, _⊎_}
 use lib.ListN.{length, getD}
-use lib.Dec.{leb, eqb}
+use lib.Dec.{leb, ltb}
 use Rattle.system.specs.declared.System.{System}
 use Rattle.system.specs.declared.Answer.{Answer}
 use Rattle.system.specs.Values.{ceilingsOf}
@@ -13,8 +13,9 @@ use Rattle.system.specs.Layout.{Reading, opened, unread}
 use Rattle.system.specs.Outcome.{Outcome, Source, accepted, refused, fromInput, outcomeOf}
 use Rattle.loads.specs.Column.{loadOf}
 use Rattle.partition.specs.ForSystem.{cellFor}
-use Rattle.partition.specs.Plain.{typeNo, ceilingNo, columnsOut, LongEnough, Impossible}
-use Rattle.table.specs.Table.{fillOutcome, fillTable, entriesNeeded}
+use Rattle.partition.specs.Lent.{Lent}
+use Rattle.partition.specs.Plain.{typeNo, ceilingNo, columnsOut, LongEnough, TooShort, Impossible}
+use Rattle.table.specs.Table.{fillOutcome, fillTable, columnsNeeded}
 
 -- how many instances of type t, counted from 1, the load of column c has
 abbrev pub countIn : System → ℕ → ℕ → ℕ
@@ -41,54 +42,61 @@ noGreater y p c =
     && leb (countIn y p 5) (countIn y c 5)
     && leb (countIn y p 6) (countIn y c 6)
 
--- of row i + 1, by the table itself: column p "such that the load of c' has no count above that of c, row i-1 says yes at c', and the load of c less that of c' fits",
+-- the row and the predecessor of column c
+abbrev pub rowOf : Lent → ℕ → ℕ
+rowOf table c = getD (table .rows) c 0
+
+abbrev pub predecessorOf : Lent → ℕ → ℕ
+predecessorOf table c = getD (table .predecessors) c 0
+
+-- of the lowest yes row i of column c, by the table itself: column p "such that the load of c' has no count above that of c, row i-1 says yes at c', and the load of c less that of c' fits",
 -- which is that one engine can hold it
-pub record MayPrecede (y : System) (table : List ℕ) (i c p : ℕ) : Type 0 where
+pub record MayPrecede (y : System) (table : Lent) (c p : ℕ) : Type 0 where
   pub inside : p < columnsOut y
   pub noMore : noGreater y p c ≡ true
-  pub yesBefore : getD table (i * columnsOut y + p) 0 ≡ 65535 → ⊥
+  pub yesBefore : rowOf table p < rowOf table c
   pub fits : Impossible y (λ (e : ℕ). (1 ≤ e) × (e ≤ 1)) (λ (t : ℕ). countIn y c t - countIn y p t) → ⊥
 
--- after a fill of rows 0 to `rows`: "The cell of row i, column c is entry i × columns + c", as "Table" defines it; it is 65,535 exactly when its load is not i-feasible,
--- that is, cannot be partitioned among i engines; entries past (rows + 1) × columns are unchanged
-pub record FilledMeans (y : System) (rows : ℕ) (table after : List ℕ) : Type 0 where
-  pub cells : (i c : ℕ) → i ≤ rows → c < columnsOut y → getD after (i * columnsOut y + c) 0 ≡ cellFor y i c
-  pub says : (i c : ℕ) → i ≤ rows → c < columnsOut y → (getD after (i * columnsOut y + c) 0 ≡ 65535) ↔ Impossible y (λ (e : ℕ). (1 ≤ e) × (e ≤ i)) (countIn y c)
+-- after a fill of rows 0 to r, r being the number of engines in service: the row of a column is "its lowest yes row (m+1 for none)" by document 01's cells, and its predecessor the cell "at that row
+-- (65,535 for none and for column 0)"; in plain words, row i is below it exactly when the column's load cannot be partitioned among i engines; "entries past those are unchanged"
+pub record FilledMeans (y : System) (r : ℕ) (table after : Lent) : Type 0 where
+  pub cells : (i c : ℕ) → i ≤ r → c < columnsOut y → (cellFor y i c ≡ 65535) ↔ (i < rowOf after c)
+  pub cellThere : (c : ℕ) → 0 < c → c < columnsOut y → rowOf after c ≤ r → predecessorOf after c ≡ cellFor y (rowOf after c) c
+  pub says : (i c : ℕ) → i ≤ r → c < columnsOut y → (i < rowOf after c) ↔ Impossible y (λ (e : ℕ). (1 ≤ e) × (e ≤ i)) (countIn y c)
+  pub none : (c : ℕ) → c < columnsOut y → r < rowOf after c → (rowOf after c ≡ y .engines + 1) × (predecessorOf after c ≡ 65535)
+  pub columnZero : (rowOf after 0 ≡ 0) × (predecessorOf after 0 ≡ 65535)
   -- "A column stands for a load within the ceilings"
   pub ceilings : (c t : ℕ) → countIn y c t ≤ ceilingNo y t
   pub numbered : (c : ℕ) → c < columnsOut y → columnNo y (countIn y c) ≡ c
-  -- "Row 0: column 0 holds 0, every other cell 65,535"
-  pub rowZero : (c : ℕ) → c < columnsOut y → getD after c 0 ≡ cond (eqb c 0) 0 65535
-  -- row i + 1 holds a column that may precede, or 65,535; and the lowest there is
-  pub precedes : (i c : ℕ) → i < rows → c < columnsOut y → (getD after ((i + 1) * columnsOut y + c) 0 ≡ 65535 → ⊥) → MayPrecede y after i c (getD after ((i + 1) * columnsOut y + c) 0)
-  pub lowest : (i c p : ℕ) → i < rows → c < columnsOut y → MayPrecede y after i c p → getD after ((i + 1) * columnsOut y + c) 0 ≤ p
-  pub past : (k : ℕ) → (rows + 1) * columnsOut y ≤ k → getD after k 0 ≡ getD table k 0
-  pub asLong : length after ≡ length table
+  -- the predecessor is a column that may precede, and the lowest there is
+  pub precedes : (c : ℕ) → 0 < c → c < columnsOut y → rowOf after c ≤ r → MayPrecede y after c (predecessorOf after c)
+  pub lowest : (c p : ℕ) → 0 < c → c < columnsOut y → rowOf after c ≤ r → MayPrecede y after c p → predecessorOf after c ≤ p
+  pub past : (k : ℕ) → columnsOut y ≤ k → (rowOf after k ≡ rowOf table k) × (predecessorOf after k ≡ predecessorOf table k)
+  pub asLong : (length (after .rows) ≡ length (table .rows)) × (length (after .predecessors) ≡ length (table .predecessors))
 
 -- document 01's recovery of count(t) instances of each type, read in a filled table: it "starts at the lowest row i that says yes", which is `used`, at the load's column;
 -- "Engine i gets the load less that of the cell's column, and the rest is found the same way from row i-1 at that column". `row i t` is what row i gets of type t
-pub record RecoveredBy (y : System) (table : List ℕ) (used : ℕ) (count : ℕ → ℕ) (row : ℕ → ℕ → ℕ) : Type 0 where
+pub record RecoveredBy (y : System) (table : Lent) (used : ℕ) (count : ℕ → ℕ) (row : ℕ → ℕ → ℕ) : Type 0 where
   pub column : ℕ → ℕ
   pub starts : column used ≡ columnNo y count
-  pub says : getD table (used * columnsOut y + column used) 0 ≡ 65535 → ⊥
-  pub lowestRow : (i : ℕ) → i < used → getD table (i * columnsOut y + column used) 0 ≡ 65535
-  pub down : (i : ℕ) → i < used → column i ≡ getD table ((i + 1) * columnsOut y + column (i + 1)) 0
+  pub lowestRow : rowOf table (column used) ≡ used
+  pub down : (i : ℕ) → i < used → column i ≡ predecessorOf table (column (i + 1))
   pub gets : (i t : ℕ) → i < used → row (i + 1) t ≡ countIn y (column (i + 1)) t - countIn y (column i) t
 
--- Request 2026-05: the pairs that a fill tries, counted in the table that it leaves
+-- Request 2026-05: the pairs that a fill tries, counted in the table that it leaves; request 2026-10: "only for columns without a row yet"
 
 -- f 0 + f 1 + .., as many as n
 unfoldable pub sumBelow : ℕ → (ℕ → ℕ) → ℕ
 sumBelow zero f = 0
 sumBelow (suc n) f = sumBelow n f + f n
 
--- 1 where column p is tried for row i, column c: "from the lowest up to the one accepted or to the last". The one accepted is what the entry holds; 65,535 there is past every column
-abbrev pub triedOut : System → List ℕ → ℕ → ℕ → ℕ → ℕ
-triedOut y after i c p = cond (noGreater y p c && leb p (getD after (i * columnsOut y + c) 0)) 1 0
+-- 1 where column p is tried for row i, column c, which has no row below i: "from the lowest up to the one accepted or to the last". The one accepted is the predecessor, in the column's own row
+abbrev pub triedOut : System → Lent → ℕ → ℕ → ℕ → ℕ
+triedOut y after i c p = cond (leb i (rowOf after c) && noGreater y p c && (ltb i (rowOf after c) || leb p (predecessorOf after c))) 1 0
 
 -- "for each row from 1 and each column"
-abbrev pub pairsOut : System → ℕ → List ℕ → ℕ
-pairsOut y rows after = sumBelow rows (λ (i : ℕ). sumBelow (columnsOut y) (λ (c : ℕ). sumBelow (columnsOut y) (triedOut y after (i + 1) c)))
+abbrev pub pairsOut : System → ℕ → Lent → ℕ
+pairsOut y r after = sumBelow r (λ (i : ℕ). sumBelow (columnsOut y) (λ (c : ℕ). sumBelow (columnsOut y) (triedOut y after (i + 1) c)))
 
 -- "the product of (n(t)+1) × (n(t)+2) / 2", written out
 abbrev pub triangle : ℕ → ℕ
@@ -103,21 +111,21 @@ boundOut y =
 abbrev pub NoneFits : System → Type 0
 NoneFits y = (t : ℕ) → 1 ≤ t → 1 ≤ ceilingNo y t → (y .timecap < typeNo y t .time) ⊎ (y .memorycap < typeNo y t .memory + typeNo y t .data)
 
--- what the call `fill_table` promises: 1 to 10 and 31, then 11 exactly for a table that is too short, and the table as lent; else the table filled, and the answer is the number of pairs tried,
--- at most m times the product, and just that where no type fits
-pub record FillPromises (x : Reading) (table : List ℕ) (answer : Answer) (after : List ℕ) : Type 0 where
+-- what the call `fill_table` promises: 1 to 10 and 31, then 11 exactly where a part is too short, and the table as lent; else the table filled, and the answer is the number of pairs tried,
+-- at most m times the product, and m less than that where no type fits: column 0 never counts
+pub record FillPromises (x : Reading) (table : Lent) (answer : Answer) (after : Lent) : Type 0 where
   pub answers : outcomeOf answer ≡ fillOutcome x table
   pub leaves : after ≡ fillTable x table
   pub fileFirst : (n : ℕ) → x ≡ unread n → outcomeOf answer ≡ refused fromInput n
-  pub thenTable : (y : System) → x ≡ opened y → (outcomeOf answer ≡ refused fromInput 11) ↔ (length table < (y .engines + 1) * columnsOut y)
+  pub thenTable : (y : System) → x ≡ opened y → (outcomeOf answer ≡ refused fromInput 11) ↔ TooShort y table
   pub fills : (y : System) → x ≡ opened y → LongEnough y table → FilledMeans y (y .engines) table after
   pub counts : (y : System) → x ≡ opened y → LongEnough y table → outcomeOf answer ≡ accepted (pairsOut y (y .engines) after ∷ [])
   pub bounded : (y : System) (pairs : ℕ) → x ≡ opened y → outcomeOf answer ≡ accepted (pairs ∷ []) → pairs ≤ y .engines * boundOut y
-  pub met : (y : System) (pairs : ℕ) → x ≡ opened y → outcomeOf answer ≡ accepted (pairs ∷ []) → NoneFits y → pairs ≡ y .engines * boundOut y
+  pub met : (y : System) (pairs : ℕ) → x ≡ opened y → outcomeOf answer ≡ accepted (pairs ∷ []) → NoneFits y → pairs + y .engines ≡ y .engines * boundOut y
   pub asLent : (s : Source) (n : ℕ) → outcomeOf answer ≡ refused s n → after ≡ table
 
--- what the call `entries_needed` promises: the shortest table that 11 passes
+-- what the call `columns_needed` promises: the shortest parts that 11 passes
 pub record NeedPromises (x : Reading) (answer : Answer) : Type 0 where
-  pub answers : outcomeOf answer ≡ entriesNeeded x
+  pub answers : outcomeOf answer ≡ columnsNeeded x
   pub refuses : (n : ℕ) → x ≡ unread n → outcomeOf answer ≡ refused fromInput n
-  pub needs : (y : System) → x ≡ opened y → outcomeOf answer ≡ accepted ((y .engines + 1) * columnsOut y ∷ [])
+  pub needs : (y : System) → x ≡ opened y → outcomeOf answer ≡ accepted (columnsOut y ∷ [])

@@ -1,9 +1,9 @@
--- Request 2026-05, "How long a fill may take": the pairs that a fill of the table tries, listed as the request says them.
+-- Request 2026-05, "How long a fill may take", with 2026-10: the pairs that a fill tries, listed as the requests say them.
 use Prim.Native.Nat.{ℕ}
 use mathlib.Core.List.{List, [], _∷_, _++_, map}
 use mathlib.Core.Bool.{Bool, cond}
 use lib.ListN.{length}
-use lib.Dec.{eqb}
+use lib.Dec.{leb, eqb}
 use Rattle.system.specs.declared.System.{System}
 use Rattle.system.specs.Values.{ceilingsOf}
 use Rattle.system.specs.Limits.{columnsOf, columns}
@@ -11,6 +11,7 @@ use Rattle.loads.specs.Load.{within}
 use Rattle.loads.specs.Column.{loadOf}
 use Rattle.partition.specs.Assignment.{numbersFrom}
 use Rattle.partition.specs.ForSystem.{cellFor}
+use Rattle.table.specs.Parts.{lowestFor}
 
 -- those of a list that pass the test, in their order
 unfoldable pub those : (ℕ → Bool) → List ℕ → List ℕ
@@ -41,17 +42,22 @@ pub record Pair : Type 0 where
   pub column : ℕ
   pub tried : ℕ
 
--- the pairs tried for a cell, and for a row: "for .. each column"
+-- the pairs tried for a cell
 abbrev pub cellPairs : System → ℕ → ℕ → List Pair
 cellPairs y i c = map (λ (p : ℕ). record { row = i; column = c; tried = p }) (triedAt y i c)
 
-abbrev pub rowPairs : System → ℕ → List Pair
-rowPairs y i = forEach (numbersFrom 0 (columns y)) (cellPairs y i)
+-- "Pairs are counted only for columns without a row yet": while row i is filled, those whose lowest yes row is not below i.
+-- Column 0 has row 0, so that it never counts
+abbrev pub waiting : System → ℕ → ℕ → List ℕ
+waiting y r i = those (λ (c : ℕ). leb i (lowestFor y r c)) (numbersFrom 0 (columns y))
 
--- "for each row from 1", where the table has this many rows past row 0
-unfoldable pub pairsTried : System → ℕ → List Pair
-pairsTried y rows = forEach (numbersFrom 1 rows) (rowPairs y)
+abbrev pub rowCounted : System → ℕ → ℕ → List Pair
+rowCounted y r i = forEach (waiting y r i) (cellPairs y i)
+
+-- for each row from 1 to r
+unfoldable pub pairsCounted : System → ℕ → List Pair
+pairsCounted y r = forEach (numbersFrom 1 r) (rowCounted y r)
 
 -- their number, which the fill reports
-abbrev pub pairsOf : System → ℕ → ℕ
-pairsOf y rows = length (pairsTried y rows)
+abbrev pub countedOf : System → ℕ → ℕ
+countedOf y r = length (pairsCounted y r)

@@ -1,8 +1,8 @@
--- What the lent table holds: document 01's "Table". The only definitions that know how the cells lie in it.
-use Prim.Native.Nat.{ℕ, zero, suc, _+_, _*_, _/_, _%_}
-use mathlib.Core.List.{List, [], _∷_, _++_, map}
-use mathlib.Core.Bool.{Bool, true, false, cond}
-use lib.ListN.{length, drop, replicate}
+-- What the lent table holds (request 2026-10, instead of document 01's "Table"), its refusal, and placing a load by it.
+use Prim.Native.Nat.{ℕ}
+use mathlib.Core.List.{List, [], _∷_, map}
+use mathlib.Core.Bool.{Bool, true, false, cond, _&&_}
+use lib.ListN.{length, replicate}
 use lib.Dec.{leb}
 use Rattle.system.specs.declared.System.{System}
 use Rattle.system.specs.Limits.{columns, engineLimit}
@@ -10,53 +10,46 @@ use Rattle.system.specs.Layout.{Reading, opened, unread}
 use Rattle.system.specs.Outcome.{Outcome, accepted, refused, fromInput, Checked, check, unlessFails}
 use Rattle.loads.specs.Load.{engineWith, idleEngine}
 use Rattle.partition.specs.Assignment.{enginesTo}
-use Rattle.partition.specs.ForSystem.{cellFor, rowFor, placeable, recoveredFor}
+use Rattle.partition.specs.ForSystem.{rowFor, placeable, recoveredFor}
+use Rattle.partition.specs.Lent.{Lent}
 use Rattle.table.specs.declared.Placement.{Placement}
-use Rattle.table.specs.Pairs.{pairsOf}
+use Rattle.table.specs.Parts.{rowAt, predecessorAt, partOf}
+use Rattle.table.specs.Pairs.{countedOf}
 
--- f 0, f 1, .., as many as k
-unfoldable pub upTo : (ℕ → ℕ) → ℕ → List ℕ
-upTo f zero = []
-upTo f (suc k) = upTo f k ++ (f k ∷ [])
+-- both parts have an entry for each column
+abbrev pub roomFor : System → ℕ → ℕ → Bool
+roomFor y rows predecessors = leb (columns y) rows && leb (columns y) predecessors
 
--- "The cell of row i, column c is entry i × columns + c"
-abbrev pub entryOf : System → ℕ → ℕ
-entryOf y k = cellFor y (k / columns y) (k % columns y)
+-- refusal 11 is for parts of which one is not so long
+abbrev pub longEnough : System → Lent → Bool
+longEnough y table = roomFor y (length (table .rows)) (length (table .predecessors))
 
--- the entries of rows 0 to `rows`
-abbrev pub entries : System → ℕ → ℕ
-entries y rows = (rows + 1) * columns y
+-- 11, for parts of so many entries
+abbrev pub roomCheck : System → ℕ → ℕ → Checked
+roomCheck y rows predecessors = check (roomFor y rows predecessors) fromInput 11
 
--- refusal 11 is for a table that is not
-abbrev pub longEnough : System → List ℕ → Bool
-longEnough y table = leb (entries y (y .engines)) (length table)
+abbrev pub tableCheck : System → Lent → Checked
+tableCheck y table = roomCheck y (length (table .rows)) (length (table .predecessors))
 
--- 11, for a table of `room` entries
-abbrev pub roomCheck : System → ℕ → Checked
-roomCheck y room = check (leb (entries y (y .engines)) room) fromInput 11
+-- the entries that each part of the table of a file must have
+abbrev pub columnsNeeded : Reading → Outcome
+columnsNeeded (unread n) = refused fromInput n
+columnsNeeded (opened y) = accepted (columns y ∷ [])
 
-abbrev pub tableCheck : System → List ℕ → Checked
-tableCheck y table = roomCheck y (length table)
-
--- the entries that the table of a file must have
-abbrev pub entriesNeeded : Reading → Outcome
-entriesNeeded (unread n) = refused fromInput n
-entriesNeeded (opened y) = accepted ((y .engines + 1) * columns y ∷ [])
-
--- the table filled for rows 0 to `rows`: their cells, then what it held past them
-unfoldable pub filledTo : System → ℕ → List ℕ → List ℕ
-filledTo y rows table = upTo (entryOf y) (entries y rows) ++ drop (entries y rows) table
+-- the parts filled for rows 0 to r, r being the number of engines in service
+abbrev pub filledTo : System → ℕ → Lent → Lent
+filledTo y r table = record { rows = partOf y (rowAt y r) (table .rows); predecessors = partOf y (predecessorAt y r) (table .predecessors) }
 
 -- with a row for each of the engines es
-abbrev pub filled : System → List ℕ → List ℕ → List ℕ
+abbrev pub filled : System → List ℕ → Lent → Lent
 filled y es table = filledTo y (length es) table
 
 -- a call that only fills: 1 to 10 and 31, 11, else accepted with the number of pairs tried (request 2026-05)
-abbrev pub fillOutcome : Reading → List ℕ → Outcome
+abbrev pub fillOutcome : Reading → Lent → Outcome
 fillOutcome (unread n) table = refused fromInput n
-fillOutcome (opened y) table = unlessFails (tableCheck y table) (accepted (pairsOf y (y .engines) ∷ []))
+fillOutcome (opened y) table = unlessFails (tableCheck y table) (accepted (countedOf y (y .engines) ∷ []))
 
-abbrev pub fillTable : Reading → List ℕ → List ℕ
+abbrev pub fillTable : Reading → Lent → Lent
 fillTable (unread n) table = table
 fillTable (opened y) table = cond (longEnough y table) (filled y (enginesTo (y .engines)) table) table
 

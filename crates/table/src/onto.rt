@@ -6,7 +6,7 @@ ghost use Rattle.system.specs.Limits.{engineLimit};
 ghost use Rattle.loads.specs.Load.{idleEngine};
 ghost use Rattle.partition.specs.Assignment.{enginesTo};
 ghost use Rattle.partition.specs.Shares.{onEngines};
-ghost use Rattle.table.specs.Recovery.{listed, OnListed};
+ghost use Rattle.table.specs.Chain.{listed, OnListed};
 use crate::Engines;
 use loads::EngineLoad;
 use system::ENGINE_LIMIT;

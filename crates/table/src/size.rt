@@ -4,7 +4,7 @@ ghost use mathlib.Core.Bool.{true};
 ghost use Rattle.system.specs.Limits.{columns, keepsLimits};
 ghost use Rattle.system.specs.Layout.{readFile};
 ghost use Rattle.system.specs.Outcome.{checkedOf};
-ghost use Rattle.table.specs.Table.{entries, roomCheck};
+ghost use Rattle.table.specs.Table.{roomCheck};
 ghost use Rattle.table.specs.Meaning.{NeedPromises};
 use system::Answer;
 use system::Check;
@@ -20,27 +20,20 @@ pub(crate) fn columns_of(y: System) -> usize
     system::columns_within(types)
 }
 
-// The entries of rows 0 to m.
-fn entries_of(y: System) -> usize
+// Refusal 11: parts of `rows` and of `predecessors` entries, of which one is shorter than the columns.
+pub fn table_check(y: System, rows: usize, predecessors: usize) -> Check
     requires { ⌜ keepsLimits y ≡ true ⌝ }
-    ensures { λ r. ⌜ r ≡ entries y (y .engines) ⌝ }
+    ensures { λ r. ⌜ checkedOf r ≡ roomCheck y rows predecessors ⌝ }
 {
-    (y.engines + 1) * columns_of(y)
-}
-
-// Refusal 11: a table of `room` entries is too short for rows 0 to m.
-pub fn table_check(y: System, room: usize) -> Check
-    requires { ⌜ keepsLimits y ≡ true ⌝ }
-    ensures { λ r. ⌜ checkedOf r ≡ roomCheck y room ⌝ }
-{
-    if entries_of(y) <= room {
+    let columns = columns_of(y);
+    if (columns <= rows) & (columns <= predecessors) {
         return Check::Passes;
     }
     Check::Fails(Refusal::Input(11))
 }
 
-// The entries that the table of a system file must have, (m + 1) × columns: refused 1 to 10 and 31 as the file is read.
-pub fn entries_needed(file: &[u8]) -> Answer
+// The entries that each part of the table of a system file must have, one for each column: refused 1 to 10 and 31 as the file is read.
+pub fn columns_needed(file: &[u8]) -> Answer
     ensures { λ r. ⌜ NeedPromises (readFile (now (file .entry))) r ⌝ }
 {
     let opened = system::read_system(file);
@@ -48,5 +41,5 @@ pub fn entries_needed(file: &[u8]) -> Answer
     let Answer::Accepted = answer else {
         return answer;
     };
-    Answer::Number(entries_of(opened.system))
+    Answer::Number(columns_of(opened.system))
 }

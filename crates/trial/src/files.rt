@@ -274,10 +274,10 @@ fn field_read(file: &[u8], r: Reading) -> Reading {
     most_read(file, r)
 }
 
-// The columns of the six ceilings are at most 1,024: dividing by each n + 1 in turn leaves something.
+// The columns of the six ceilings are at most 4,096: dividing by each n + 1 in turn leaves something.
 fn within_columns(y: System) -> bool {
     let types = y.types;
-    let mut left: usize = 1024;
+    let mut left: usize = 4096;
     for t in 0..TYPE_LIMIT {
         let task = types[t];
         left = left / (systems::wide(task.ceiling) + 1);

@@ -1,5 +1,6 @@
 // What is said of sheets of document 01's system A, three engines and two types, through `check_of` and through `check_read`: each of the two other lines, each refusal
-// of a sheet, a file that does not read; input that is joined, cut at every place that matters, and far too long. What is expected was computed apart from the code.
+// of a sheet, a file that does not read; input that is joined, cut at every place that matters, and far too long; and of a file with 4,096 columns and one with 4,097.
+// What is expected was computed apart from the code.
 use answers::JOINED_BYTES;
 use answers::check_of;
 use answers::check_read;
@@ -150,6 +151,96 @@ const THREE: [u8; 53] = [
     2,
 ];
 
+// One type of n 4,095 that costs nothing, on two engines: as many columns as there may be.
+const WIDEST: [u8; 26] = [
+    1,
+    0,
+    10,
+    2,
+    0,
+    0,
+    0,
+    0,
+    0,
+    0,
+    0,
+    0,
+    0,
+    2,
+    0,
+    10,
+    0,
+    0,
+    0,
+    0,
+    0,
+    0,
+    0,
+    0,
+    15,
+    255,
+];
+
+// All of it on one engine: the sheet of its plan.
+const ON_ONE: [u8; 19] = [
+    16,
+    0,
+    2,
+    1,
+    1,
+    17,
+    0,
+    11,
+    1,
+    0,
+    0,
+    0,
+    0,
+    0,
+    0,
+    0,
+    0,
+    15,
+    255,
+];
+
+// And on both.
+const ON_BOTH: [u8; 33] = [
+    16,
+    0,
+    2,
+    2,
+    1,
+    17,
+    0,
+    11,
+    1,
+    0,
+    0,
+    0,
+    0,
+    0,
+    0,
+    0,
+    0,
+    15,
+    254,
+    17,
+    0,
+    11,
+    2,
+    0,
+    0,
+    0,
+    0,
+    0,
+    0,
+    0,
+    0,
+    0,
+    1,
+];
+
 fn say(text: &[u8]) {
     io::write_all(STDOUT_FILENO, text);
 }
@@ -274,9 +365,25 @@ fn say_written() {
     say(&out[..written]);
 }
 
+// As many columns as there may be, and one more, over the functions' own parts.
+fn say_widest() {
+    let file = WIDEST;
+    let one = ON_ONE;
+    let both = ON_BOTH;
+    let mut more = WIDEST;
+    more[24] = 16;
+    more[25] = 0;
+    say_check(b"4096 columns, on one", &file, &one);
+    say_check(b"4096 columns, on both", &file, &both);
+    say_check(b"4097 columns", &more, &one);
+    say_sheet(b"4096 columns", &file);
+    say_sheet(b"4097 columns", &more);
+}
+
 fn main() {
     say_sheets();
     say_less();
     say_joined();
     say_written();
+    say_widest();
 }

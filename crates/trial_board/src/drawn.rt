@@ -1,6 +1,7 @@
-// Many drawn lists of calls, over dirty tables, the same table again, and tables that are too short: lists of the four calls of document 01,
-// and lists of all six, in which engines are withdrawn and put back. How many calls were answered in each way, and a line for each call
+// Many drawn lists of calls, over dirty tables, the same table again, and tables of which one part is too short, or both: lists of the four calls of
+// document 01, and lists of all six, in which engines are withdrawn and put back. How many calls were answered in each way, and a line for each call
 // that is answered otherwise than the ledger says.
+use crate::live::Lengths;
 use crate::live::Live;
 use crate::live::Step;
 use crate::live::live_of;
@@ -28,10 +29,10 @@ struct Tally {
     seed: u64,
 }
 
-// A call drawn, how many entries of the table it is lent, whether they are made dirty before, and the seed after it.
+// A call drawn, how many entries of each part it is lent, whether they are made dirty before, and the seed after it.
 struct DrawnCall {
     call: Call,
-    lent: usize,
+    lent: Lengths,
     dirty: bool,
     seed: u64,
 }
@@ -90,12 +91,41 @@ fn drawn_kind(seed: u64, turn: usize, six: bool) -> spread::Drawn {
     }
 }
 
-// Of eight tables one is an entry too short, one is just long enough, and the others are longer.
-fn drawn_length(value: usize, entries: usize) -> usize {
+fn lengths(rows: usize, predecessors: usize) -> Lengths {
+    Lengths { rows, predecessors }
+}
+
+// Parts of which one has an entry too few, or none at all, or both have an entry too few: by turns.
+fn short_lengths(turn: usize, columns: usize) -> Lengths {
+    let less = wrapping_sub_usize(columns, 1);
+    let way = turn % 7;
+    match way {
+        0 => lengths(less, columns),
+        1 => lengths(columns, less),
+        2 => lengths(less, less),
+        3 => lengths(less, 512),
+        4 => lengths(512, less),
+        5 => lengths(0, 512),
+        _ => lengths(512, 0),
+    }
+}
+
+// Parts of which one is just long enough, or both: by turns.
+fn just_lengths(turn: usize, columns: usize) -> Lengths {
+    let way = turn % 3;
+    match way {
+        0 => lengths(columns, columns),
+        1 => lengths(columns, 512),
+        _ => lengths(512, columns),
+    }
+}
+
+// Of eight tables one has a part that is too short, one has a part that is just long enough, and the others are longer.
+fn drawn_lengths(value: usize, turn: usize, columns: usize) -> Lengths {
     match value {
-        0 => wrapping_sub_usize(entries, 1),
-        1 => entries,
-        _ => 512,
+        0 => short_lengths(turn, columns),
+        1 => just_lengths(turn, columns),
+        _ => lengths(512, 512),
     }
 }
 
@@ -110,7 +140,7 @@ fn drawn_call(seed: u64, y: System, turn: usize, six: bool) -> DrawnCall {
             task: task.value,
             engine: engine.value,
         },
-        lent: drawn_length(room.value, recovery::entries_of(y)),
+        lent: drawn_lengths(room.value, turn, recovery::columns_of(y)),
         dirty: room.value < 4,
         seed: room.seed,
     }
@@ -174,7 +204,8 @@ fn with_list(t: Tally, y: System, six: bool, cells: bool) -> Tally {
     for i in 0..40usize {
         let d = drawn_call(all.seed, y, i, six);
         let c = d.call;
-        let s = played(soiled(live, d.dirty), c, d.lent, cells);
+        let lent = d.lent;
+        let s = played(soiled(live, d.dirty), c, lent, cells);
         if !s.right {
             say_wrong(y, c, s.code);
         }
@@ -194,7 +225,7 @@ fn no_tally(seed: u64) -> Tally {
     }
 }
 
-// So many lists, each for a drawn system, with every cell of every filled table in one of 50.
+// So many lists, each for a drawn system, with every entry of every filled table in one of 50.
 fn drawn_lists(seed: u64, number: usize, typecount: usize, most: usize, six: bool) -> Tally {
     let mut t = no_tally(seed);
     let mut i: usize = 0;

@@ -5,16 +5,24 @@ use brute::ledger;
 use brute::ledger::Call;
 use brute::ledger::Ledger;
 use brute::recovery;
+use std::num::wrapping_add_usize;
 use system::System;
 use trial::say;
 use trial::systems;
 use trial::tables;
+use trial::tables::Lent;
+
+// How many entries of each part are lent.
+pub struct Lengths {
+    pub rows: usize,
+    pub predecessors: usize,
+}
 
 // The board under test, the ledger beside it, and the table that is lent to the next call.
 pub struct Live {
     pub board: Board,
     pub ledger: Ledger,
-    pub table: [u16; 512],
+    pub table: Lent,
 }
 
 // What one call comes to: its answer as a code, and whether all is as the ledger says.
@@ -36,18 +44,18 @@ pub fn live_of(file: &[u8]) -> Live {
     }
 }
 
-fn called(b: Board, c: Call, table: &mut [u16]) -> Turn {
+fn called(b: Board, c: Call, rows: &mut [u16], predecessors: &mut [u16]) -> Turn {
     if c.kind == 0 {
-        return board::admit(b, c.task, table);
+        return board::admit(b, c.task, rows, predecessors);
     }
     if c.kind == 1 {
-        return board::seat(b, c.task, table);
+        return board::seat(b, c.task, rows, predecessors);
     }
     if c.kind == 2 {
         return board::retire(b, c.task, c.engine);
     }
     if c.kind == 3 {
-        return board::repack(b, table);
+        return board::repack(b, rows, predecessors);
     }
     if c.kind == 4 {
         return board::withdraw(b, c.engine);
@@ -55,12 +63,21 @@ fn called(b: Board, c: Call, table: &mut [u16]) -> Turn {
     board::restore(b, c.engine)
 }
 
-// The call over the first n entries of a table, or all where it has fewer.
-fn called_over(b: Board, c: Call, table: &mut [u16], n: usize) -> Turn {
-    if n < table.len() {
-        return called(b, c, &mut table[0..n]);
+// The call over the first n entries of the predecessor part, or all where it has fewer.
+fn called_front(b: Board, c: Call, rows: &mut [u16], predecessors: &mut [u16], n: usize) -> Turn {
+    if n < predecessors.len() {
+        return called(b, c, rows, &mut predecessors[0..n]);
     }
-    called(b, c, table)
+    called(b, c, rows, predecessors)
+}
+
+// The call over the first entries of both parts, or all where they have fewer.
+fn called_over(b: Board, c: Call, rows: &mut [u16], predecessors: &mut [u16], n: Lengths) -> Turn {
+    let first = n.rows;
+    if first < rows.len() {
+        return called_front(b, c, &mut rows[0..first], predecessors, n.predecessors);
+    }
+    called_front(b, c, rows, predecessors, n.predecessors)
 }
 
 // The call leaves the table filled: an accepted seat or repack, 23 and 24.
@@ -69,14 +86,25 @@ fn fills(c: Call, code: usize) -> bool {
     packs | (code == 223) | (code == 224)
 }
 
-// The table of y, the system with the engines in service: it is unchanged past its rows, or all of it where the call does not fill; with
-// `cells` every cell is compared.
-fn right_table(y: System, old: [u16; 512], new: [u16; 512], filled: bool, cells: bool) -> bool {
+// Both parts are filled as the brute search says: rows are those of the engines in service, and a column that they place not at all has one more than all
+// engines of the platform.
+fn right_parts(l: Ledger, table: Lent) -> bool {
+    let y = l.system;
+    let rows = table.rows;
+    let predecessors = table.predecessors;
+    let none = wrapping_add_usize(y.engines, 1);
+    recovery::right_parts(ledger::in_service(l), none, rows, predecessors)
+}
+
+// The table after a call on the board of this ledger: both parts are unchanged past the columns, or all of them where the call does not fill; with
+// `cells` every entry is compared.
+fn right_table(l: Ledger, old: Lent, new: Lent, filled: bool, cells: bool) -> bool {
     if !filled {
         return tables::same_from(old, new, 0);
     }
-    let right = !cells || recovery::right_cells(y, new);
-    right & tables::same_from(old, new, recovery::entries_of(y))
+    let y = l.system;
+    let right = !cells || right_parts(l, new);
+    right & tables::same_from(old, new, recovery::columns_of(y))
 }
 
 // The board is the ledger's: its system, its loads with their sums, its marks, idle engines without a mark past m.
@@ -92,22 +120,30 @@ fn same_board(b: Board, l: Ledger) -> bool {
         & recovery::same_marks(out, marks)
 }
 
-// One call, on the board and in the ledger. A table must be long enough for all engines, and is filled for those in service.
-pub fn played(live: Live, c: Call, n: usize, cells: bool) -> Step {
+// Each part has an entry for each column.
+fn long_enough(y: System, n: Lengths) -> bool {
+    let columns = recovery::columns_of(y);
+    (columns <= n.rows) & (columns <= n.predecessors)
+}
+
+// One call, on the board and in the ledger. Both parts must be as long as the columns, and are filled for the engines in service.
+pub fn played(live: Live, c: Call, n: Lengths, cells: bool) -> Step {
     let b = live.board;
     let y = b.system;
     let old = live.table;
-    let mut table = live.table;
-    let turn = called_over(b, c, &mut table, n);
+    let mut rows = old.rows;
+    let mut predecessors = old.predecessors;
+    let turn = called_over(b, c, &mut rows, &mut predecessors, n);
+    let table = Lent { rows, predecessors };
     let l = live.ledger;
-    let entry = ledger::entered(l, c, recovery::entries_of(y) <= n);
+    let entry = ledger::entered(l, c, long_enough(y, n));
     let a = turn.answer;
     let code = say::code_of(a);
     let next = entry.ledger;
     let after = turn.board;
     let right = (code == entry.code)
         & same_board(after, next)
-        & right_table(ledger::in_service(l), old, table, fills(c, code), cells);
+        & right_table(l, old, table, fills(c, code), cells);
     Step {
         live: Live {
             board: after,

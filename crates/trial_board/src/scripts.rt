@@ -1,6 +1,7 @@
 // Lists of calls that are given, with their answers: scripts of six bytes for each call. Its kind (a, s, r for retire, p for repack, w for
 // withdraw, b for restore, which puts an engine back), type and engine, then `@` and the engine that admit answers (0 for another call), or
 // the refusal's number; a space, or a full stop after the last. `-` is no number, `x` is 255.
+use crate::live::Lengths;
 use crate::live::live_of;
 use crate::live::played;
 use board::Board;
@@ -89,14 +90,18 @@ fn say_board(b: Board) {
 }
 
 // A line for a list of at most 64 calls that is given: how many calls, how many of them wrong by the script or the ledger, and the final board.
-// With `cells` every cell of a filled table is compared too.
+// With `cells` every entry of a filled table is compared too.
 pub fn say_list(name: &[u8], file: &[u8], script: &[u8], cells: bool) {
     let mut live = live_of(file);
     let mut wrong: usize = 0;
     for i in 0..64usize {
         let start = i * 6;
         if start < script.len() {
-            let s = played(live, scripted(script, start), 512, cells);
+            let whole = Lengths {
+                rows: 512,
+                predecessors: 512,
+            };
+            let s = played(live, scripted(script, start), whole, cells);
             if (s.code != scripted_code(script, start)) | !s.right {
                 wrong = wrapping_add_usize(wrong, 1);
             }

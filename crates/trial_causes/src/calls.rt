@@ -1,4 +1,4 @@
-// The calls over tables that are dirty, and of which a first part is lent; and what was left in them.
+// The calls over tables that are dirty, and of which first entries of each part are lent; and what was left in them.
 ghost use Prim.Native.Nat.{_<_};
 use crate::boards::board_in;
 use board::Board;
@@ -12,8 +12,8 @@ use causes::why_no_plan;
 use causes::why_no_room;
 use planner::Plan;
 use planner::plan_of;
+use system::COLUMN_LIMIT;
 use system::Refusal;
-use system::TABLE_LIMIT;
 use trial::files::first_of;
 use trial::say::code_of;
 use trial::words::Bytes;
@@ -35,12 +35,26 @@ fn dirt(i: usize) -> u16 {
     (((i % 65536) * 40503 + 7) % 65536) as u16
 }
 
-fn dirty_table() -> [u16; TABLE_LIMIT] {
-    let mut table: [u16; TABLE_LIMIT] = [0; TABLE_LIMIT];
-    for i in 0..TABLE_LIMIT {
-        table[i] = dirt(i);
+// Tables to lend, in two parts.
+struct Lent {
+    rows: [u16; COLUMN_LIMIT],
+    predecessors: [u16; COLUMN_LIMIT],
+}
+
+// How many entries of each part are lent.
+pub struct Lengths {
+    pub rows: usize,
+    pub predecessors: usize,
+}
+
+fn dirty_table() -> Lent {
+    let mut rows: [u16; COLUMN_LIMIT] = [0; COLUMN_LIMIT];
+    let mut predecessors: [u16; COLUMN_LIMIT] = [0; COLUMN_LIMIT];
+    for i in 0..COLUMN_LIMIT {
+        rows[i] = dirt(i);
+        predecessors[i] = dirt(i + COLUMN_LIMIT);
     }
-    table
+    Lent { rows, predecessors }
 }
 
 fn wide(entry: u16) -> usize
@@ -49,13 +63,15 @@ fn wide(entry: u16) -> usize
     entry as usize
 }
 
-// The number of a table: every entry has a part in it. 0 stands for a table that is as it was lent.
-fn table_number(table: [u16; TABLE_LIMIT]) -> usize {
+// The number of a table: every entry of both parts has a part in it. 0 stands for a table that is as it was lent.
+fn table_number(rows: [u16; COLUMN_LIMIT], predecessors: [u16; COLUMN_LIMIT]) -> usize {
     let mut number: usize = 1;
     let mut same = true;
-    for i in 0..TABLE_LIMIT {
-        number = (number * 257 + wide(table[i])) % 1000003;
-        same = same & (table[i] == dirt(i));
+    for i in 0..COLUMN_LIMIT {
+        number = (number * 257 + wide(rows[i])) % 1000003;
+        number = (number * 257 + wide(predecessors[i])) % 1000003;
+        same = same & (rows[i] == dirt(i));
+        same = same & (predecessors[i] == dirt(i + COLUMN_LIMIT));
     }
     if same { AS_LENT } else { number + 1 }
 }
@@ -113,83 +129,158 @@ fn told_as(a: CauseAnswer, table: usize) -> Told {
     }
 }
 
-// The call from a file over the first n entries of a table, or all where it has fewer.
-fn plan_over(file: &[u8], table: &mut [u16], n: usize) -> CauseAnswer {
-    if n < table.len() {
-        return why_no_plan(file, &mut table[0..n]);
+// The call from a file over the first entries of both parts, or all where they have fewer: first the predecessor part is cut, then both.
+fn plan_front(file: &[u8], rows: &mut [u16], predecessors: &mut [u16], n: usize) -> CauseAnswer {
+    if n < predecessors.len() {
+        return why_no_plan(file, rows, &mut predecessors[0..n]);
     }
-    why_no_plan(file, table)
+    why_no_plan(file, rows, predecessors)
 }
 
-fn room_over(b: Board, t: usize, table: &mut [u16], n: usize) -> CauseAnswer {
-    if n < table.len() {
-        return why_no_room(b, t, &mut table[0..n]);
+fn plan_over(file: &[u8], rows: &mut [u16], predecessors: &mut [u16], n: Lengths) -> CauseAnswer {
+    let first = n.rows;
+    if first < rows.len() {
+        return plan_front(file, &mut rows[0..first], predecessors, n.predecessors);
     }
-    why_no_room(b, t, table)
+    plan_front(file, rows, predecessors, n.predecessors)
 }
 
-// Why a file has no plan, with so many entries lent.
-pub fn plan_told(f: Bytes, entries: usize) -> Told {
+// The call from a board.
+fn room_front(
+    b: Board,
+    t: usize,
+    rows: &mut [u16],
+    predecessors: &mut [u16],
+    n: usize,
+) -> CauseAnswer {
+    if n < predecessors.len() {
+        return why_no_room(b, t, rows, &mut predecessors[0..n]);
+    }
+    why_no_room(b, t, rows, predecessors)
+}
+
+fn room_over(
+    b: Board,
+    t: usize,
+    rows: &mut [u16],
+    predecessors: &mut [u16],
+    n: Lengths,
+) -> CauseAnswer {
+    let first = n.rows;
+    if first < rows.len() {
+        return room_front(b, t, &mut rows[0..first], predecessors, n.predecessors);
+    }
+    room_front(b, t, rows, predecessors, n.predecessors)
+}
+
+// Why a file has no plan, with so many entries of each part lent.
+pub fn plan_told(f: Bytes, n: Lengths) -> Told {
     let bytes = f.bytes;
-    let mut table = dirty_table();
-    let answer = plan_over(first_of(&bytes, f.size), &mut table, entries);
-    told_as(answer, table_number(table))
+    let table = dirty_table();
+    let mut rows = table.rows;
+    let mut predecessors = table.predecessors;
+    let answer = plan_over(first_of(&bytes, f.size), &mut rows, &mut predecessors, n);
+    told_as(answer, table_number(rows, predecessors))
 }
 
 // Why a board has no room for a newcomer.
-pub fn room_told(g: Bytes, t: usize, entries: usize) -> Told {
+pub fn room_told(g: Bytes, t: usize, n: Lengths) -> Told {
     let bytes = g.bytes;
     let b = board_in(first_of(&bytes, g.size));
-    let mut table = dirty_table();
-    let answer = room_over(b, t, &mut table, entries);
-    told_as(answer, table_number(table))
+    let table = dirty_table();
+    let mut rows = table.rows;
+    let mut predecessors = table.predecessors;
+    let answer = room_over(b, t, &mut rows, &mut predecessors, n);
+    told_as(answer, table_number(rows, predecessors))
 }
 
-// A plan, an admit and a seat where a first part of a table is lent.
-fn planned_over(file: &[u8], table: &mut [u16], n: usize) -> Plan {
-    if n < table.len() {
-        return plan_of(file, &mut table[0..n]);
+// A plan, an admit and a seat where first entries of both parts are lent.
+fn planned_front(file: &[u8], rows: &mut [u16], predecessors: &mut [u16], n: usize) -> Plan {
+    if n < predecessors.len() {
+        return plan_of(file, rows, &mut predecessors[0..n]);
     }
-    plan_of(file, table)
+    plan_of(file, rows, predecessors)
 }
 
-fn admitted_over(b: Board, t: usize, table: &mut [u16], n: usize) -> Turn {
-    if n < table.len() {
-        return admit(b, t, &mut table[0..n]);
+fn planned_over(file: &[u8], rows: &mut [u16], predecessors: &mut [u16], n: Lengths) -> Plan {
+    let first = n.rows;
+    if first < rows.len() {
+        return planned_front(file, &mut rows[0..first], predecessors, n.predecessors);
     }
-    admit(b, t, table)
+    planned_front(file, rows, predecessors, n.predecessors)
 }
 
-fn seated_over(b: Board, t: usize, table: &mut [u16], n: usize) -> Turn {
-    if n < table.len() {
-        return seat(b, t, &mut table[0..n]);
+fn admitted_front(
+    b: Board,
+    t: usize,
+    rows: &mut [u16],
+    predecessors: &mut [u16],
+    n: usize,
+) -> Turn {
+    if n < predecessors.len() {
+        return admit(b, t, rows, &mut predecessors[0..n]);
     }
-    seat(b, t, table)
+    admit(b, t, rows, predecessors)
+}
+
+fn admitted_over(
+    b: Board,
+    t: usize,
+    rows: &mut [u16],
+    predecessors: &mut [u16],
+    n: Lengths,
+) -> Turn {
+    let first = n.rows;
+    if first < rows.len() {
+        return admitted_front(b, t, &mut rows[0..first], predecessors, n.predecessors);
+    }
+    admitted_front(b, t, rows, predecessors, n.predecessors)
+}
+
+fn seated_front(b: Board, t: usize, rows: &mut [u16], predecessors: &mut [u16], n: usize) -> Turn {
+    if n < predecessors.len() {
+        return seat(b, t, rows, &mut predecessors[0..n]);
+    }
+    seat(b, t, rows, predecessors)
+}
+
+fn seated_over(b: Board, t: usize, rows: &mut [u16], predecessors: &mut [u16], n: Lengths) -> Turn {
+    let first = n.rows;
+    if first < rows.len() {
+        return seated_front(b, t, &mut rows[0..first], predecessors, n.predecessors);
+    }
+    seated_front(b, t, rows, predecessors, n.predecessors)
 }
 
 // What they answer.
-pub fn planned(f: Bytes, entries: usize) -> usize {
+pub fn planned(f: Bytes, n: Lengths) -> usize {
     let bytes = f.bytes;
-    let mut table = dirty_table();
-    let plan = planned_over(first_of(&bytes, f.size), &mut table, entries);
+    let table = dirty_table();
+    let mut rows = table.rows;
+    let mut predecessors = table.predecessors;
+    let plan = planned_over(first_of(&bytes, f.size), &mut rows, &mut predecessors, n);
     let answer = plan.answer;
     code_of(answer)
 }
 
-pub fn admitted(g: Bytes, t: usize, entries: usize) -> usize {
+pub fn admitted(g: Bytes, t: usize, n: Lengths) -> usize {
     let bytes = g.bytes;
     let b = board_in(first_of(&bytes, g.size));
-    let mut table = dirty_table();
-    let turn = admitted_over(b, t, &mut table, entries);
+    let table = dirty_table();
+    let mut rows = table.rows;
+    let mut predecessors = table.predecessors;
+    let turn = admitted_over(b, t, &mut rows, &mut predecessors, n);
     let answer = turn.answer;
     code_of(answer)
 }
 
-pub fn seated(g: Bytes, t: usize, entries: usize) -> usize {
+pub fn seated(g: Bytes, t: usize, n: Lengths) -> usize {
     let bytes = g.bytes;
     let b = board_in(first_of(&bytes, g.size));
-    let mut table = dirty_table();
-    let turn = seated_over(b, t, &mut table, entries);
+    let table = dirty_table();
+    let mut rows = table.rows;
+    let mut predecessors = table.predecessors;
+    let turn = seated_over(b, t, &mut rows, &mut predecessors, n);
     let answer = turn.answer;
     code_of(answer)
 }

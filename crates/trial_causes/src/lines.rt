@@ -30,15 +30,17 @@ fn say_told(a: Told) {
 
 fn say_file(c: Case) {
     let given = c.given;
-    say_told(calls::plan_told(given, c.entries));
-    say_also(calls::planned(given, c.entries));
+    let lent = c.lent;
+    say_told(calls::plan_told(given, lent));
+    say_also(calls::planned(given, lent));
 }
 
 fn say_board(c: Case) {
     let given = c.given;
-    say_told(calls::room_told(given, c.newcomer, c.entries));
-    say_also(calls::admitted(given, c.newcomer, c.entries));
-    say_also(calls::seated(given, c.newcomer, c.entries));
+    let lent = c.lent;
+    say_told(calls::room_told(given, c.newcomer, lent));
+    say_also(calls::admitted(given, c.newcomer, lent));
+    say_also(calls::seated(given, c.newcomer, lent));
 }
 
 fn say_case(name: &[u8], c: Case) {

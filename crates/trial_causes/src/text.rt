@@ -1,4 +1,5 @@
 // The cases as they stand in the text, a word for each part.
+use crate::calls::Lengths;
 use trial::words::Bytes;
 use trial::words::after;
 use trial::words::byte_of;
@@ -9,13 +10,13 @@ use trial::words::word_end;
 // The bytes of the text that are read at most.
 pub const TEXT_BYTES: usize = 131072;
 
-// A case: where its name ends, whether it is a board, its bytes, the newcomer's type, how many entries are lent, and where the next case starts.
+// A case: where its name ends, whether it is a board, its bytes, the newcomer's type, how many entries of each part are lent, and where the next case starts.
 pub struct Case {
     pub named: usize,
     pub board: bool,
     pub given: Bytes,
     pub newcomer: usize,
-    pub entries: usize,
+    pub lent: Lengths,
     pub next: usize,
 }
 
@@ -25,13 +26,17 @@ pub fn case_at(text: &[u8], start: usize) -> Case {
     let kind = word_end(text, after(named));
     let stated = word_end(text, after(kind));
     let typed = word_end(text, after(stated));
-    let ended = word_end(text, after(typed));
+    let lent = word_end(text, after(typed));
+    let ended = word_end(text, after(lent));
     Case {
         named,
         board: byte_of(text, after(named)) == b'b',
         given: bytes_in(text, after(kind), stated),
         newcomer: number_in(text, after(stated), typed),
-        entries: number_in(text, after(typed), ended),
+        lent: Lengths {
+            rows: number_in(text, after(typed), lent),
+            predecessors: number_in(text, after(lent), ended),
+        },
         next: after(ended),
     }
 }

@@ -32,8 +32,8 @@ fn with_limits(y: System, ceiling: u16) -> System {
 // Every number at its limit, so that most damage passes one.
 fn at_limits() -> System {
     with_limits(
-        with_limits(systems::platform_of(16, 1, 1000000, 1000000), 31),
-        31,
+        with_limits(systems::platform_of(16, 1, 1000000, 1000000), 63),
+        63,
     )
 }
 

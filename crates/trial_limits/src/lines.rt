@@ -1,12 +1,14 @@
-// The cases as they stand in the text, each with a kind, a file, a number of rows, how many entries of a table are lent, and a text to the line's end:
+// The cases as they stand in the text, each with a kind, a file, how many entries of the row part and of the predecessor part are lent, and a text to the
+// line's end:
 // - o: a file at a limit or one past it, of m and rule, U and S, u, s and d, n and the columns, q; the text is its name;
 // - p: a plan by value and into a list, and filling alone, of systems at the limits, then of those that d alone decides, and q alone;
-// - c: a list of calls, the text, over rows for so many engines in service. First one engine that has nothing, and a type that costs nothing; then
-//   sixteen engines that take one instance each, a type 1,023 times, and six types, each admitted until a newcomer finds an engine only by a seat;
+// - c: a list of calls, the text. First one engine that has nothing, and a type that costs nothing; then
+//   sixteen engines that take one instance each, a type 1,023 and 4,095 times, and six types, each admitted until a newcomer finds an engine only by a seat;
 //   the same where d fills the memory, and where only a q fills the board. Last engines out of service: the only one, with and without an instance,
-//   while the table holds row 0 alone; sixteen withdrawn one by one from the first on and put back from the last on; the last in service, which takes
+//   while column 0 alone has a row; sixteen withdrawn one by one from the first on and put back from the last on; the last in service, which takes
 //   what it can before another is put back; the first, one between and the last of sixteen; and an instance that costs nothing and keeps its engine.
 use crate::calls;
+use crate::lent::Lengths;
 use crate::openings;
 use crate::plans;
 use trial::files::first_of;
@@ -26,8 +28,7 @@ pub const TEXT_BYTES: usize = 32768;
 struct Case {
     kind: u8,
     file: Bytes,
-    rows: usize,
-    lent: usize,
+    lent: Lengths,
     start: usize,
     end: usize,
     next: usize,
@@ -37,15 +38,17 @@ struct Case {
 fn case_at(text: &[u8], at: usize) -> Case {
     let kind = word_end(text, at);
     let filed = word_end(text, after(kind));
-    let rowed = word_end(text, after(filed));
-    let lent = word_end(text, after(rowed));
-    let ended = line_end(text, after(lent));
+    let rows = word_end(text, after(filed));
+    let predecessors = word_end(text, after(rows));
+    let ended = line_end(text, after(predecessors));
     Case {
         kind: byte_of(text, at),
         file: bytes_in(text, after(kind), filed),
-        rows: number_in(text, after(filed), rowed),
-        lent: number_in(text, after(rowed), lent),
-        start: after(lent),
+        lent: Lengths {
+            rows: number_in(text, after(filed), rows),
+            predecessors: number_in(text, after(rows), predecessors),
+        },
+        start: after(predecessors),
         end: ended,
         next: after(ended),
     }
@@ -56,10 +59,11 @@ fn say_case(text: &[u8], c: Case) {
     let bytes = given.bytes;
     let file = first_of(&bytes, given.size);
     let kind = c.kind;
+    let lent = c.lent;
     match kind {
         b'o' => openings::say_opening(text, file),
-        b'p' => plans::say_ways(file, c.rows, c.lent),
-        _ => calls::say_rows(file, c.rows, c.lent, text),
+        b'p' => plans::say_ways(file, lent),
+        _ => calls::say_script(file, lent, text),
     }
 }
 

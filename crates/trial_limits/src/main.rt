@@ -1,9 +1,10 @@
-// The limits, both ends of each, through every call: m 1 and 16, k 1 and 6, n 0 and 1,023, 1 and 1,024 columns, numbers 0 and 1,000,000,
+// The limits, both ends of each, through every call: m 1 and 16, k 1 and 6, n 0 and 4,095, 1 and 4,096 columns, numbers 0 and 1,000,000,
 // those of d among them, q 1 and 65,535; types and engines 0, the last, one past it and the largest number there is; one engine and all of
-// them out of service; tables that are just long enough, an entry too short, and of 20,000 entries. A case on each line of standard input,
-// so that a case more costs no proof. First files at the limits and one past them: what opening, planning and filling answer. Then plans,
-// with what each engine gets, and lists of calls, with each answer and what an engine holds after it; a line at the end of each has the last
-// cell of the table, and whether every entry past it is as it was lent. What is expected was computed apart from the code.
+// them out of service; two parts that are just long enough, of which either is an entry too short, or both, and of 5,000 entries. A case on
+// each line of standard input, so that a case more costs no proof. First files at the limits and one past them: what opening, planning and
+// filling answer, and how many entries each part must have. Then plans, with what each engine gets, and lists of calls, with each answer and what an engine holds after it; a line at
+// the end of each has what both parts hold at the last column, and whether every entry past it, or every entry, is as it was lent. What is
+// expected was computed apart from the code.
 use libc::STDIN_FILENO;
 
 mod calls;

@@ -1,7 +1,8 @@
-// Listings, whole, as they are written: document 01's worked one; a file for each refusal that a file can come to, and a table that is
-// too short; files of the greatest length, with 1,024 columns and all 16 engines; files with bytes past a good one, up to and past the 256 that
+// Listings, whole, as they are written: document 01's worked one; a file for each refusal that a file can come to, and tables of which one
+// part is too short, or both; files of the greatest length, with 1,024 and with 4,096 columns and all 16 engines; files with bytes past a good one, up to and past the 256 that
 // program `plan` reads; and every refusal number through the listing of a refused plan. What is expected was computed apart from the code.
 use brute::recovery;
+use brute::search;
 use listing::listing;
 use listing::listing_of;
 use listing::write_listing;
@@ -50,16 +51,53 @@ fn say_changed(name: &[u8], at: usize, byte: u8) {
     say_part(name, &bytes, f.size);
 }
 
-// The listing over a table of 35 entries: one short for system A, of which rows 0 to 2 need 36.
-fn say_short(name: &[u8], y: System) {
-    let f = files::file_of(y);
+// A part after a listing: its first entry, which is that of column 0, and its last one.
+fn say_ends(name: &[u8], part: &[u16]) {
+    let size = part.len();
+    say::say(name);
+    if 0 < size {
+        say::say_also(search::wide(part[0]));
+        say::say_also(search::wide(part[size - 1]));
+    }
+}
+
+// The listing of system A over two lent parts, and what it leaves in them.
+fn say_lent(name: &[u8], rows: &mut [u16], predecessors: &mut [u16]) {
+    let f = files::file_of(systems::system_a(2));
     let bytes = f.bytes;
-    let mut table: [u16; 35] = [7; 35];
     let mut out = io::buffer();
-    let written = listing(files::first_of(&bytes, f.size), &mut table, &mut out);
+    let written = listing(
+        files::first_of(&bytes, f.size),
+        rows,
+        predecessors,
+        &mut out,
+    );
     say::say(name);
     say::say(b"\n");
     say::say(&out[..written]);
+    say_ends(b"rows", &rows[..]);
+    say_ends(b", predecessors", &predecessors[..]);
+    say::say(b"\n");
+}
+
+// System A has 12 columns: either part an entry short, or both, whatever the other has; none at all; and just enough.
+fn say_parts() {
+    let mut short = [7u16; 11];
+    let mut other = [7u16; 11];
+    let mut just = [7u16; 12];
+    let mut same = [7u16; 12];
+    let mut long = [7u16; 36];
+    let mut none = [0u16; 0];
+    say_lent(b"rows short", &mut short, &mut just);
+    say_lent(b"predecessors short", &mut just, &mut short);
+    say_lent(b"both short", &mut short, &mut other);
+    say_lent(b"rows short, predecessors long", &mut short, &mut long);
+    say_lent(b"predecessors short, rows long", &mut long, &mut short);
+    say_lent(b"no rows", &mut none, &mut long);
+    say_lent(b"no predecessors", &mut long, &mut none);
+    say_lent(b"just enough", &mut just, &mut same);
+    say_lent(b"rows long", &mut long, &mut just);
+    say_lent(b"predecessors long", &mut just, &mut long);
 }
 
 // The listing of a plan that was refused.
@@ -105,13 +143,13 @@ fn say_refusals() {
     say_system(b"q 0", systems::with_most(systems::system_a(3), 0));
     say_file(b"empty", a, 0);
     say_file(b"no type", a, 13);
-    say_system(b"n 1024", systems::single(1, 0, 0, 0, 1024));
+    say_system(b"n 4096", systems::single(1, 0, 0, 0, 4096));
     say_system(b"no good assignment", systems::system_b(3, 0));
     say_system(
         b"no good assignment that keeps q",
         systems::with_most(systems::system_b(3, 1), 1),
     );
-    say_short(b"a short table", systems::system_a(2));
+    say_parts();
 }
 
 // The longest file, and the same byte after it.
@@ -174,6 +212,17 @@ fn say_mosts() {
     );
 }
 
+// One more column than there might be before request 2026-10, and as many as there may be.
+fn say_widest() {
+    say_system(b"n 1024, m 1", systems::single(1, 0, 0, 0, 1024));
+    say_system(b"n 4095, m 16", systems::single(16, 0, 1000000, 3906, 4095));
+    say_system(b"n 4095, m 1", systems::single(1, 1, 1000000, 0, 4095));
+    say_system(
+        b"n 4095, too many",
+        systems::single(16, 0, 1000000, 3922, 4095),
+    );
+}
+
 fn main() {
     say_system(b"system A", systems::system_a(3));
     say_refusals();
@@ -201,6 +250,7 @@ fn main() {
         b"n 1023, too many",
         systems::single(16, 1, 1000000, 1000000, 1023),
     );
+    say_widest();
     say_lengths();
     say::say(b"refused plans\n");
     say_numbers();

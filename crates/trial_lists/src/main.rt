@@ -3,10 +3,12 @@
 ghost use mathlib.Core.Path.{_≡_};
 ghost use Prim.Native.Nat.{_≤_};
 ghost use lib.ListN.{length};
+use brute::recovery;
 use brute::search;
 use loads::EngineLoad;
 use planner::EngineRecord;
 use planner::plan_into;
+use std::num::wrapping_add_usize;
 use system::Answer;
 use system::System;
 use system::TYPE_LIMIT;
@@ -17,6 +19,15 @@ use trial::systems;
 // The most records that are lent: one more than any system has engines.
 const MOST: usize = 17;
 
+// The entries of the longest part: as many as any system needs.
+const LONG: usize = 4096;
+
+// What every entry of a part holds before it is lent.
+const OLD: u16 = 7;
+
+// How many entries of each part are lent.
+struct Lengths(usize, usize);
+
 // What a plan into a list answers, with the list.
 struct Front {
     answer: Answer,
@@ -24,12 +35,18 @@ struct Front {
 }
 
 // A plan into the first `room` records of a list.
-fn plan_front(file: &[u8], table: &mut [u16], list: [EngineRecord; MOST], room: usize) -> Front
+fn plan_front(
+    file: &[u8],
+    rows: &mut [u16],
+    predecessors: &mut [u16],
+    list: [EngineRecord; MOST],
+    room: usize,
+) -> Front
     requires { ⌜ room ≤ 17 ⌝ }
     ensures { λ r. ⌜ length (r .list) ≡ 17 ⌝ }
 {
     let mut records = list;
-    let answer = plan_into(file, table, &mut records[..room]);
+    let answer = plan_into(file, rows, predecessors, &mut records[..room]);
     Front {
         answer: answer,
         list: records,
@@ -57,39 +74,90 @@ fn say_records(list: [EngineRecord; MOST]) {
 }
 
 // A plan into the first `room` records: its answer, and all records of the list after it.
-fn say_planned(file: &[u8], table: &mut [u16], room: usize) {
+fn say_planned(file: &[u8], rows: &mut [u16], predecessors: &mut [u16], room: usize) {
     if MOST < room {
         return;
     }
-    let planned = plan_front(file, table, old_list(), room);
+    let planned = plan_front(file, rows, predecessors, old_list(), room);
     let answer = planned.answer;
     let list = planned.list;
     say::say_answer(answer);
     say_records(list);
 }
 
-// A line for a plan over the first entries of a table: the records that are lent, and what entry 0 holds after it, 7 before and 0 where it is filled.
-fn say_list(y: System, lent: usize, room: usize) {
+// The same over the first entries of the predecessor part.
+fn say_front(file: &[u8], rows: &mut [u16], predecessors: &mut [u16], lent: usize, room: usize) {
+    if lent < predecessors.len() {
+        say_planned(file, rows, &mut predecessors[0..lent], room);
+    } else {
+        say_planned(file, rows, predecessors, room);
+    }
+}
+
+// The entries of a part from `start` on are as they were before.
+fn kept_from(part: &[u16; LONG], start: usize) -> bool {
+    let mut kept = true;
+    for i in 0..LONG {
+        if start <= i {
+            kept = kept & (part[i] == OLD);
+        }
+    }
+    kept
+}
+
+// What entry 0 of each part holds, 0 and 65,535 where they are filled, and whether the entries past the columns, or all of them, are as they were.
+fn say_table(y: System, rows: &[u16; LONG], predecessors: &[u16; LONG]) {
+    let columns = recovery::columns_of(y);
+    say::say(b", table");
+    say::say_also(search::wide(rows[0]));
+    say::say_also(search::wide(predecessors[0]));
+    if kept_from(rows, 0) & kept_from(predecessors, 0) {
+        say::say(b", all kept\n");
+    } else if kept_from(rows, columns) & kept_from(predecessors, columns) {
+        say::say(b", kept past it\n");
+    } else {
+        say::say(b", changed past it\n");
+    }
+}
+
+// A line for a plan over the first entries of two parts: the records that are lent, the answer, all records after it, and the table.
+fn say_list(y: System, lent: Lengths, room: usize) {
     let f = files::file_of(y);
     let bytes = f.bytes;
-    let mut table: [u16; 17408] = [7; 17408];
+    let file = files::first_of(&bytes, f.size);
+    let mut rows: [u16; LONG] = [OLD; LONG];
+    let mut predecessors: [u16; LONG] = [OLD; LONG];
     say::say_number(room);
-    if lent < 17408 {
-        say_planned(files::first_of(&bytes, f.size), &mut table[0..lent], room);
+    let first = lent.0;
+    if first < LONG {
+        say_front(file, &mut rows[0..first], &mut predecessors, lent.1, room);
     } else {
-        say_planned(files::first_of(&bytes, f.size), &mut table, room);
+        say_front(file, &mut rows, &mut predecessors, lent.1, room);
     }
-    say::say(b", table");
-    say::say_also(search::wide(table[0]));
-    say::say(b"\n");
+    say_table(y, &rows, &predecessors);
 }
 
 // Every length.
 fn say_lengths(y: System) {
     say::say_system(b"system", y);
     for room in 0..18 {
-        say_list(y, 17408, room);
+        say_list(y, Lengths(LONG, LONG), room);
     }
+}
+
+// Parts that are just long enough for so many columns.
+fn say_just(y: System, columns: usize, room: usize) {
+    say_list(y, Lengths(columns, columns), room);
+}
+
+// Parts of which either has an entry less, or both.
+fn say_short(y: System, less: usize, room: usize) {
+    let columns = wrapping_add_usize(less, 1);
+    say_list(y, Lengths(less, columns), room);
+    say_list(y, Lengths(columns, less), room);
+    say_list(y, Lengths(less, less), room);
+    say_list(y, Lengths(less, LONG), room);
+    say_list(y, Lengths(LONG, less), room);
 }
 
 // One type of which an engine takes one.
@@ -104,14 +172,14 @@ fn apart(engines: usize, n: u16, q: u16) -> System {
 
 // What the file is refused with comes before 11, 15 and 12, and what q leaves no room for is 12.
 fn say_apart() {
-    say_list(apart(16, 17, 0), 0, 0);
-    say_list(apart(16, 17, 1), 305, 15);
-    say_list(apart(16, 17, 1), 306, 15);
-    say_list(apart(16, 17, 1), 306, 16);
-    say_list(apart(16, 16, 1), 289, 15);
-    say_list(apart(16, 16, 1), 289, 16);
-    say_list(apart(16, 17, 2), 306, 16);
-    say_list(apart(16, 17, 65535), 306, 16);
+    say_just(apart(16, 17, 0), 0, 0);
+    say_short(apart(16, 17, 1), 17, 15);
+    say_just(apart(16, 17, 1), 18, 15);
+    say_just(apart(16, 17, 1), 18, 16);
+    say_just(apart(16, 16, 1), 17, 15);
+    say_just(apart(16, 16, 1), 17, 16);
+    say_just(apart(16, 17, 2), 18, 16);
+    say_just(apart(16, 17, 65535), 18, 16);
 }
 
 fn main() {
@@ -120,12 +188,12 @@ fn main() {
     say_lengths(systems::system_a(16));
     say_lengths(systems::system_longest(1));
     say::say(b"the order of 5, 31, 11, 15 and 12\n");
-    say_list(one_each(17, 17), 0, 0);
-    say_list(one_each(16, 17), 305, 15);
-    say_list(one_each(16, 17), 306, 15);
-    say_list(one_each(16, 17), 306, 16);
-    say_list(one_each(16, 16), 288, 15);
-    say_list(one_each(16, 16), 289, 15);
-    say_list(one_each(16, 16), 289, 16);
+    say_just(one_each(17, 17), 0, 0);
+    say_short(one_each(16, 17), 17, 15);
+    say_just(one_each(16, 17), 18, 15);
+    say_just(one_each(16, 17), 18, 16);
+    say_short(one_each(16, 16), 16, 15);
+    say_just(one_each(16, 16), 17, 15);
+    say_just(one_each(16, 16), 17, 16);
     say_apart();
 }

@@ -1,7 +1,9 @@
-// A file with a byte changed and cut to a size: refused 1 to 10 and 31, without a number, whether the table is long enough or not. As it is,
-// it is accepted with its number, and refused 11 over no table.
+// A file with a byte changed and cut to a size: refused 1 to 10 and 31, without a number, whether the parts are long enough or not. As it is,
+// it is accepted with its number, and refused 11 where one part has no entry, or none has.
 use crate::fills::LONG;
-use crate::fills::answer_over;
+use crate::fills::Lengths;
+use crate::fills::filled_over;
+use crate::fills::parts_after;
 use system::Most;
 use trial::files;
 use trial::say;
@@ -43,11 +45,18 @@ fn seven_types() -> [u8; 256] {
     bytes
 }
 
-// The answers over a long table, and over none.
+fn say_answer(file: &[u8], rows: usize, predecessors: usize) {
+    let f = filled_over(file, parts_after(b"", 7), Lengths(rows, predecessors));
+    say::say_also(f.code);
+}
+
+// The answers over two long parts, over one of them and none of the other, and over none.
 fn say_answers(bytes: &[u8; 256], size: usize) {
     let file = files::first_of(bytes, size);
-    say::say_also(answer_over(file, b"", 7, LONG));
-    say::say_also(answer_over(file, b"", 7, 0));
+    say_answer(file, LONG, LONG);
+    say_answer(file, 0, LONG);
+    say_answer(file, LONG, 0);
+    say_answer(file, 0, 0);
 }
 
 fn say_change(c: Change) {
@@ -59,7 +68,7 @@ fn say_change(c: Change) {
     say_answers(&bytes, c.2);
 }
 
-// A line of both answers for each change.
+// A line of all answers for each change.
 pub fn say_changes() {
     say::say(b"changed:");
     let changes = CHANGES;

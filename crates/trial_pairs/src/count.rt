@@ -1,5 +1,5 @@
-// The pairs that a fill tries, counted one by one, as request 2026-05 says them: for each row from 1 and each column, the columns with no
-// greater count, from the lowest up to the one accepted or to the last. Rows and cells are document 01's, from its definition alone.
+// The pairs that a fill tries, counted one by one, as requests 2026-05 and 2026-10 say them: for each row from 1 and each column without a row yet, the
+// columns with no greater count, from the lowest up to the one accepted or to the last. Rows and predecessors are document 01's, from its definition alone.
 ghost use Prim.Native.Nat.{_≤_, _<_};
 use brute::recovery;
 use brute::search;
@@ -11,10 +11,10 @@ use system::NO_COLUMN;
 use system::System;
 use system::TYPE_LIMIT;
 
-// The columns of a row, at most, and the counts of their loads.
-const WIDEST: usize = 1024;
+// The columns of a system, at most, and the counts of their loads.
+pub const WIDEST: usize = 4096;
 
-const COUNTS: usize = 6144;
+const COUNTS: usize = 24576;
 
 // The loads of the columns: what column c has of the type at index t is at 6 × c + t.
 struct Loads {
@@ -28,14 +28,23 @@ struct Cell {
     tried: usize,
 }
 
-// The cells of a row, and the pairs tried for it and for the rows before it.
-struct Row {
-    cells: [u16; WIDEST],
+// What both parts hold when some rows are filled, and the pairs tried for these rows.
+struct Filled {
+    rows: [u16; WIDEST],
+    predecessors: [u16; WIDEST],
     tried: usize,
 }
 
+// What both parts hold below the columns when all rows are filled, and the pairs tried for them.
+pub struct Parts {
+    pub columns: usize,
+    pub rows: [u16; WIDEST],
+    pub predecessors: [u16; WIDEST],
+    pub tried: usize,
+}
+
 fn put_load(counts: &mut [u16; COUNTS], c: usize, load: [u16; TYPE_LIMIT])
-    requires { ⌜ c < 1024 ⌝ }
+    requires { ⌜ c < 4096 ⌝ }
 {
     for t in 0..TYPE_LIMIT {
         counts[c * 6 + t] = load[t];
@@ -44,7 +53,7 @@ fn put_load(counts: &mut [u16; COUNTS], c: usize, load: [u16; TYPE_LIMIT])
 
 // The loads within the ceilings, counted through, the count of type 1 moving fastest.
 fn loads_of(y: System) -> Loads
-    ensures { λ r. ⌜ r .columns ≤ 1024 ⌝ }
+    ensures { λ r. ⌜ r .columns ≤ 4096 ⌝ }
 {
     let bases = recovery::bases_of(search::digits_of(recovery::ceilings_of(y)));
     let mut counts: [u16; COUNTS] = [0; COUNTS];
@@ -69,14 +78,14 @@ fn loads_of(y: System) -> Loads
 
 // What column c has of the type at index t.
 fn count_at(loads: &[u16; COUNTS], c: usize, t: usize) -> u16
-    requires { ⌜ (c < 1024) × (t < 6) ⌝ }
+    requires { ⌜ (c < 4096) × (t < 6) ⌝ }
 {
     loads[c * 6 + t]
 }
 
 // Column p has no count above that of column c.
 fn no_greater(loads: &[u16; COUNTS], p: usize, c: usize) -> bool
-    requires { ⌜ (p < 1024) × (c < 1024) ⌝ }
+    requires { ⌜ (p < 4096) × (c < 4096) ⌝ }
 {
     for t in 0..TYPE_LIMIT {
         if count_at(loads, c, t) < count_at(loads, p, t) {
@@ -109,7 +118,7 @@ fn keeps(most: Most, count: u16) -> bool {
 
 // What column c has more than column p fits an engine.
 fn difference_fits(y: System, loads: &[u16; COUNTS], p: usize, c: usize) -> bool
-    requires { ⌜ (p < 1024) × (c < 1024) ⌝ }
+    requires { ⌜ (p < 4096) × (c < 4096) ⌝ }
 {
     let types = y.types;
     let mut time: u64 = 0;
@@ -128,21 +137,17 @@ fn difference_fits(y: System, loads: &[u16; COUNTS], p: usize, c: usize) -> bool
     (time <= y.timecap as u64) & (memory <= y.memorycap as u64)
 }
 
-// The cell of column c over the row before: the lowest column with no greater count at which that row says yes, and that differs by what fits.
-fn cell_at(
-    y: System,
-    loads: &[u16; COUNTS],
-    columns: usize,
-    before: &[u16; WIDEST],
-    c: usize,
-) -> Cell
-    requires { ⌜ (columns ≤ 1024) × (c < 1024) ⌝ }
+// The cell of column c in a row: the lowest column with no greater count that has an earlier row, and that differs by what fits. A later column than
+// c has a greater count.
+fn cell_at(y: System, loads: &[u16; COUNTS], rows: &[u16; WIDEST], row: u16, c: usize) -> Cell
+    requires { ⌜ c < 4096 ⌝ }
 {
     let mut tried: usize = 0;
-    for p in 0..columns {
+    let end = c + 1;
+    for p in 0..end {
         if no_greater(loads, p, c) {
             tried = wrapping_add_usize(tried, 1);
-            if (before[p] != NO_COLUMN) && difference_fits(y, loads, p, c) {
+            if (rows[p] < row) && difference_fits(y, loads, p, c) {
                 return Cell {
                     holds: p as u16,
                     tried,
@@ -156,32 +161,59 @@ fn cell_at(
     }
 }
 
-fn row_after(y: System, loads: &[u16; COUNTS], columns: usize, row: Row) -> Row
-    requires { ⌜ columns ≤ 1024 ⌝ }
+// Both parts when one row more is filled: each column without an earlier row is tried, and has this row where a column is accepted.
+fn with_row(y: System, loads: &[u16; COUNTS], columns: usize, filled: Filled, row: u16) -> Filled
+    requires { ⌜ columns ≤ 4096 ⌝ }
 {
-    let before = row.cells;
-    let mut cells: [u16; WIDEST] = [NO_COLUMN; WIDEST];
-    let mut tried = row.tried;
+    let before = filled.rows;
+    let mut rows = filled.rows;
+    let mut predecessors = filled.predecessors;
+    let mut tried = filled.tried;
     for c in 0..columns {
-        let cell = cell_at(y, loads, columns, &before, c);
-        cells[c] = cell.holds;
-        tried = wrapping_add_usize(tried, cell.tried);
+        if row <= before[c] {
+            let cell = cell_at(y, loads, &before, row, c);
+            tried = wrapping_add_usize(tried, cell.tried);
+            if cell.holds != NO_COLUMN {
+                rows[c] = row;
+                predecessors[c] = cell.holds;
+            }
+        }
     }
-    Row { cells, tried }
+    Filled {
+        rows,
+        predecessors,
+        tried,
+    }
 }
 
-// The pairs of rows 1 to m. Row 0 says yes at column 0 alone, and nothing is tried for it.
-pub fn pairs_of(y: System) -> usize {
+// The row after i others, as an entry holds it; the one after row m stands for none.
+fn row_after(i: usize) -> u16 {
+    (i % 65535) as u16 + 1
+}
+
+// Both parts for rows 1 to m, and the pairs. Row 0 says yes at column 0 alone, and nothing is tried for it.
+pub fn parts_of(y: System) -> Parts {
     let l = loads_of(y);
     let counts = l.counts;
-    let mut cells: [u16; WIDEST] = [NO_COLUMN; WIDEST];
-    cells[0] = 0;
-    let mut row = Row { cells, tried: 0 };
+    let mut rows: [u16; WIDEST] = [row_after(y.engines); WIDEST];
+    rows[0] = 0;
+    let mut filled = Filled {
+        rows,
+        predecessors: [NO_COLUMN; WIDEST],
+        tried: 0,
+    };
     for i in 0..y.engines {
-        let next = row_after(y, &counts, l.columns, row);
-        row = next;
+        let next = with_row(y, &counts, l.columns, filled, row_after(i));
+        filled = next;
     }
-    row.tried
+    let held = filled.rows;
+    let predecessors = filled.predecessors;
+    Parts {
+        columns: l.columns,
+        rows: held,
+        predecessors,
+        tried: filled.tried,
+    }
 }
 
 // The number below 2 to the 32nd.

@@ -6,8 +6,8 @@ use trial::say;
 use trial::spread;
 use trial::systems;
 
-// How many systems were tried; in how many every answer was right, no type fits, the pairs are the bound, and they are one for each cell; and the
-// sums of pairs and bounds.
+// How many systems were tried; in how many every answer was right, no type fits, the pairs are the bound but for column 0, and they are one for each
+// other column; and the sums of pairs and bounds.
 struct Tally {
     tried: usize,
     right: usize,
@@ -31,7 +31,7 @@ fn with_trial(t: Tally, y: System, other: System) -> Tally {
         tried: wrapping_add_usize(t.tried, 1),
         right: plus_if(t.right, r.right),
         none: plus_if(t.none, r.none),
-        met: plus_if(t.met, r.pairs == r.bound),
+        met: plus_if(t.met, r.met),
         least: plus_if(t.least, r.least),
         pairs: wrapping_add_usize(t.pairs, r.pairs),
         bound: wrapping_add_usize(t.bound, r.bound),
@@ -77,7 +77,9 @@ fn say_drawn(name: &[u8], number: usize, typecount: usize, most: usize) {
 }
 
 pub fn say_spreads() {
-    say::say(b"systems: tried, right, no type fits, at the bound, one for a cell, pairs, bound\n");
+    say::say(
+        b"systems: tried, right, no type fits, at the bound but for column 0, one for a column, pairs, bound\n",
+    );
     say_drawn(b"one type:", 400, 1, 63);
     say_drawn(b"two types:", 400, 2, 12);
     say_drawn(b"three types:", 400, 3, 5);

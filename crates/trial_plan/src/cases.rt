@@ -1,4 +1,5 @@
 // Cases that are given: document 01's W1 to W8, system B with data memory under both rules, and plans that a q alone decides. A line for each.
+use crate::right::Lengths;
 use crate::right::plan_over;
 use crate::right::trial_of;
 use brute::search;
@@ -12,7 +13,7 @@ use trial::tables;
 
 // A case that is given: the answer, then time, memory and counts of each used engine.
 fn say_case(name: &[u8], y: System) {
-    let t = trial_of(y, tables::dirty_table(), 512, 0, false);
+    let t = trial_of(y, tables::dirty_table(), Lengths(512, 512), 0, false);
     let p = t.plan;
     let a = p.answer;
     say::say(name);
@@ -27,21 +28,43 @@ fn say_case(name: &[u8], y: System) {
     say::say(b"\n");
 }
 
-// W1 and W2: the columns at which row 1 of A's table says yes, and what row 2 holds at column 11.
-fn say_cells(y: System) {
-    let f = files::file_of(y);
-    let bytes = f.bytes;
-    let mut table: [u16; 512] = [9; 512];
-    plan_over(files::first_of(&bytes, f.size), &mut table, 512);
-    say::say(b"W1");
+// The columns at which row 1 says yes.
+fn say_yes(rows: &[u16; 512]) {
     for c in 0..12 {
-        if search::wide(table[12 + c]) != 65535 {
+        if rows[c] <= 1 {
             say::say_also(c);
         }
     }
-    say::say(b"\nW2");
-    say::say_also(search::wide(table[35]));
     say::say(b"\n");
+}
+
+// The first 13 entries of a part.
+fn say_part(name: &[u8], part: &[u16; 512]) {
+    say::say(name);
+    for c in 0..13 {
+        say::say_also(search::wide(part[c]));
+    }
+    say::say(b"\n");
+}
+
+// W1 and W2: the columns at which row 1 of A's table says yes, and what row 2 holds at column 11, whose lowest yes row it is. Then both parts, and an entry
+// past them.
+fn say_cells(y: System) {
+    let f = files::file_of(y);
+    let bytes = f.bytes;
+    let mut rows: [u16; 512] = [9; 512];
+    let mut predecessors: [u16; 512] = [9; 512];
+    plan_over(
+        files::first_of(&bytes, f.size),
+        &mut rows,
+        &mut predecessors,
+        Lengths(512, 512),
+    );
+    say::say(b"W1");
+    say_yes(&rows);
+    say::say_count(b"W2", search::wide(predecessors[11]));
+    say_part(b"A, rows", &rows);
+    say_part(b"A, predecessors", &predecessors);
 }
 
 fn say_worked() {

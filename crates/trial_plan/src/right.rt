@@ -1,5 +1,5 @@
-// A plan, by value and into a list, and filling alone, over tables that are longer than they need to be, and one entry too short: whether
-// each is what the brute search says.
+// A plan, by value and into a list, and filling alone, over two parts that are longer than they need to be, just long enough, and of which one is an entry
+// too short, or both: whether each is what the brute search says.
 use brute::recovery;
 use brute::recovery::Recovery;
 use brute::search;
@@ -14,6 +14,10 @@ use system::TYPE_LIMIT;
 use trial::files;
 use trial::say;
 use trial::tables;
+use trial::tables::Lent;
+
+// How many entries of each part are lent.
+pub struct Lengths(pub usize, pub usize);
 
 // A plan, and whether the entries of its table from some place on are as they were lent.
 pub struct Trial {
@@ -22,22 +26,45 @@ pub struct Trial {
     pub cells: bool,
 }
 
-// The plan over the first n entries of a table, or all where it has fewer.
-pub fn plan_over(file: &[u8], table: &mut [u16], n: usize) -> Plan {
-    if n < table.len() {
-        return planner::plan_of(file, &mut table[0..n]);
+// The plan over the first entries of the predecessor part, or all where it has fewer.
+fn plan_front(file: &[u8], rows: &mut [u16], predecessors: &mut [u16], n: usize) -> Plan {
+    if n < predecessors.len() {
+        return planner::plan_of(file, rows, &mut predecessors[0..n]);
     }
-    planner::plan_of(file, table)
+    planner::plan_of(file, rows, predecessors)
 }
 
-// The plan of a system over a table of which n entries are lent; the entries from `start` on are to stay. With `cells` every cell is
+// The plan over the first entries of both parts, or all where they have fewer.
+pub fn plan_over(file: &[u8], rows: &mut [u16], predecessors: &mut [u16], n: Lengths) -> Plan {
+    let first = n.0;
+    if first < rows.len() {
+        return plan_front(file, &mut rows[0..first], predecessors, n.1);
+    }
+    plan_front(file, rows, predecessors, n.1)
+}
+
+// Both parts are filled as the brute search says, for all engines of the system.
+fn right_cells(y: System, table: Lent) -> bool {
+    let rows = table.rows;
+    let predecessors = table.predecessors;
+    recovery::right_parts(y, wrapping_add_usize(y.engines, 1), rows, predecessors)
+}
+
+// The plan of a system over two parts of which so many entries are lent; the entries from `start` on are to stay. With `cells` every cell is
 // compared.
-pub fn trial_of(y: System, table: [u16; 512], n: usize, start: usize, cells: bool) -> Trial {
+pub fn trial_of(y: System, table: Lent, n: Lengths, start: usize, cells: bool) -> Trial {
     let f = files::file_of(y);
     let bytes = f.bytes;
-    let mut lent = table;
-    let plan = plan_over(files::first_of(&bytes, f.size), &mut lent, n);
-    let right = !cells || recovery::right_cells(y, lent);
+    let mut rows = table.rows;
+    let mut predecessors = table.predecessors;
+    let plan = plan_over(
+        files::first_of(&bytes, f.size),
+        &mut rows,
+        &mut predecessors,
+        n,
+    );
+    let lent = Lent { rows, predecessors };
+    let right = !cells || right_cells(y, lent);
     Trial {
         plan: plan,
         clean: tables::same_from(lent, table, start),
@@ -94,9 +121,9 @@ fn refused_with(p: Plan, number: usize) -> bool {
     (say::code_of(a) == wrapping_add_usize(100, number)) & nothing
 }
 
-// The plan over a table that is too long.
-pub fn right_long(y: System, want: Recovery, entries: usize, cells: bool) -> bool {
-    let t = trial_of(y, tables::dirty_table(), 512, entries, cells);
+// The plan over parts that are long enough.
+fn right_over(y: System, want: Recovery, n: Lengths, columns: usize, cells: bool) -> bool {
+    let t = trial_of(y, tables::dirty_table(), n, columns, cells);
     let p = t.plan;
     let right = if want.feasible {
         right_plan(y, p, want)
@@ -106,14 +133,41 @@ pub fn right_long(y: System, want: Recovery, entries: usize, cells: bool) -> boo
     right & t.clean & t.cells
 }
 
-// The plan over a table with one entry too few.
-pub fn right_short(y: System, entries: usize) -> bool {
-    if entries == 0 {
-        return false;
+// The plan over parts that are longer than they need to be; with `cells`, over ones that are just long enough too, and of which either is longer.
+pub fn right_long(y: System, want: Recovery, columns: usize, cells: bool) -> bool {
+    let long = right_over(y, want, Lengths(512, 512), columns, cells);
+    if !cells {
+        return long;
     }
-    let t = trial_of(y, tables::dirty_table(), entries - 1, 0, false);
+    long
+        & right_over(y, want, Lengths(columns, columns), columns, true)
+        & right_over(y, want, Lengths(512, columns), columns, true)
+        & right_over(y, want, Lengths(columns, 512), columns, true)
+}
+
+// The plan over parts of which one is too short, or both.
+fn refused_over(y: System, n: Lengths) -> bool {
+    let t = trial_of(y, tables::dirty_table(), n, 0, false);
     let p = t.plan;
     refused_with(p, 11) & t.clean
+}
+
+// The plan over parts of which either has one entry too few; with `cells`, whatever the other has.
+pub fn right_short(y: System, columns: usize, cells: bool) -> bool {
+    if columns == 0 {
+        return false;
+    }
+    let less = columns - 1;
+    let either = refused_over(y, Lengths(less, columns)) & refused_over(y, Lengths(columns, less));
+    if !cells {
+        return either;
+    }
+    either
+        & refused_over(y, Lengths(less, less))
+        & refused_over(y, Lengths(less, 512))
+        & refused_over(y, Lengths(512, less))
+        & refused_over(y, Lengths(0, 512))
+        & refused_over(y, Lengths(512, 0))
 }
 
 // A record of the lent list before a plan.
@@ -153,14 +207,16 @@ fn right_records(list: [EngineRecord; ENGINE_LIMIT], want: Recovery) -> bool {
     right
 }
 
-// The plan into a list, over a table that is long enough.
+// The plan into a list, over parts that are long enough.
 pub fn right_list(y: System, want: Recovery) -> bool {
     let f = files::file_of(y);
     let bytes = f.bytes;
-    let mut table: [u16; 512] = [9; 512];
+    let mut rows: [u16; 512] = [9; 512];
+    let mut predecessors: [u16; 512] = [8; 512];
     let p = planner::plan_list(
         files::first_of(&bytes, f.size),
-        &mut table,
+        &mut rows,
+        &mut predecessors,
         [old_record(); ENGINE_LIMIT],
     );
     let a = p.answer;
@@ -173,27 +229,70 @@ pub fn right_list(y: System, want: Recovery) -> bool {
     (say::code_of(a) == code) & right_records(list, want)
 }
 
-// Filling alone, over a table of which n entries are lent: its answer, and every cell where it is long enough.
-fn fill_over(file: &[u8], table: &mut [u16], n: usize) -> usize {
-    if n < table.len() {
-        let short = table::fill_table(file, &mut table[0..n]);
+// Filling alone, over the first entries of both parts: its answer.
+fn fill_front(file: &[u8], rows: &mut [u16], predecessors: &mut [u16], n: usize) -> usize {
+    if n < predecessors.len() {
+        let short = table::fill_table(file, rows, &mut predecessors[0..n]);
         return say::code_of(short);
     }
-    let answer = table::fill_table(file, table);
+    let answer = table::fill_table(file, rows, predecessors);
     say::code_of(answer)
 }
 
-pub fn right_fill(y: System, table: [u16; 512], entries: usize) -> bool {
+fn fill_over(file: &[u8], rows: &mut [u16], predecessors: &mut [u16], n: Lengths) -> usize {
+    let first = n.0;
+    if first < rows.len() {
+        return fill_front(file, &mut rows[0..first], predecessors, n.1);
+    }
+    fill_front(file, rows, predecessors, n.1)
+}
+
+// What filling answers, and leaves in two dirty parts.
+struct Filled {
+    code: usize,
+    table: Lent,
+}
+
+fn fill_dirty(y: System, n: Lengths) -> Filled {
     let f = files::file_of(y);
     let bytes = f.bytes;
-    let mut long = table;
-    let mut short = table;
-    let filled = fill_over(files::first_of(&bytes, f.size), &mut long, entries);
-    let refused = fill_over(
+    let t = tables::dirty_table();
+    let mut rows = t.rows;
+    let mut predecessors = t.predecessors;
+    let code = fill_over(
         files::first_of(&bytes, f.size),
-        &mut short,
-        wrapping_sub_usize(entries, 1),
+        &mut rows,
+        &mut predecessors,
+        n,
     );
-    let cells = recovery::right_cells(y, long) & tables::same_from(long, table, entries);
-    (1000 < filled) & cells & (refused == 111) & tables::same_from(short, table, 0)
+    Filled {
+        code,
+        table: Lent { rows, predecessors },
+    }
+}
+
+// Parts that are long enough: a number, and every cell.
+fn fills(y: System, n: Lengths, columns: usize) -> bool {
+    let f = fill_dirty(y, n);
+    let t = f.table;
+    (1000 <= f.code) & right_cells(y, t) & tables::same_from(t, tables::dirty_table(), columns)
+}
+
+// Parts of which one is too short, or both: refused 11, and nothing is changed.
+fn keeps(y: System, n: Lengths) -> bool {
+    let f = fill_dirty(y, n);
+    let t = f.table;
+    (f.code == 111) & tables::same_from(t, tables::dirty_table(), 0)
+}
+
+pub fn right_fill(y: System, columns: usize) -> bool {
+    let less = wrapping_sub_usize(columns, 1);
+    let long = fills(y, Lengths(columns, columns), columns)
+        & fills(y, Lengths(512, columns), columns);
+    let short = keeps(y, Lengths(less, columns)) & keeps(y, Lengths(columns, less));
+    long
+        & short
+        & keeps(y, Lengths(less, less))
+        & keeps(y, Lengths(less, 512))
+        & keeps(y, Lengths(512, less))
 }

@@ -12,7 +12,6 @@ use trial::say;
 use trial::spread;
 use trial::spread::DrawnSystem;
 use trial::systems;
-use trial::tables;
 
 // How many systems were tried, planned, and answered wrongly.
 struct Tally {
@@ -28,9 +27,9 @@ fn one_if(b: bool) -> usize {
 // One system more.
 fn tried(t: Tally, y: System, cells: bool) -> Tally {
     let want = recovery::recovered(y, recovery::ceilings_of(y));
-    let entries = recovery::entries_of(y);
-    let fills = !cells || right_fill(y, tables::dirty_table(), entries);
-    let plans = right_long(y, want, entries, cells) & right_short(y, entries);
+    let columns = recovery::columns_of(y);
+    let fills = !cells || right_fill(y, columns);
+    let plans = right_long(y, want, columns, cells) & right_short(y, columns, cells);
     let right = fills & plans & right_list(y, want);
     if !right {
         say::say_system(b"mismatch:", y);

@@ -55,6 +55,7 @@ fn say_bytes(buffer: [u8; CASE_BYTES], size: usize) {
 fn say_own(c: Case, w: WriteCall, size: usize) {
     let buffer = w.buffer;
     let file = c.file;
+    let lent = c.lent;
     say_also(size);
     say_bytes(buffer, size);
     if !calls::kept_from(buffer, size) {
@@ -68,7 +69,7 @@ fn say_own(c: Case, w: WriteCall, size: usize) {
             bytes: buffer,
             size,
         },
-        c.entries,
+        lent,
     ));
 }
 
@@ -84,7 +85,8 @@ fn say_unwritten(w: WriteCall, number: usize) {
 
 fn say_written(c: Case) {
     let file = c.file;
-    let w = calls::written(file, c.entries, c.room);
+    let lent = c.lent;
+    let w = calls::written(file, lent, c.room);
     let answer = w.answer;
     match answer {
         Answer::Accepted => say(b" nothing"),
@@ -128,11 +130,12 @@ fn changed(s: Bytes, i: usize, more: u8) -> Bytes {
 // The sheet cut at every place, whole, and with a byte 0 more.
 fn say_cuts(c: Case) {
     let file = c.file;
+    let lent = c.lent;
     let sheet = c.sheet;
     say(b"  cut ");
     for n in 0..CASE_BYTES {
         if n <= wrapping_add_usize(sheet.size, 1) {
-            say_letter(calls::checked(file, resized(sheet, n), c.entries));
+            say_letter(calls::checked(file, resized(sheet, n), lent));
         }
     }
     say(b"\n");
@@ -141,13 +144,14 @@ fn say_cuts(c: Case) {
 // Every byte of the sheet made larger by the same number, past 255 from 0 on.
 fn say_changes(c: Case, more: u8) {
     let file = c.file;
+    let lent = c.lent;
     let sheet = c.sheet;
     say(b"  +");
     say_number(more as usize);
     say(b" ");
     for i in 0..CASE_BYTES {
         if i < sheet.size {
-            say_letter(calls::checked(file, changed(sheet, i, more), c.entries));
+            say_letter(calls::checked(file, changed(sheet, i, more), lent));
         }
     }
     say(b"\n");
@@ -169,10 +173,11 @@ fn say_all_changes(c: Case) {
 
 fn say_case(name: &[u8], c: Case) {
     let file = c.file;
+    let lent = c.lent;
     let sheet = c.sheet;
     say(name);
     say(b":");
-    say_checked(calls::checked(file, sheet, c.entries));
+    say_checked(calls::checked(file, sheet, lent));
     say(b" |");
     say_written(c);
     say(b"\n");

@@ -1,4 +1,5 @@
 // The cases as they stand in the text, a word for each part.
+use crate::calls::Lengths;
 use trial::words::Bytes;
 use trial::words::after;
 use trial::words::bytes_in;
@@ -12,7 +13,7 @@ pub const TEXT_BYTES: usize = 131072;
 pub struct Case {
     pub named: usize,
     pub file: Bytes,
-    pub entries: usize,
+    pub lent: Lengths,
     pub room: usize,
     pub sheet: Bytes,
     pub ways: usize,
@@ -23,14 +24,18 @@ pub struct Case {
 pub fn case_at(text: &[u8], start: usize) -> Case {
     let named = word_end(text, start);
     let filed = word_end(text, after(named));
-    let tabled = word_end(text, after(filed));
+    let first = word_end(text, after(filed));
+    let tabled = word_end(text, after(first));
     let roomed = word_end(text, after(tabled));
     let stated = word_end(text, after(roomed));
     let ended = word_end(text, after(stated));
     Case {
         named,
         file: bytes_in(text, after(named), filed),
-        entries: number_in(text, after(filed), tabled),
+        lent: Lengths {
+            rows: number_in(text, after(filed), first),
+            predecessors: number_in(text, after(first), tabled),
+        },
         room: number_in(text, after(tabled), roomed),
         sheet: bytes_in(text, after(roomed), stated),
         ways: number_in(text, after(stated), ended),

@@ -2,6 +2,7 @@
 use board::Board;
 use board::Turn;
 use brute::recovery;
+use system::COLUMN_LIMIT;
 use trial::say;
 use trial::systems;
 
@@ -24,11 +25,12 @@ fn refuses(t: Turn, b: Board) -> bool {
     (say::code_of(a) == 220) & same_board(after, b)
 }
 
-// The table as it was lent: all 9.
-fn untouched(table: [u16; 512]) -> bool {
+// The table as it was lent: all 9 in the one part, all 8 in the other.
+fn untouched(rows: [u16; COLUMN_LIMIT], predecessors: [u16; COLUMN_LIMIT]) -> bool {
     let mut same = true;
-    for i in 0..512 {
-        same = same & (table[i] == 9);
+    for i in 0..COLUMN_LIMIT {
+        same = same & (rows[i] == 9);
+        same = same & (predecessors[i] == 8);
     }
     same
 }
@@ -43,17 +45,18 @@ fn both_refuse(b: Board) -> bool {
 
 // All six calls refuse the board.
 fn all_refuse(b: Board) -> bool {
-    let mut table: [u16; 512] = [9; 512];
-    let admitted = board::admit(b, 1, &mut table);
-    let seated = board::seat(b, 1, &mut table);
-    let repacked = board::repack(b, &mut table);
+    let mut rows: [u16; COLUMN_LIMIT] = [9; COLUMN_LIMIT];
+    let mut predecessors: [u16; COLUMN_LIMIT] = [8; COLUMN_LIMIT];
+    let admitted = board::admit(b, 1, &mut rows, &mut predecessors);
+    let seated = board::seat(b, 1, &mut rows, &mut predecessors);
+    let repacked = board::repack(b, &mut rows, &mut predecessors);
     let retired = board::retire(b, 1, 1);
     refuses(admitted, b)
         & refuses(seated, b)
         & refuses(repacked, b)
         & refuses(retired, b)
         & both_refuse(b)
-        & untouched(table)
+        & untouched(rows, predecessors)
 }
 
 pub fn say_board(name: &[u8], b: Board) {
@@ -77,10 +80,11 @@ fn say_moves(b: Board) {
 
 // The six answers on a board that is true.
 pub fn say_true(name: &[u8], b: Board) {
-    let mut table: [u16; 512] = [9; 512];
-    let admitted = board::admit(b, 1, &mut table);
-    let seated = board::seat(b, 1, &mut table);
-    let repacked = board::repack(b, &mut table);
+    let mut rows: [u16; COLUMN_LIMIT] = [9; COLUMN_LIMIT];
+    let mut predecessors: [u16; COLUMN_LIMIT] = [8; COLUMN_LIMIT];
+    let admitted = board::admit(b, 1, &mut rows, &mut predecessors);
+    let seated = board::seat(b, 1, &mut rows, &mut predecessors);
+    let repacked = board::repack(b, &mut rows, &mut predecessors);
     let retired = board::retire(b, 1, 1);
     let first = admitted.answer;
     let second = seated.answer;

@@ -4,6 +4,7 @@
 // - `q 2 where two stand`: true boards at exactly q, which is of each engine and not of the board;
 // - `engine 1 marked`: true boards with marks, at both ends of the engines and on all of them. An admit passes over engines that are marked; with none in
 //   service it is refused 24, and so is a seat, but not a repack of nothing;
+// - `columns 1,025`, `columns 4,096`: true boards with as many columns as a system may have, and with more than it might before request 2026-10;
 // - `k 0`: false by the system, with numbers far past every limit;
 // - `65,535 of each type`: false by a load. The sums of the first are those that it has modulo 2^32;
 // - `d past k`: data memory that is not a file's, that the stored memory leaves out or charges otherwise, or that does not fit;

@@ -31,9 +31,9 @@ const MOSTS: [usize; 8] = [65536, 65536, 65536, 1, 2, 256, 65534, 65535];
 
 const NO_MOSTS: [usize; 4] = [0, 0, 0, 0];
 
-const CEILINGS: [usize; 8] = [0, 0, 0, 1, 1, 3, 31, 1023];
+const CEILINGS: [usize; 8] = [0, 0, 0, 1, 1, 3, 63, 4095];
 
-const NO_CEILINGS: [usize; 4] = [1024, 1279, 65534, 65535];
+const NO_CEILINGS: [usize; 4] = [4096, 4351, 65534, 65535];
 
 // A system and the length of its buffer, and the seed after them.
 pub struct Drawn {

@@ -62,9 +62,9 @@ fn left_after(left: usize, y: System, t: usize) -> usize {
     left / (task.ceiling as usize + 1)
 }
 
-// The columns are over 1,024: they go into it not once.
+// The columns are over 4,096: they go into it not once.
 fn passes_columns(y: System) -> bool {
-    let one = left_after(1024, y, 0);
+    let one = left_after(4096, y, 0);
     let two = left_after(one, y, 1);
     let three = left_after(two, y, 2);
     let four = left_after(three, y, 3);

@@ -114,12 +114,12 @@ fn edges() -> Tally {
 // The largest n of k types, so that the columns of most systems are within their limit.
 fn most_of(k: usize) -> usize {
     match k {
-        1 => 1030,
-        2 => 33,
-        3 => 11,
-        4 => 6,
-        5 => 4,
-        _ => 3,
+        1 => 4120,
+        2 => 67,
+        3 => 18,
+        4 => 9,
+        5 => 6,
+        _ => 4,
     }
 }
 

@@ -1,11 +1,11 @@
 -- What a reader finds in the line of a file, from what a cause means; and that the line which the code writes is that one.
-use Prim.Native.Nat.{ℕ, _*_, _≤_}
+use Prim.Native.Nat.{ℕ}
 use mathlib.Core.Path.{_≡_, refl, sym, ap, subst, _∙_}
 use mathlib.Core.List.{List, []}
 use mathlib.Core.Bool.{Bool, true, false}
 use mathlib.Core.Logic.{_↔_}
 use native.Mathlib.Omega.{arith}
-use lib.ListN.{length, getD, take}
+use lib.ListN.{getD, take}
 use Rattle.buffer.specs.Written.{Written}
 use Rattle.system.specs.declared.System.{System}
 use Rattle.system.specs.declared.Refusal.the-variants.{Input, State}
@@ -16,6 +16,7 @@ use Rattle.system.proofs.Laws.{Limits, read-limits}
 use Rattle.system.proofs.Prefix.{read-prefix}
 use Rattle.loads.proofs.Order.{within-refl}
 use Rattle.partition.specs.Assignment.{Assignment, enginesTo}
+use Rattle.partition.specs.Lent.{Lent, lent}
 use Rattle.partition.specs.Plain.{ceilingNo, EngineOf, Partition}
 use Rattle.partition.proofs.Lists.{not-both, distinct-enginesTo, every-among, among-enginesTo}
 use Rattle.partition.proofs.ForSystem.{length-ceilings}
@@ -26,7 +27,7 @@ use Rattle.listing.specs.Listing.{refusalLine, listingOf, verdictListing}
 use Rattle.listing.specs.Demands.{TellsRefusal}
 use Rattle.listing.specs.Text.{readingVerdict}
 use Rattle.listing.proofs.Lines.{number-told}
-use Rattle.listing.proofs.Text.{long-for-all}
+use Rattle.listing.proofs.Text.{LongForAll, long-for-all}
 use Rattle.causes.specs.declared.Cause.{Cause}
 use Rattle.causes.specs.declared.Cause.the-variants.{Possible, NoEngine, OneTooLarge, TooMuchTime, TooMuchMemory, TooManyReplicas, NoArrangement}
 use Rattle.causes.specs.declared.CauseAnswer.{CauseAnswer}
@@ -49,7 +50,7 @@ module _ (file : List ℕ) (y : System) (opens : readFile file ≡ opened y) whe
   limits = read-limits file y opens
 
   means : CauseMeans y (EngineOf y) (y .engines) (ceilingNo y) (told cause)
-  means = file-means y limits []
+  means = file-means y limits (lent [] [])
 
   -- the line of d is told exactly where d is the cause
   line-iff : (d : Cause) {P : Type 0} → (told cause ≡ told d) ↔ P → Tells d (causeLine cause) ↔ P
@@ -113,7 +114,7 @@ cause-line (Because d) c o = ap causeLine (same-cause d c o)
 cause-line (Refused (Input m)) c o = not-refused c fromInput m (sym o)
 cause-line (Refused (State m)) c o = not-refused c fromState m (sym o)
 
-answer-line : (file table : List ℕ) (a : CauseAnswer) → 17 * 1024 ≤ length table → causeOutcomeOf a ≡ planCause (readFile file) table → answerLine a ≡ whyText file
+answer-line : (file : List ℕ) (table : Lent) (a : CauseAnswer) → LongForAll table → causeOutcomeOf a ≡ planCause (readFile file) table → answerLine a ≡ whyText file
 unfolding readingLine
 answer-line file table a size o = go (readFile file) refl o
   where
@@ -121,7 +122,7 @@ answer-line file table a size o = go (readFile file) refl o
     go (unread n) e o = unread-line a n o
     go (opened y) e o = cause-line a _ (o ∙ rw (long-back y (read-limits file y e) table (long-for-all file y table e size)))
 
-pub why-promised : {file table after old new : List ℕ} {a : CauseAnswer} {r : ℕ} → 17 * 1024 ≤ length table → PlanCausePromises (readFile file) table a after
+pub why-promised : {file : List ℕ} {table after : Lent} {old new : List ℕ} {a : CauseAnswer} {r : ℕ} → LongForAll table → PlanCausePromises (readFile file) table a after
     → Written (answerLine a) old new r → WhyPromises file old new r
 why-promised {file = file} {table = table} {a = a} size p w = record {
   written = rw (answer-line file table a size (p .answers)) at w;

@@ -10,8 +10,8 @@ use causes::CauseAnswer;
 use causes::why_no_plan;
 use listing::put_number;
 use listing::write_refusal;
+use system::COLUMN_LIMIT;
 use system::FILE_BYTES;
-use system::TABLE_LIMIT;
 
 // Writes the line of a type of which not even one instance fits an empty engine.
 fn write_type(out: &mut [u8; 4096], t: usize) -> usize
@@ -51,12 +51,13 @@ fn write_answer(out: &mut [u8; 4096], answer: CauseAnswer) -> usize
     }
 }
 
-// Writes the line of a system file at the start of the buffer, and answers its length. The table is the function's own and long enough for every system.
+// Writes the line of a system file at the start of the buffer, and answers its length. Both parts of the table are the function's own and long enough for every system.
 pub fn why_of(file: &[u8], out: &mut [u8; 4096]) -> usize
     ensures { λ r. ⌜ WhyPromises (now (file .entry)) (now (out .entry)) (now (out .exit)) r ⌝ }
 {
-    let mut table = [0u16; TABLE_LIMIT];
-    let answer = why_no_plan(file, &mut table);
+    let mut rows = [0u16; COLUMN_LIMIT];
+    let mut predecessors = [0u16; COLUMN_LIMIT];
+    let answer = why_no_plan(file, &mut rows, &mut predecessors);
     write_answer(out, answer)
 }
 

@@ -100,7 +100,7 @@ module _ (y : System) (room : ℕ) (six : length (y .types) ≡ 6) where
 
   -- what the tests from each number on say
   module _ (few : y .typecount ≤ 6) where
-    columns-asked : Test (columnsTo y (y .typecount) ≤ 1024) 10 (productFault y)
+    columns-asked : Test (columnsTo y (y .typecount) ≤ 4096) 10 (productFault y)
     columns-asked = columns-test y (omega arith)
 
     room-asked : Test (length (fileOut y) ≤ room) 30 (shortFault y room)
@@ -210,7 +210,7 @@ module _ (y : System) (room : ℕ) (six : length (y .types) ≡ 6) where
         (says-ten y room six (k .1)) refl Iff·rfl;
     thenTen = λ k m r s q.
         in-row y room (shortFault y room) (30 ∷ 0 ∷ []) (omega arith) (columns-asked y room six (k .1)) (left-ten y room six k m r s q)
-        (says-alone (room-asked y room six (k .1))) refl (over (columnsTo y (y .typecount)) 1024);
+        (says-alone (room-asked y room six (k .1))) refl (over (columnsTo y (y .typecount)) 4096);
     thenThirty = then-thirty;
     orWritten = or-written;
   }

@@ -228,7 +228,7 @@ columns-to y (suc n) h =
 columns-cleared : (y : System) → y .typecount ≤ length (y .types) → columnsOf (ceilings (cleared y .types)) ≡ columnsTo y (y .typecount)
 columns-cleared y h = rw (map-append, columns-append, columns-none (typeLimit - y .typecount), mul-one) (sym (columns-to y (y .typecount) h))
 
-pub columns-test : (y : System) → y .typecount ≤ length (y .types) → Test (columnsTo y (y .typecount) ≤ 1024) 10 (productFault y)
+pub columns-test : (y : System) → y .typecount ≤ length (y .types) → Test (columnsTo y (y .typecount) ≤ 4096) 10 (productFault y)
 columns-test y h = rw (columns-cleared y h) (one-test (columnsTo y (y .typecount)) columnLimit)
 
 -- 30

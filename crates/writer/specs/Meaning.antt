@@ -124,7 +124,7 @@ pub record MayBeWritten (y : System) : Type 0 where
   pub rule : y .rule ≤ 1
   pub sizes : SizesWithin y
   pub replicas : ReplicasWithin y
-  pub columns : columnsTo y (y .typecount) ≤ 1024
+  pub columns : columnsTo y (y .typecount) ≤ 4096
 
 pub record WritesInOrder (y : System) (room : ℕ) (o : Outcome) : Type 0 where
   pub sevenFirst : (o ≡ refused fromInput 7) ↔ (6 < y .typecount)
@@ -133,7 +133,7 @@ pub record WritesInOrder (y : System) (room : ℕ) (o : Outcome) : Type 0 where
   pub thenSix : CountWithin y → EnginesWithin y → (o ≡ refused fromInput 6) ↔ (1 < y .rule)
   pub thenEight : CountWithin y → EnginesWithin y → y .rule ≤ 1 → (o ≡ refused fromInput 8) ↔ (SizesWithin y → ⊥)
   pub thenThirtyOne : CountWithin y → EnginesWithin y → y .rule ≤ 1 → SizesWithin y → (o ≡ refused fromInput 31) ↔ (ReplicasWithin y → ⊥)
-  pub thenTen : CountWithin y → EnginesWithin y → y .rule ≤ 1 → SizesWithin y → ReplicasWithin y → (o ≡ refused fromInput 10) ↔ (1024 < columnsTo y (y .typecount))
+  pub thenTen : CountWithin y → EnginesWithin y → y .rule ≤ 1 → SizesWithin y → ReplicasWithin y → (o ≡ refused fromInput 10) ↔ (4096 < columnsTo y (y .typecount))
   pub thenThirty : MayBeWritten y → (o ≡ refused fromInput 30) ↔ (room < length (fileOut y))
   pub orWritten : MayBeWritten y → length (fileOut y) ≤ room → o ≡ accepted (length (fileOut y) ∷ [])
 

@@ -9,8 +9,11 @@ plan-for-requires c κs = search needs
 same-length : tie.Need-same-length
 same-length c = search needs
 
+same-length-2 : tie.Need-same-length-2
+same-length-2 c = search needs
+
 returns : tie.Need-returns
-returns c = c .before .before .plan-for .ensures
+returns c = c .before .before .before .before .plan-for .ensures
 
 pub plan-of-spec : {M : Type 1} → statement M
-plan-of-spec = tie.close (tie.spec plan-for-requires same-length returns)
+plan-of-spec = tie.close (tie.spec plan-for-requires same-length same-length-2 returns)

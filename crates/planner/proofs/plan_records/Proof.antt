@@ -14,10 +14,13 @@ records-of-requires c κs = search needs
 same-length : tie.Need-same-length
 same-length c = search needs
 
+same-length-2 : tie.Need-same-length-2
+same-length-2 c = search needs
+
 returns : tie.Need-returns
 returns c =
-    let p = c .before .before .before .before .plan-for .ensures in
+    let p = c .before .before .before .before .before .before .plan-for .ensures in
     record { answer = p .answers; used = p .uses; records = c .records-of .ensures ∙ ap recordsOf (p .places); left = p .leavesTable }
 
 pub plan-records-spec : {M : Type 1} → statement M
-plan-records-spec = tie.close (tie.spec plan-for-requires records-of-requires same-length returns)
+plan-records-spec = tie.close (tie.spec plan-for-requires records-of-requires same-length same-length-2 returns)

@@ -1,5 +1,5 @@
 -- `plan_front` meets its contract: a walk of its MIR, by hand, after `planner::plan_list`. The list is copied to a slot, of which the first `room` records are lent to `plan_into` as a slice for a lifetime that is made here; the lifetime is ended, and the slot holds the slice's last list and the records after it.
--- Of `plan_into` the proof knows only that it keeps the slice's length. The table is given up for good; of the file a copy is kept.
+-- Of `plan_into` the proof knows only that it keeps the slice's length. The two parts are given up for good; of the file a copy is kept.
 -- Assumes nothing.
 use mathlib.Core.Path.{_≡_, refl, sym, _∙_, ap, subst}
 use Prim.Native.Nat.{ℕ, _+_, _<_, _≤_, _^_}
@@ -116,7 +116,7 @@ is-result : (a : Answer) (zs : List EngineRecord) → Is E.the-row a (answerVal 
 is-result a zs is-a is-zs = ((answerVal a ∷ [], (recordsVal zs ∷ [], tt)), (refl, (is-a, (records-field zs (recordsVal zs ∷ []) is-zs, tt))))
 
 abbrev stayed : Stays (plan-front.ended .signature .params) (plan-front.ended .kept)
-stayed = (stay-none-slice (0 ∷ []) tt (plain (λ _. u8)) yes, (gave-slice (1 ∷ []) tt (plain (λ _. u16)), (stay-none (λ _. Rs) yes, (stay-none (λ _. usize) yes, tt))))
+stayed = (stay-none-slice (0 ∷ []) tt (plain (λ _. u8)) yes, (gave-slice (1 ∷ []) tt (plain (λ _. u16)), (gave-slice (2 ∷ []) tt (plain (λ _. u16)), (stay-none (λ _. Rs) yes, (stay-none (λ _. usize) yes, tt)))))
 
 module _ {M : Type 1} (𝓤 : URA M) (H : Heap 𝓤) (A : Atoms 𝓤) (mem′ : Memory → SProp 𝓤) (run : Routine → Fun 𝓤) where
   -- the contract that the proof cites
@@ -124,12 +124,12 @@ module _ {M : Type 1} (𝓤 : URA M) (H : Heap 𝓤) (A : Atoms 𝓤) (mem′ : 
   Into = tripleOf 𝓤 H A plan-into.signature (plan-into.spec 𝓤 H A mem′ run)
 
 module _ {M : Type 1} (𝓤 : URA M) (H : Heap 𝓤) (A : Atoms 𝓤) (W : Given 𝓤 H A) (mem′ : Memory → SProp 𝓤) (run : Routine → Fun 𝓤)
-    (κ₀ κ₁ : Lft) (q₀ q₁ : Share) (f t : RefT (List ℕ)) (rs : List EngineRecord) (n : ℕ) (f-room : Room u8 (length (f .now))) (t-room : Room u16 (length (t .now))) (is-rs : Is Rs rs (recordsVal rs ∷ [])) (n-fits : n < 2 ^ 64) (few : n ≤ 17) where
-  abbrev κs : Lfts 2
-  κs = (κ₀, (κ₁, tt))
+    (κ₀ κ₁ κ₂ : Lft) (q₀ q₁ q₂ : Share) (f t p : RefT (List ℕ)) (rs : List EngineRecord) (n : ℕ) (f-room : Room u8 (length (f .now))) (t-room : Room u16 (length (t .now))) (p-room : Room u16 (length (p .now))) (is-rs : Is Rs rs (recordsVal rs ∷ [])) (n-fits : n < 2 ^ 64) (few : n ≤ 17) where
+  abbrev κs : Lfts 3
+  κs = (κ₀, (κ₁, (κ₂, tt)))
 
-  abbrev qs : Shares 2
-  qs = (q₀, (q₁, tt))
+  abbrev qs : Shares 3
+  qs = (q₀, (q₁, (q₂, tt)))
 
   abbrev fVal : Val
   fVal = sliceVal (f .ptr) (length (f .now))
@@ -137,11 +137,14 @@ module _ {M : Type 1} (𝓤 : URA M) (H : Heap 𝓤) (A : Atoms 𝓤) (W : Given
   abbrev tVal : Val
   tVal = sliceVal (t .ptr) (length (t .now))
 
+  abbrev pVal : Val
+  pVal = sliceVal (p .ptr) (length (p .now))
+
   abbrev arg : Args plan-front.signature κs
-  arg = (f, (t, (rs, (n, tt))))
+  arg = (f, (t, (p, (rs, (n, tt)))))
 
   abbrev at : Vals plan-front.signature κs
-  at = (fVal ∷ [], (tVal ∷ [], (recordsVal rs ∷ [], (vint w64 n ∷ [], tt))))
+  at = (fVal ∷ [], (tVal ∷ [], (pVal ∷ [], (recordsVal rs ∷ [], (vint w64 n ∷ [], tt)))))
 
   seventeen : length rs ≡ 17
   seventeen = is-rs .1 .0 .1
@@ -169,8 +172,8 @@ module _ {M : Type 1} (𝓤 : URA M) (H : Heap 𝓤) (A : Atoms 𝓤) (W : Given
   abbrev Post : Val → SProp 𝓤
   Post = walkOf 𝓤 H A plan-front.ended stayed (plan-front.clauses 𝓤 H A mem′ run) .post ((κs, qs, tt, arg, at), tt)
 
-  -- ---- the call, with the list at (b, 0) lent for κ₂ under the name γ
-  module _ (κ₂ : Lft) (b : ℕ) (γ : GName) where
+  -- ---- the call, with the list at (b, 0) lent for κ₃ under the name γ
+  module _ (κ₃ : Lft) (b : ℕ) (γ : GName) where
     abbrev l : RefT (List EngineRecord)
     l = record { ptr = (b, 0); name = γ; now = ls }
 
@@ -178,96 +181,99 @@ module _ {M : Type 1} (𝓤 : URA M) (H : Heap 𝓤) (A : Atoms 𝓤) (W : Given
     lVal = sliceVal (b, 0) (length ls)
 
     abbrev to-into : Into 𝓤 H A mem′ run .Ghost
-    to-into = (((κ₀, (κ₁, (κ₂, tt))), (q₀, (q₁, (fullShare, tt))), tt, (f, (t, (l, tt))), (fVal ∷ [], (tVal ∷ [], (lVal ∷ [], tt)))), tt)
+    to-into = (((κ₀, (κ₁, (κ₂, (κ₃, tt)))), (q₀, (q₁, (q₂, (fullShare, tt)))), tt, (f, (t, (p, (l, tt)))), (fVal ∷ [], (tVal ∷ [], (pVal ∷ [], (lVal ∷ [], tt))))), tt)
 
     goes-into : ent 𝓤
-        (sep 𝓤 (sep 𝓤 (A .lft κ₀ q₀) (sep 𝓤 (A .lft κ₁ q₁) (A .lft κ₂ fullShare)))
-        (sep 𝓤 (sem 𝓤 H A (ShrSlice (named 0) κ₀ u8 .own f (fVal ∷ []))) (sep 𝓤 (sem 𝓤 H A (MutSlice (named 1) κ₁ u16 .own t (tVal ∷ []))) (sem 𝓤 H A (MutSlice (named 2) κ₂ R .own l (lVal ∷ []))))))
+        (sep 𝓤 (sep 𝓤 (A .lft κ₀ q₀) (sep 𝓤 (A .lft κ₁ q₁) (sep 𝓤 (A .lft κ₂ q₂) (A .lft κ₃ fullShare))))
+        (sep 𝓤 (sem 𝓤 H A (ShrSlice (named 0) κ₀ u8 .own f (fVal ∷ []))) (sep 𝓤 (sem 𝓤 H A (MutSlice (named 1) κ₁ u16 .own t (tVal ∷ []))) (sep 𝓤 (sem 𝓤 H A (MutSlice (named 2) κ₂ u16 .own p (pVal ∷ []))) (sem 𝓤 H A (MutSlice (named 3) κ₃ R .own l (lVal ∷ [])))))))
         (Into 𝓤 H A mem′ run .pre to-into)
     goes-into =
-        qed W ((‵ (flft κ₀ q₀) ⊛ ‵ (flft κ₁ q₁) ⊛ ‵ (flft κ₂ fullShare))
-        ∷ (‵ (ShrSlice (named 0) κ₀ u8 .own f (fVal ∷ [])) ⊛ ‵ (MutSlice (named 1) κ₁ u16 .own t (tVal ∷ [])) ⊛ ‵ (MutSlice (named 2) κ₂ R .own l (lVal ∷ []))) ∷ []) ∵
-        split ! $ move ! (1 ∷ []) $ split ! $ move ! (1 ∷ []) $ nothing ! $ move ! (1 ∷ 0 ∷ []) $ join ! $ move ! (1 ∷ 0 ∷ []) $ join ! $ move ! (1 ∷ 0 ∷ []) $ join ! $
+        qed W ((‵ (flft κ₀ q₀) ⊛ ‵ (flft κ₁ q₁) ⊛ ‵ (flft κ₂ q₂) ⊛ ‵ (flft κ₃ fullShare))
+        ∷ (‵ (ShrSlice (named 0) κ₀ u8 .own f (fVal ∷ [])) ⊛ ‵ (MutSlice (named 1) κ₁ u16 .own t (tVal ∷ [])) ⊛ ‵ (MutSlice (named 2) κ₂ u16 .own p (pVal ∷ [])) ⊛ ‵ (MutSlice (named 3) κ₃ R .own l (lVal ∷ []))) ∷ []) ∵
+        split ! $ move ! (1 ∷ []) $ split ! $ move ! (1 ∷ []) $ split ! $ move ! (1 ∷ []) $ nothing ! $ move ! (1 ∷ 0 ∷ []) $ join ! $ move ! (1 ∷ 0 ∷ []) $ join ! $ move ! (1 ∷ 0 ∷ []) $ join ! $ move ! (1 ∷ 0 ∷ []) $ join ! $
         -- [the tokens; what the slices own]
-        move ! (1 ∷ []) $ split ! $ move ! (1 ∷ []) $ split ! $ move ! (1 ∷ []) $ nothing ! $ move ! (1 ∷ 0 ∷ []) $ fjoin ! $ move ! (1 ∷ 0 ∷ []) $ fjoin ! $ move ! (1 ∷ 0 ∷ []) $ fjoin ! $
+        move ! (1 ∷ []) $ split ! $ move ! (1 ∷ []) $ split ! $ move ! (1 ∷ []) $ split ! $ move ! (1 ∷ []) $ nothing ! $ move ! (1 ∷ 0 ∷ []) $ fjoin ! $ move ! (1 ∷ 0 ∷ []) $ fjoin ! $ move ! (1 ∷ 0 ∷ []) $ fjoin ! $ move ! (1 ∷ 0 ∷ []) $ fjoin ! $
         move ! (1 ∷ 0 ∷ []) $ join ! $ frame ! $ done !
 
   -- ---- the exit
-  exits : (a : Answer) (ts : List ℕ) (zs : List EngineRecord) → Is E.the-row a (answerVal a ∷ []) → Is Rs zs (recordsVal zs ∷ []) → length ts ≡ length (t .now)
-      → ent 𝓤 (⋆ 𝓤 H A (‵ (flft κ₀ q₀) ∷ ‵ (flft κ₁ q₁) ∷ ‵ (ShrSlice (named 0) κ₀ u8 .own f (fVal ∷ [])) ∷ ‵ (finally u16 (t .name) ts) ∷ [])) (Post (resultVal a zs))
-  exits a ts zs is-a is-zs same-t =
-      qed W (‵ (flft κ₀ q₀) ∷ ‵ (flft κ₁ q₁) ∷ ‵ (ShrSlice (named 0) κ₀ u8 .own f (fVal ∷ [])) ∷ ‵ (finally u16 (t .name) ts) ∷ []) ∵
-      suffices ! _ (ends-at 𝓤 H A plan-front.ended stayed (plan-front.clauses 𝓤 H A mem′ run) W ((κs, qs, tt, arg, at), tt) (resultVal a zs) (resultOf a zs) (tt, (ts, (tt, (tt, tt)))) (tt, (same-t, (tt, (tt, tt))))) $ says ! (is-zs .1 .0 .1) $
-      nothing ! $ move ! (2 ∷ 0 ∷ []) $ join ! $ move ! (1 ∷ 0 ∷ []) $ join ! $ frame ! $
-      -- [what the file owns; the table's last list]
+  exits : (a : Answer) (ts ps : List ℕ) (zs : List EngineRecord) → Is E.the-row a (answerVal a ∷ []) → Is Rs zs (recordsVal zs ∷ []) → length ts ≡ length (t .now) → length ps ≡ length (p .now)
+      → ent 𝓤 (⋆ 𝓤 H A (‵ (flft κ₀ q₀) ∷ ‵ (flft κ₁ q₁) ∷ ‵ (flft κ₂ q₂) ∷ ‵ (ShrSlice (named 0) κ₀ u8 .own f (fVal ∷ [])) ∷ ‵ (finally u16 (t .name) ts) ∷ ‵ (finally u16 (p .name) ps) ∷ [])) (Post (resultVal a zs))
+  exits a ts ps zs is-a is-zs same-t same-p =
+      qed W (‵ (flft κ₀ q₀) ∷ ‵ (flft κ₁ q₁) ∷ ‵ (flft κ₂ q₂) ∷ ‵ (ShrSlice (named 0) κ₀ u8 .own f (fVal ∷ [])) ∷ ‵ (finally u16 (t .name) ts) ∷ ‵ (finally u16 (p .name) ps) ∷ []) ∵
+      suffices ! _ (ends-at 𝓤 H A plan-front.ended stayed (plan-front.clauses 𝓤 H A mem′ run) W ((κs, qs, tt, arg, at), tt) (resultVal a zs) (resultOf a zs) (tt, (ts, (ps, (tt, (tt, tt))))) (tt, (same-t, (same-p, (tt, (tt, tt)))))) $ says ! (is-zs .1 .0 .1) $
+      nothing ! $ move ! (3 ∷ 0 ∷ []) $ join ! $ move ! (2 ∷ 0 ∷ []) $ join ! $ move ! (1 ∷ 0 ∷ []) $ join ! $ frame ! $
+      -- [what the file owns; the row part's last list; the predecessor part's]
       nothing ! $ owned ! usize (Is usize) (uint-makes 𝓤 H A W w64) n _ (refl, n-fits) $ fjoin ! $
-      owned ! Rs (Is Rs) (array-makes 𝓤 H A W R (LL.makes T.the-type T′.the-plain 𝓤 H A) 17) rs _ is-rs $ fjoin ! $ move ! (2 ∷ 0 ∷ []) $ fjoin ! $ move ! (1 ∷ 0 ∷ []) $ fjoin ! $
+      owned ! Rs (Is Rs) (array-makes 𝓤 H A W R (LL.makes T.the-type T′.the-plain 𝓤 H A) 17) rs _ is-rs $ fjoin ! $ move ! (3 ∷ 0 ∷ []) $ fjoin ! $ move ! (2 ∷ 0 ∷ []) $ fjoin ! $ move ! (1 ∷ 0 ∷ []) $ fjoin ! $
       owned ! P.the-row (Is P.the-row) (LL.makes P.the-type P′.the-plain 𝓤 H A) (resultOf a zs) _ (is-result a zs is-a is-zs) $ move ! (1 ∷ 0 ∷ []) $ done !
 
   module _ (C : Calls 𝓤 H) (Λ : Loops 𝓤 H) (fm : FmC 𝓤 H (W .laws) C) (known : Triple 𝓤 (C #planner·plan-into) (Into 𝓤 H A mem′ run)) where
-    walk : ent 𝓤 (onEntry 𝓤 H A plan-front.signature κs qs arg at) (WpFn 𝓤 H C Λ code.function (fVal ∷ tVal ∷ recordsVal rs ∷ vint w64 n ∷ []) Post)
+    walk : ent 𝓤 (onEntry 𝓤 H A plan-front.signature κs qs arg at) (WpFn 𝓤 H C Λ code.function (fVal ∷ tVal ∷ pVal ∷ recordsVal rs ∷ vint w64 n ∷ []) Post)
     unfolding partOf
     walk =
-        qed W ((‵ (flft κ₀ q₀) ⊛ ‵ (flft κ₁ q₁) ⊛ ‵ ftrue) ∷ ‵ (owns (ShrSlice (named 0) κ₀ u8 ∷ MutSlice (named 1) κ₁ u16 ∷ Rs ∷ usize ∷ []) arg at) ∷ []) ∵
-        enter ! C Λ code.function (fVal ∷ tVal ∷ recordsVal rs ∷ vint w64 n ∷ []) _ $
-        alloc1 ! (λ l₀. alloc1 ! (λ l₁. alloc1 ! (λ l₂. alloc1 ! (λ l₃. alloc1 ! (λ l₄. alloc1 ! (λ l₅. alloc1 ! (λ l₆. alloc1 ! (λ l₇. alloc1 ! (λ l₈. alloc1 ! (λ l₉. alloc1 ! (λ l₁₀. alloc1 ! (λ l₁₁. alloc0 ! $ params1 ! $
-        pass1 ! (init ! 20 refl (tt, (tt, (record { fits = f-room .0 }, tt)))) $ pass1 ! (init ! 18 refl (tt, (tt, (record { fits = t-room .0 }, tt)))) $ pass1 ! (init ! 16 refl (typed-records rs is-rs)) $ pass1 ! (init ! 14 refl (tt, record { fits = n-fits })) $ pass0 ! $
-        -- [_11; …; _10 (2); …; _9 (4); …; _8 (6); …; _7 (8); …; _6 (10); …; _5 (12); …; _4 (14); …; _3 (16); …; _2 (18); …; _1 (20); …; room for _0 (22); …; the tokens; what the parameters own]
-        assigns ! (of-opd ! (load ! (from ! (stop !)) (look ! 16 refl))) (from ! (stop !)) (init ! 12 refl (typed-records rs is-rs)) $
-        assigns ! (addr ! (from ! (fld ! refl (hop ! (look-in ! 18 (sub ! 0 refl (whole !))) (stop !))))) (from ! (stop !)) (init ! 8 refl (tt, tt)) $
-        assigns ! (agg ! (and-then ! (load ! (from ! (stop !)) (look ! 8 refl)) (and-then ! (load ! (from ! (fld ! refl (stop !))) (look-in ! 18 (sub ! 1 refl (whole !)))) (no-more !)))) (from ! (stop !)) (init ! 6 refl (tt, (tt, (record { fits = t-room .0 }, tt)))) $
+        qed W ((‵ (flft κ₀ q₀) ⊛ ‵ (flft κ₁ q₁) ⊛ ‵ (flft κ₂ q₂) ⊛ ‵ ftrue) ∷ ‵ (owns (ShrSlice (named 0) κ₀ u8 ∷ MutSlice (named 1) κ₁ u16 ∷ MutSlice (named 2) κ₂ u16 ∷ Rs ∷ usize ∷ []) arg at) ∷ []) ∵
+        enter ! C Λ code.function (fVal ∷ tVal ∷ pVal ∷ recordsVal rs ∷ vint w64 n ∷ []) _ $
+        alloc1 ! (λ l₀. alloc1 ! (λ l₁. alloc1 ! (λ l₂. alloc1 ! (λ l₃. alloc1 ! (λ l₄. alloc1 ! (λ l₅. alloc1 ! (λ l₆. alloc1 ! (λ l₇. alloc1 ! (λ l₈. alloc1 ! (λ l₉. alloc1 ! (λ l₁₀. alloc1 ! (λ l₁₁. alloc1 ! (λ l₁₂. alloc1 ! (λ l₁₃. alloc1 ! (λ l₁₄. alloc0 ! $ params1 ! $
+        pass1 ! (init ! 26 refl (tt, (tt, (record { fits = f-room .0 }, tt)))) $ pass1 ! (init ! 24 refl (tt, (tt, (record { fits = t-room .0 }, tt)))) $ pass1 ! (init ! 22 refl (tt, (tt, (record { fits = p-room .0 }, tt)))) $ pass1 ! (init ! 20 refl (typed-records rs is-rs)) $ pass1 ! (init ! 18 refl (tt, record { fits = n-fits })) $ pass0 ! $
+        -- [_14; …; _13 (2); …; _12 (4); …; _11 (6); …; _10 (8); …; _9 (10); …; _8 (12); …; _7 (14); …; _6 (16); …; _5 (18); …; _4 (20); …; _3 (22); …; _2 (24); …; _1 (26); …; room for _0 (28); …; the tokens; what the parameters own]
+        assigns ! (of-opd ! (load ! (from ! (stop !)) (look ! 20 refl))) (from ! (stop !)) (init ! 16 refl (typed-records rs is-rs)) $
+        assigns ! (addr ! (from ! (fld ! refl (hop ! (look-in ! 24 (sub ! 0 refl (whole !))) (stop !))))) (from ! (stop !)) (init ! 12 refl (tt, tt)) $
+        assigns ! (agg ! (and-then ! (load ! (from ! (stop !)) (look ! 12 refl)) (and-then ! (load ! (from ! (fld ! refl (stop !))) (look-in ! 24 (sub ! 1 refl (whole !)))) (no-more !)))) (from ! (stop !)) (init ! 10 refl (tt, (tt, (record { fits = t-room .0 }, tt)))) $
+        assigns ! (addr ! (from ! (fld ! refl (hop ! (look-in ! 22 (sub ! 0 refl (whole !))) (stop !))))) (from ! (stop !)) (init ! 8 refl (tt, tt)) $
+        assigns ! (agg ! (and-then ! (load ! (from ! (stop !)) (look ! 8 refl)) (and-then ! (load ! (from ! (fld ! refl (stop !))) (look-in ! 22 (sub ! 1 refl (whole !)))) (no-more !)))) (from ! (stop !)) (init ! 6 refl (tt, (tt, (record { fits = p-room .0 }, tt)))) $
         assigns ! (addr ! (from ! (stop !))) (from ! (stop !)) (init ! 4 refl (tt, tt)) $
-        assigns ! (agg ! (and-then ! (load ! (from ! (stop !)) (look ! 4 refl)) (and-then ! (load ! (from ! (stop !)) (look ! 14 refl)) (no-more !)))) (from ! (stop !)) (init ! 2 refl (tt, (tt, (record { fits = n-fits }, tt)))) $
-        rewrite ! 2 (λ (m : ℕ). ‵ (fat fullShare listTy l₁₀ 0 (sliceVal (l₅, 0) m))) (sym ls-long) refl $
+        assigns ! (agg ! (and-then ! (load ! (from ! (stop !)) (look ! 4 refl)) (and-then ! (load ! (from ! (stop !)) (look ! 18 refl)) (no-more !)))) (from ! (stop !)) (init ! 2 refl (tt, (tt, (record { fits = n-fits }, tt)))) $
+        rewrite ! 2 (λ (m : ℕ). ‵ (fat fullShare listTy l₁₃ 0 (sliceVal (l₆, 0) m))) (sym ls-long) refl $
         -- a copy of what the file owns is kept, and the first records of the slot are lent as a slice
-        move ! (25 ∷ []) $ fsplit ! $ use1 W (‵ (ShrSlice (named 0) κ₀ u8 .own f (fVal ∷ [])) ⊛ ‵ (ShrSlice (named 0) κ₀ u8 .own f (fVal ∷ []))) (shr-slice-copy 𝓤 H A W (named 0) κ₀ u8 .twice f (fVal ∷ [])) $ split ! $
-        move ! (2 ∷ []) $ fsplit ! $ move ! (1 ∷ []) $ fsplit ! $
-        -- [what the list owns; what the number owns; what the table owns; what the file owns, twice; _11 (5); …; _5 (17); …; the tokens (29)]
-        move ! (17 ∷ 0 ∷ []) $ use1 W (‵ (fat fullShare (rawTy recordsTy) l₅ 0 (recordsVal rs))) (W .laws .at-raw fullShare recordsTy l₅ 0 (recordsVal rs)) $ fjoin ! $
-        fpack ! (List Val) (λ vs. fsep (cellAt fullShare (Rs .mir) vs l₅ 0) (Rs .own rs vs)) (recordsVal rs ∷ []) $
-        use1 W (‵ (arr-parts (shares R) 17 .part fullShare rs l₅ 0)) (array-apart 𝓤 H A W R fullShare tt 17 rs l₅ 0) $ fsplit ! $ feqL ! (λ _.
-        use1 W (‵ (cells (mem R) rs l₅ 0)) (whole-in 𝓤 H A W R rs l₅ 0) $
-        rewrite ! 0 (λ (xs : List EngineRecord). ‵ (cells (mem R) xs l₅ 0)) (sym (take-append-drop n rs)) refl $
-        use1 W (‵ (cells (mem R) ls l₅ 0) ⊛ ‵ (cells (mem R) ds l₅ (placed 0 (mem R .size) (length ls)))) (cut-app 𝓤 H A (mem R) ls ds l₅ 0) $ split ! $
+        move ! (31 ∷ []) $ fsplit ! $ use1 W (‵ (ShrSlice (named 0) κ₀ u8 .own f (fVal ∷ [])) ⊛ ‵ (ShrSlice (named 0) κ₀ u8 .own f (fVal ∷ []))) (shr-slice-copy 𝓤 H A W (named 0) κ₀ u8 .twice f (fVal ∷ [])) $ split ! $
+        move ! (2 ∷ []) $ fsplit ! $ move ! (1 ∷ []) $ fsplit ! $ move ! (1 ∷ []) $ fsplit ! $
+        -- [what the list owns; what the number owns; what the predecessor part owns; what the row part owns; what the file owns, twice; _14 (6); …; _6 (22); …; the tokens (36)]
+        move ! (22 ∷ 0 ∷ []) $ use1 W (‵ (fat fullShare (rawTy recordsTy) l₆ 0 (recordsVal rs))) (W .laws .at-raw fullShare recordsTy l₆ 0 (recordsVal rs)) $ fjoin ! $
+        fpack ! (List Val) (λ vs. fsep (cellAt fullShare (Rs .mir) vs l₆ 0) (Rs .own rs vs)) (recordsVal rs ∷ []) $
+        use1 W (‵ (arr-parts (shares R) 17 .part fullShare rs l₆ 0)) (array-apart 𝓤 H A W R fullShare tt 17 rs l₆ 0) $ fsplit ! $ feqL ! (λ _.
+        use1 W (‵ (cells (mem R) rs l₆ 0)) (whole-in 𝓤 H A W R rs l₆ 0) $
+        rewrite ! 0 (λ (xs : List EngineRecord). ‵ (cells (mem R) xs l₆ 0)) (sym (take-append-drop n rs)) refl $
+        use1 W (‵ (cells (mem R) ls l₆ 0) ⊛ ‵ (cells (mem R) ds l₆ (placed 0 (mem R .size) (length ls)))) (cut-app 𝓤 H A (mem R) ls ds l₆ 0) $ split ! $
         -- the records after those are put to what the number owns
         move ! (1 ∷ 2 ∷ []) $ fjoin ! $ move ! (1 ∷ []) $ lft-new ! tt (λ α. move ! (1 ∷ []) $
-        use1 W (later (some (λ (γ : GName). ‵ (MutSlice (named 2) (α ∷ []) R .own (l (α ∷ []) l₅ γ) (lVal (α ∷ []) l₅ γ ∷ [])) ⊛ ‵ (flent (α ∷ []) (Held R (length ls) l₅ 0 γ))))) (lends-slice 𝓤 H A W R (named 2) (α ∷ []) ls l₅ 0 l-room) $ await ! tt $ pick ! (λ γ.
-        split ! $ move ! (30 ∷ []) $ split ! $ move ! (1 ∷ []) $ split ! $
-        -- [κ₁'s token; true; κ₀'s; what the slice owns; the lender's part; the new token (5); the later records; what the table owns; what the file owns, twice; _11 (10); …]
-        move ! (0 ∷ 5 ∷ []) $ join ! $ move ! (2 ∷ 0 ∷ []) $ join ! $ move ! (5 ∷ 2 ∷ []) $ join ! $ move ! (5 ∷ 0 ∷ []) $ join ! $ move ! (1 ∷ 0 ∷ []) $
-        use2 W (raw (Into 𝓤 H A mem′ run .pre (to-into (α ∷ []) l₅ γ))) (goes-into (α ∷ []) l₅ γ) $
-        -- [what the callee asks; true; the lender's part; the later records; what the file owns; _11 (5); …; _10 (7); …; _8 (11); …; _1 (24); …]
-        calls-at ! fm (Into 𝓤 H A mem′ run) known (to-into (α ∷ []) l₅ γ) (and-then ! (load ! (from ! (stop !)) (look ! 24 refl)) (and-then ! (load ! (from ! (stop !)) (look ! 11 refl)) (and-then ! (load ! (from ! (stop !)) (look ! 7 refl)) (no-more !)))) (λ w.
-        use1 W (later (some (λ (a : Answer). ((‵ (flft κ₀ q₀) ⊛ ‵ (flft κ₁ q₁) ⊛ ‵ (flft (α ∷ []) fullShare) ⊛ ‵ ftrue) ⊛ ‵ (E.the-row .own a (w ∷ [])))
-        ⊛ raw (ensured 𝓤 H A plan-into.ended (plan-into.clauses 𝓤 H A mem′ run) (κ₀, (κ₁, (α ∷ [], tt))) (f, (t, (l (α ∷ []) l₅ γ, tt))) tt a)))) (id⊢ 𝓤 _) $ await ! tt $ pick ! (λ a.
-        split ! $ move ! (1 ∷ []) $ use1 W (some (λ (ws : Unit {0} × (List ℕ × (List EngineRecord × Unit {0}))). ‵ (lasts plan-into.ended (κ₀, (κ₁, (α ∷ [], tt))) (f, (t, (l (α ∷ []) l₅ γ, tt))) ws)
-        ⊛ raw (plan-into.clauses 𝓤 H A mem′ run (κ₀, (κ₁, (α ∷ [], tt))) (f, (t, (l (α ∷ []) l₅ γ, tt))) .ensures tt a (atExit plan-into.ended (κ₀, (κ₁, (α ∷ [], tt))) (f, (t, (l (α ∷ []) l₅ γ, tt))) ws)))) (id⊢ 𝓤 _) $ pick ! (λ ws.
+        use1 W (later (some (λ (γ : GName). ‵ (MutSlice (named 3) (α ∷ []) R .own (l (α ∷ []) l₆ γ) (lVal (α ∷ []) l₆ γ ∷ [])) ⊛ ‵ (flent (α ∷ []) (Held R (length ls) l₆ 0 γ))))) (lends-slice 𝓤 H A W R (named 3) (α ∷ []) ls l₆ 0 l-room) $ await ! tt $ pick ! (λ γ.
+        split ! $ move ! (37 ∷ []) $ split ! $ move ! (1 ∷ []) $ split ! $ move ! (1 ∷ []) $ split ! $
+        -- [κ₂'s token; true; κ₁'s; κ₀'s; what the slice owns; the lender's part; the new token (6); the later records; what the predecessor part owns; what the row part owns; what the file owns, twice; _14 (12); …]
+        move ! (0 ∷ 6 ∷ []) $ join ! $ move ! (2 ∷ 0 ∷ []) $ join ! $ move ! (2 ∷ 0 ∷ []) $ join ! $ move ! (5 ∷ 2 ∷ []) $ join ! $ move ! (5 ∷ 0 ∷ []) $ join ! $ move ! (5 ∷ 0 ∷ []) $ join ! $ move ! (1 ∷ 0 ∷ []) $
+        use2 W (raw (Into 𝓤 H A mem′ run .pre (to-into (α ∷ []) l₆ γ))) (goes-into (α ∷ []) l₆ γ) $
+        -- [what the callee asks; true; the lender's part; the later records; what the file owns; _14 (5); …; _13 (7); …; _11 (11); …; _9 (15); …; _1 (30); …]
+        calls-at ! fm (Into 𝓤 H A mem′ run) known (to-into (α ∷ []) l₆ γ) (and-then ! (load ! (from ! (stop !)) (look ! 30 refl)) (and-then ! (load ! (from ! (stop !)) (look ! 15 refl)) (and-then ! (load ! (from ! (stop !)) (look ! 11 refl)) (and-then ! (load ! (from ! (stop !)) (look ! 7 refl)) (no-more !))))) (λ w.
+        use1 W (later (some (λ (a : Answer). ((‵ (flft κ₀ q₀) ⊛ ‵ (flft κ₁ q₁) ⊛ ‵ (flft κ₂ q₂) ⊛ ‵ (flft (α ∷ []) fullShare) ⊛ ‵ ftrue) ⊛ ‵ (E.the-row .own a (w ∷ [])))
+        ⊛ raw (ensured 𝓤 H A plan-into.ended (plan-into.clauses 𝓤 H A mem′ run) (κ₀, (κ₁, (κ₂, (α ∷ [], tt)))) (f, (t, (p, (l (α ∷ []) l₆ γ, tt)))) tt a)))) (id⊢ 𝓤 _) $ await ! tt $ pick ! (λ a.
+        split ! $ move ! (1 ∷ []) $ use1 W (some (λ (ws : Unit {0} × (List ℕ × (List ℕ × (List EngineRecord × Unit {0})))). ‵ (lasts plan-into.ended (κ₀, (κ₁, (κ₂, (α ∷ [], tt)))) (f, (t, (p, (l (α ∷ []) l₆ γ, tt)))) ws)
+        ⊛ raw (plan-into.clauses 𝓤 H A mem′ run (κ₀, (κ₁, (κ₂, (α ∷ [], tt)))) (f, (t, (p, (l (α ∷ []) l₆ γ, tt)))) .ensures tt a (atExit plan-into.ended (κ₀, (κ₁, (κ₂, (α ∷ [], tt)))) (f, (t, (p, (l (α ∷ []) l₆ γ, tt)))) ws)))) (id⊢ 𝓤 _) $ pick ! (λ ws.
         split ! $ move ! (1 ∷ []) $ drop ! $ fsplit ! $ move ! (1 ∷ []) $ fsplit ! $ fsplit ! $ move ! (1 ∷ []) $ feqL ! (λ same-t.
+        move ! (1 ∷ []) $ fsplit ! $ fsplit ! $ move ! (1 ∷ []) $ feqL ! (λ same-p.
         move ! (1 ∷ []) $ fsplit ! $ fsplit ! $ move ! (1 ∷ []) $ feqL ! (λ same-l.
-        -- [the list's last list; true; the table's; true; the tokens and the answer (4); true; the lender's part; the later records; what the file owns; _11 (9); …]
-        move ! (4 ∷ []) $ split ! $ move ! (1 ∷ []) $ peeks ! E.the-row (Is E.the-row) (shows 𝓤 H A E.the-row) a (w ∷ []) (λ is.
-        land ! (from ! (stop !)) (init ! 20 refl (EL.lawful E.the-type E′.the-laws 𝓤 H A W tt .typed a _ is .0)) $
-        rewrite ! 20 (λ (v : Val). ‵ (fat fullShare E′.mir l₆ 0 v)) (ap only (EL.tells E.the-type E′.the-laws a (w ∷ []) is)) refl $ drop ! $
+        -- [the list's last list; true; the predecessor part's; the row part's; true; the tokens and the answer (5); true; the lender's part; the later records; what the file owns; _14 (10); …]
+        move ! (5 ∷ []) $ split ! $ move ! (1 ∷ []) $ peeks ! E.the-row (Is E.the-row) (shows 𝓤 H A E.the-row) a (w ∷ []) (λ is.
+        land ! (from ! (stop !)) (init ! 25 refl (EL.lawful E.the-type E′.the-laws 𝓤 H A W tt .typed a _ is .0)) $
+        rewrite ! 25 (λ (v : Val). ‵ (fat fullShare E′.mir l₇ 0 v)) (ap only (EL.tells E.the-type E′.the-laws a (w ∷ []) is)) refl $ drop ! $
         -- the lifetime is ended, and the slot taken back
-        split ! $ move ! (1 ∷ []) $ split ! $ move ! (1 ∷ []) $ split ! $ lft-end ! tt $
-        -- [the lifetime is dead; true; κ₁'s token; κ₀'s; the list's last list (4); true; the table's; true; true; the lender's part (9); the later records; what the file owns; _11 (12); …]
-        move ! (0 ∷ 9 ∷ 4 ∷ []) $ use3 W (later (‵ (Arr (mem R) (length ls) .lies (ws .1 .1 .0) l₅ 0))) (slice-back 𝓤 H A W R (α ∷ []) γ (ws .1 .1 .0) (length ls) l₅ 0) $ await ! tt $ fsplit ! $ drop ! $
-        -- [the lent records; true; κ₁'s token; κ₀'s; true; the table's last list; true; true; the later records (8); what the file owns; _11 (10); …]
-        move ! (8 ∷ []) $ fsplit ! $ rewrite ! 0 (λ (m : ℕ). ‵ (cells (mem R) ds l₅ (placed 0 (mem R .size) m))) (sym same-l) refl $
-        move ! (2 ∷ 0 ∷ []) $ use2 W (‵ (cells (mem R) (ws .1 .1 .0 ++ ds) l₅ 0)) (join-app 𝓤 H A (mem R) (ws .1 .1 .0) ds l₅ 0) $
-        use1 W (‵ (row R fullShare (ws .1 .1 .0 ++ ds) l₅ 0)) (whole-out 𝓤 H A W R (ws .1 .1 .0 ++ ds) l₅ 0) $ feqI ! ℕ (length (ws .1 .1 .0 ++ ds)) 17 (full-long (ws .1 .1 .0) same-l) $ fjoin ! $
-        use1 W (‵ (partAt Rs fullShare (ws .1 .1 .0 ++ ds) l₅ 0)) (array-whole 𝓤 H A W R fullShare 17 (ws .1 .1 .0 ++ ds) l₅ 0) $
-        fpick ! (λ vs. fsplit ! $ move ! (1 ∷ []) $ peeks ! Rs (Is Rs) (shows 𝓤 H A Rs) (ws .1 .1 .0 ++ ds) vs (λ are. drop ! $
-        rewrite ! 0 (λ (us : List Val). ‵ (cellAt fullShare (Rs .mir) us l₅ 0)) (told (ws .1 .1 .0 ++ ds) vs are) refl $
-        use1 W (‵ (fat fullShare recordsTy l₅ 0 (recordsVal (ws .1 .1 .0 ++ ds)))) (W .laws .raw-at fullShare recordsTy l₅ 0 (recordsVal (ws .1 .1 .0 ++ ds))) $
-        -- [_5; what the number owns; true; κ₁'s token; κ₀'s; true; the table's last list; true; true; what the file owns (9); _11 (10); …; _6 (20); …; _5's right (22); _4 (23); …; _3 (25); …; _2 (27); …; _1 (29); …; room for _0 (31); …]
-        assigns ! (of-opd ! (load ! (from ! (stop !)) (look ! 0 refl))) (from ! (stop !)) (init ! 10 refl (typed-records (ws .1 .1 .0 ++ ds) (is-list (ws .1 .1 .0 ++ ds) vs are))) $
-        assigns ! (agg ! (and-then ! (load ! (from ! (stop !)) (look ! 20 refl)) (and-then ! (load ! (from ! (stop !)) (look ! 10 refl)) (no-more !)))) (from ! (stop !))
-        (init ! 31 refl (LL.lawful P.the-type P′.the-laws 𝓤 H A W .typed (resultOf a (ws .1 .1 .0 ++ ds)) _ (is-result a (ws .1 .1 .0 ++ ds) (is-answer a w is) (is-list (ws .1 .1 .0 ++ ds) vs are)) .0)) $
-        returns ! (look ! 31 refl) $ forget ! 0 refl $ forget ! 10 refl $ forget ! 12 refl $ forget ! 14 refl $ forget ! 16 refl $ forget ! 18 refl $ forget ! 20 refl $ forget ! 23 refl $ forget ! 25 refl $ forget ! 27 refl $ forget ! 29 refl $ forget ! 31 refl $
-        move ! (31 ∷ 32 ∷ []) $ free1 ! $ move ! (29 ∷ 30 ∷ []) $ free1 ! $ move ! (27 ∷ 28 ∷ []) $ free1 ! $ move ! (25 ∷ 26 ∷ []) $ free1 ! $ move ! (23 ∷ 24 ∷ []) $ free1 ! $ move ! (0 ∷ 22 ∷ []) $ free1 ! $ move ! (19 ∷ 20 ∷ []) $ free1 ! $
-        move ! (17 ∷ 18 ∷ []) $ free1 ! $ move ! (15 ∷ 16 ∷ []) $ free1 ! $ move ! (13 ∷ 14 ∷ []) $ free1 ! $ move ! (11 ∷ 12 ∷ []) $ free1 ! $ move ! (9 ∷ 10 ∷ []) $ free1 ! $ free0 ! $
-        keep ! (3 ∷ 2 ∷ 8 ∷ 5 ∷ []) $ by ! (exits a (ws .1 .0) (ws .1 .1 .0 ++ ds) (is-answer a w is) (is-list (ws .1 .1 .0 ++ ds) vs are) same-t))))))))))))))))))))))))
+        split ! $ move ! (1 ∷ []) $ split ! $ move ! (1 ∷ []) $ split ! $ move ! (1 ∷ []) $ split ! $ lft-end ! tt $
+        -- [the lifetime is dead; true; κ₂'s token; κ₁'s; κ₀'s; the list's last list (5); true; the predecessor part's; the row part's; true; true; the lender's part (11); the later records; what the file owns; _14 (14); …]
+        move ! (0 ∷ 11 ∷ 5 ∷ []) $ use3 W (later (‵ (Arr (mem R) (length ls) .lies (ws .1 .1 .1 .0) l₆ 0))) (slice-back 𝓤 H A W R (α ∷ []) γ (ws .1 .1 .1 .0) (length ls) l₆ 0) $ await ! tt $ fsplit ! $ drop ! $
+        -- [the lent records; true; κ₂'s token; κ₁'s; κ₀'s; true; the predecessor part's last list; the row part's; true; true; the later records (10); what the file owns; _14 (12); …]
+        move ! (10 ∷ []) $ fsplit ! $ rewrite ! 0 (λ (m : ℕ). ‵ (cells (mem R) ds l₆ (placed 0 (mem R .size) m))) (sym same-l) refl $
+        move ! (2 ∷ 0 ∷ []) $ use2 W (‵ (cells (mem R) (ws .1 .1 .1 .0 ++ ds) l₆ 0)) (join-app 𝓤 H A (mem R) (ws .1 .1 .1 .0) ds l₆ 0) $
+        use1 W (‵ (row R fullShare (ws .1 .1 .1 .0 ++ ds) l₆ 0)) (whole-out 𝓤 H A W R (ws .1 .1 .1 .0 ++ ds) l₆ 0) $ feqI ! ℕ (length (ws .1 .1 .1 .0 ++ ds)) 17 (full-long (ws .1 .1 .1 .0) same-l) $ fjoin ! $
+        use1 W (‵ (partAt Rs fullShare (ws .1 .1 .1 .0 ++ ds) l₆ 0)) (array-whole 𝓤 H A W R fullShare 17 (ws .1 .1 .1 .0 ++ ds) l₆ 0) $
+        fpick ! (λ vs. fsplit ! $ move ! (1 ∷ []) $ peeks ! Rs (Is Rs) (shows 𝓤 H A Rs) (ws .1 .1 .1 .0 ++ ds) vs (λ are. drop ! $
+        rewrite ! 0 (λ (us : List Val). ‵ (cellAt fullShare (Rs .mir) us l₆ 0)) (told (ws .1 .1 .1 .0 ++ ds) vs are) refl $
+        use1 W (‵ (fat fullShare recordsTy l₆ 0 (recordsVal (ws .1 .1 .1 .0 ++ ds)))) (W .laws .raw-at fullShare recordsTy l₆ 0 (recordsVal (ws .1 .1 .1 .0 ++ ds))) $
+        -- [_6; what the number owns; true; κ₂'s token; κ₁'s; κ₀'s; true; the predecessor part's last list; the row part's; true; true; what the file owns (11); _14 (12); …; _7 (26); …; _6's right (28); _5 (29); …; _4 (31); …; _3 (33); …; _2 (35); …; _1 (37); …; room for _0 (39); …]
+        assigns ! (of-opd ! (load ! (from ! (stop !)) (look ! 0 refl))) (from ! (stop !)) (init ! 12 refl (typed-records (ws .1 .1 .1 .0 ++ ds) (is-list (ws .1 .1 .1 .0 ++ ds) vs are))) $
+        assigns ! (agg ! (and-then ! (load ! (from ! (stop !)) (look ! 26 refl)) (and-then ! (load ! (from ! (stop !)) (look ! 12 refl)) (no-more !)))) (from ! (stop !))
+        (init ! 39 refl (LL.lawful P.the-type P′.the-laws 𝓤 H A W .typed (resultOf a (ws .1 .1 .1 .0 ++ ds)) _ (is-result a (ws .1 .1 .1 .0 ++ ds) (is-answer a w is) (is-list (ws .1 .1 .1 .0 ++ ds) vs are)) .0)) $
+        returns ! (look ! 39 refl) $ forget ! 0 refl $ forget ! 12 refl $ forget ! 14 refl $ forget ! 16 refl $ forget ! 18 refl $ forget ! 20 refl $ forget ! 22 refl $ forget ! 24 refl $ forget ! 26 refl $ forget ! 29 refl $ forget ! 31 refl $ forget ! 33 refl $ forget ! 35 refl $ forget ! 37 refl $ forget ! 39 refl $
+        move ! (39 ∷ 40 ∷ []) $ free1 ! $ move ! (37 ∷ 38 ∷ []) $ free1 ! $ move ! (35 ∷ 36 ∷ []) $ free1 ! $ move ! (33 ∷ 34 ∷ []) $ free1 ! $ move ! (31 ∷ 32 ∷ []) $ free1 ! $ move ! (29 ∷ 30 ∷ []) $ free1 ! $ move ! (0 ∷ 28 ∷ []) $ free1 ! $
+        move ! (25 ∷ 26 ∷ []) $ free1 ! $ move ! (23 ∷ 24 ∷ []) $ free1 ! $ move ! (21 ∷ 22 ∷ []) $ free1 ! $ move ! (19 ∷ 20 ∷ []) $ free1 ! $ move ! (17 ∷ 18 ∷ []) $ free1 ! $ move ! (15 ∷ 16 ∷ []) $ free1 ! $ move ! (13 ∷ 14 ∷ []) $ free1 ! $ move ! (11 ∷ 12 ∷ []) $ free1 ! $ free0 ! $
+        keep ! (4 ∷ 3 ∷ 2 ∷ 10 ∷ 7 ∷ 6 ∷ []) $ by ! (exits a (ws .1 .0) (ws .1 .1 .0) (ws .1 .1 .1 .0 ++ ds) (is-answer a w is) (is-list (ws .1 .1 .1 .0 ++ ds) vs are) same-t same-p))))))))))))))))))))))))))))
       where
         told : (zs : List EngineRecord) (vs : List Val) → Is Rs zs vs → vs ≡ recordsVal zs ∷ []
         told = array-tells R recordVals (LL.tells T.the-type T′.the-laws) 17
@@ -281,13 +287,13 @@ module _ {M : Type 1} (𝓤 : URA M) (H : Heap 𝓤) (A : Atoms 𝓤) (W : Given
 module _ {M : Type 1} (𝓤 : URA M) (H : Heap 𝓤) (A : Atoms 𝓤) (W : Given 𝓤 H A) (mem′ : Memory → SProp 𝓤) (run : Routine → Fun 𝓤) (𝓣 : Tables 𝓤 H) (known : Triple 𝓤 (𝓣 .C #planner·plan-into) (Into 𝓤 H A mem′ run)) where
   front-walks : Walks 𝓤 H A plan-front.ended stayed (WpFn 𝓤 H (𝓣 .C) (𝓣 .Λ) code.function) (plan-front.clauses 𝓤 H A mem′ run)
   front-walks = walked 𝓤 H A plan-front.ended stayed (plan-front.clauses 𝓤 H A mem′ run) (WpFn 𝓤 H (𝓣 .C) (𝓣 .Λ) code.function)
-      (λ κs. (slice-vals, (slice-vals, (array-vals recordVals, (uint-vals w64, tt))))) (λ κs. (shr-slice-tells (named 0) (κs .0) u8, (mut-slice-tells (named 1) (κs .1 .0) u16, (array-tells R recordVals (LL.tells T.the-type T′.the-laws) 17, (uint-tells w64, tt)))))
-      (λ κs qs bounds a g are. needs 𝓤 (a .1 .1 .1 .0 ≤ 17) _ (λ few.
-      walk 𝓤 H A W mem′ run (κs .0) (κs .1 .0) (qs .0) (qs .1 .0) (a .0) (a .1 .0) (a .1 .1 .0) (a .1 .1 .1 .0) (are .0 .0 .1) (are .1 .0 .0 .1) (are .1 .1 .0) (are .1 .1 .1 .0 .1) few (𝓣 .C) (𝓣 .Λ) (fmOf 𝓤 H (W .laws) 𝓣) known))
+      (λ κs. (slice-vals, (slice-vals, (slice-vals, (array-vals recordVals, (uint-vals w64, tt)))))) (λ κs. (shr-slice-tells (named 0) (κs .0) u8, (mut-slice-tells (named 1) (κs .1 .0) u16, (mut-slice-tells (named 2) (κs .1 .1 .0) u16, (array-tells R recordVals (LL.tells T.the-type T′.the-laws) 17, (uint-tells w64, tt))))))
+      (λ κs qs bounds a g are. needs 𝓤 (a .1 .1 .1 .1 .0 ≤ 17) _ (λ few.
+      walk 𝓤 H A W mem′ run (κs .0) (κs .1 .0) (κs .1 .1 .0) (qs .0) (qs .1 .0) (qs .1 .1 .0) (a .0) (a .1 .0) (a .1 .1 .0) (a .1 .1 .1 .0) (a .1 .1 .1 .1 .0) (are .0 .0 .1) (are .1 .0 .0 .1) (are .1 .1 .0 .0 .1) (are .1 .1 .1 .0) (are .1 .1 .1 .1 .0 .1) few (𝓣 .C) (𝓣 .Λ) (fmOf 𝓤 H (W .laws) 𝓣) known))
 
   front-meets : Meets 𝓤 H A plan-front.signature (WpFn 𝓤 H (𝓣 .C) (𝓣 .Λ) code.function) (plan-front.spec 𝓤 H A mem′ run)
   front-meets = walk-meets 𝓤 H A plan-front.ended stayed W
-      (goes-none-slice 𝓤 H A W 2 (0 ∷ []) tt (plain (λ _. u8)) yes, (goes-gave-slice 𝓤 H A W 2 1 tt (plain (λ _. u16)), (goes-none 𝓤 H A W 2 (λ _. Rs) yes (λ κs x f. refl), (goes-none 𝓤 H A W 2 (λ _. usize) yes (λ κs x f. refl), tt))))
+      (goes-none-slice 𝓤 H A W 3 (0 ∷ []) tt (plain (λ _. u8)) yes, (goes-gave-slice 𝓤 H A W 3 1 tt (plain (λ _. u16)), (goes-gave-slice 𝓤 H A W 3 2 tt (plain (λ _. u16)), (goes-none 𝓤 H A W 3 (λ _. Rs) yes (λ κs x f. refl), (goes-none 𝓤 H A W 3 (λ _. usize) yes (λ κs x f. refl), tt)))))
       (plan-front.clauses 𝓤 H A mem′ run) (WpFn 𝓤 H (𝓣 .C) (𝓣 .Λ) code.function) (WpFn-mono 𝓤 H (W .laws) 𝓣 code.function) front-walks
 
 pub plan-front-spec : {M : Type 1} → stated.statement M

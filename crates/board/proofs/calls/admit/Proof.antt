@@ -4,14 +4,19 @@ use borrow.Author.Needs.{needs}
 use lib.ListN.{length}
 use Rattle.system.specs.Outcome.{passes, checkedOf}
 use Rattle.board.specs.declared.Place.the-variants.{Engine}
+use Rattle.partition.specs.Lent.{Lent, lent}
 use Rattle.board.specs.Calls.{checkNewcomer, firstEngine, admitOf}
 use Rattle.board.proofs.Exits.{checks-fail, checks-pass, newcomer-passed, newcomer-long, found-takes, admitted-joins, admitted-nowhere}
 use Rattle.board.proofs.Promises.{admit-promises}
 use Rattle.board.proofs.calls.admit.Statement.{statement}
 use Rattle.board.proofs.calls.admit.Tie as tie
 
+-- the parts as lent
+abbrev parts : tie.Start → Lent
+parts c = lent (c .args .rows .now) (c .args .predecessors .now)
+
 passed : (c : tie.After-enum-told) →
-    passes ≡ checkNewcomer (c .before .before .before .before .args .b) (c .before .before .before .before .args .t) (length (c .before .before .before .before .args .table .now))
+    passes ≡ checkNewcomer (c .before .before .before .before .before .args .b) (c .before .before .before .before .before .args .t) (length (c .before .before .before .before .before .args .rows .now)) (length (c .before .before .before .before .before .args .predecessors .now))
 passed c = ap checkedOf (sym (c .enum-told .given .1)) ∙ c .before .before .check-newcomer .ensures
 
 check-newcomer-requires : tie.Need-check-newcomer-requires
@@ -26,10 +31,11 @@ refuse-requires c κs = search needs
 returns : tie.Need-returns
 unfolding admitOf
 returns c =
-    let a = c .before .before .before .before .before .before .args in
+    let s = c .before .before .before .before .before .before .before in
+    let a = s .args in
     let p = c .before .before .check .given in
-    admit-promises (a .b) (a .t) (a .table .now) _ _
-    (checks-fail (a .b) (a .table .now) _ (c .refuse .result) (checkNewcomer (a .b) (a .t) (length (a .table .now))) (p .0 .0)
+    admit-promises (a .b) (a .t) (parts s) _ _
+    (checks-fail (a .b) (parts s) _ (c .refuse .result) (checkNewcomer (a .b) (a .t) (length (a .rows .now)) (length (a .predecessors .now))) (p .0 .0)
     (ap checkedOf (sym (p .1)) ∙ c .before .before .before .before .check-newcomer .ensures)
     (c .refuse .ensures .0)
     (c .refuse .ensures .1))
@@ -38,7 +44,7 @@ enum-told : tie.Need-enum-told
 enum-told c = search needs
 
 first-engine-requires : tie.Need-first-engine-requires
-first-engine-requires c κs = newcomer-passed _ _ (c .before .before .before .before .args .table .now) (passed c)
+first-engine-requires c κs = newcomer-passed _ _ (parts (c .before .before .before .before .before)) (passed c)
 
 enum-known-e : tie.Need-enum-known-e
 enum-known-e c = search needs
@@ -48,36 +54,41 @@ enum-told-2 c = search needs
 
 no-engine-requires : tie.Need-no-engine-requires
 no-engine-requires c κs =
-    let h = c .before .before .before .before in
-    let table = h .before .before .before .before .args .table .now in
+    let h = c .before .before .before .before .before in
+    let table = parts (h .before .before .before .before .before) in
     (newcomer-passed _ _ table (passed h), newcomer-long _ _ table (passed h))
 
 same-length : tie.Need-same-length
 same-length c = search needs
 
+same-length-2 : tie.Need-same-length-2
+same-length-2 c = search needs
+
 returns-2 : tie.Need-returns-2
 unfolding admitOf
 returns-2 c =
-    let n = c .before .before in
-    let told = n .before .before in
+    let n = c .before .before .before .before in
+    let told = n .before .before .before in
     let h = told .before .before .before in
-    let a = h .before .before .before .before .args in
-    admit-promises (a .b) (a .t) (a .table .now) _ _
-    (checks-pass (a .b) (a .table .now) _ (n .no-engine .result) (checkNewcomer (a .b) (a .t) (length (a .table .now))) _ (passed h)
-    (admitted-nowhere (a .b) (a .t) (a .table .now) (firstEngine (a .b) (a .t)) (n .no-engine .result) _
+    let s = h .before .before .before .before .before in
+    let a = s .args in
+    admit-promises (a .b) (a .t) (parts s) _ _
+    (checks-pass (a .b) (parts s) _ (n .no-engine .result) (checkNewcomer (a .b) (a .t) (length (a .rows .now)) (length (a .predecessors .now))) _ (passed h)
+    (admitted-nowhere (a .b) (a .t) (parts s) (firstEngine (a .b) (a .t)) (n .no-engine .result) _
     (sym (told .enum-told2 .given .1) ∙ told .before .before .first-engine .ensures)
     (n .no-engine .ensures)))
 
 -- where the search came to an engine: it takes the newcomer
-found : (c : tie.After-e) → Engine (c .e .given .0 .0) ≡ firstEngine (c .before .before .before .before .before .before .before .args .b) (c .before .before .before .before .before .before .before .args .t)
+found : (c : tie.After-e) → Engine (c .e .given .0 .0) ≡ firstEngine (c .before .before .before .before .before .before .before .before .args .b) (c .before .before .before .before .before .before .before .before .args .t)
 found c = sym (c .e .given .1) ∙ c .before .before .first-engine .ensures
 
 join-requires : tie.Need-join-requires
 join-requires c κs =
     let at = c .before in
     let h = at .before .before .before in
-    let a = h .before .before .before .before .args in
-    let n = newcomer-passed (a .b) (a .t) (a .table .now) (passed h) in
+    let s = h .before .before .before .before .before in
+    let a = s .args in
+    let n = newcomer-passed (a .b) (a .t) (parts s) (passed h) in
     let t = found-takes (a .b) (a .t) (at .e .given .0 .0) (n .isTrue) (found at) in
     (n, t .0, t .1)
 
@@ -86,10 +97,11 @@ unfolding admitOf
 returns-3 c =
     let at = c .before .before in
     let h = at .before .before .before in
-    let a = h .before .before .before .before .args in
-    admit-promises (a .b) (a .t) (a .table .now) _ _
-    (checks-pass (a .b) (a .table .now) _ (c .join .result) (checkNewcomer (a .b) (a .t) (length (a .table .now))) _ (passed h)
-    (admitted-joins (a .b) (a .t) (a .table .now) (firstEngine (a .b) (a .t)) (c .join .result) (at .e .given .0 .0) (found at) (c .join .ensures .0) (c .join .ensures .1)))
+    let s = h .before .before .before .before .before in
+    let a = s .args in
+    admit-promises (a .b) (a .t) (parts s) _ _
+    (checks-pass (a .b) (parts s) _ (c .join .result) (checkNewcomer (a .b) (a .t) (length (a .rows .now)) (length (a .predecessors .now))) _ (passed h)
+    (admitted-joins (a .b) (a .t) (parts s) (firstEngine (a .b) (a .t)) (c .join .result) (at .e .given .0 .0) (found at) (c .join .ensures .0) (c .join .ensures .1)))
 
 pub admit-spec : {M : Type 1} → statement M
 admit-spec =
@@ -105,6 +117,7 @@ admit-spec =
     enum-told-2
     no-engine-requires
     same-length
+    same-length-2
     returns-2
     join-requires
     returns-3)

@@ -3,6 +3,7 @@ use mathlib.Core.Path.{_≡_, refl, ap, sym, _∙_}
 use mathlib.Core.List.{[]}
 use borrow.Author.Needs.{needs}
 use Rattle.system.specs.Outcome.{outcomeOf, passes, checkedOf}
+use Rattle.partition.specs.Lent.{lent}
 use Rattle.board.specs.Calls.{checkRetire, retireOf}
 use Rattle.board.proofs.Exits.{checks-fail, checks-pass, leaver-passed}
 use Rattle.board.proofs.Promises.{retire-promises}
@@ -27,7 +28,7 @@ returns c =
     let a = c .before .before .before .before .before .args in
     let p = c .before .before .check .given in
     retire-promises (a .b) (a .t) (a .e) _
-    (checks-fail (a .b) [] _ (c .refuse .result) (checkRetire (a .b) (a .t) (a .e)) (p .0 .0)
+    (checks-fail (a .b) (lent [] []) _ (c .refuse .result) (checkRetire (a .b) (a .t) (a .e)) (p .0 .0)
     (ap checkedOf (sym (p .1)) ∙ c .before .before .before .before .check-retire .ensures)
     (c .refuse .ensures .0)
     (c .refuse .ensures .1))
@@ -43,7 +44,7 @@ unfolding retireOf
 returns-2 c =
     let a = c .before .before .before .before .args in
     retire-promises (a .b) (a .t) (a .e) _
-    (checks-pass (a .b) [] _ (c .leave .result) (checkRetire (a .b) (a .t) (a .e)) [] (passed (c .before))
+    (checks-pass (a .b) (lent [] []) _ (c .leave .result) (checkRetire (a .b) (a .t) (a .e)) (lent [] []) (passed (c .before))
     (record { answer = ap outcomeOf (c .leave .ensures .0); board = c .leave .ensures .1; table = refl }))
 
 pub retire-spec : {M : Type 1} → statement M

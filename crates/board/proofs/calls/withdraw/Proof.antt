@@ -3,6 +3,7 @@ use mathlib.Core.Path.{_≡_, refl, ap, sym, _∙_}
 use mathlib.Core.List.{[]}
 use borrow.Author.Needs.{needs}
 use Rattle.system.specs.Outcome.{outcomeOf, passes, checkedOf}
+use Rattle.partition.specs.Lent.{lent}
 use Rattle.board.specs.Calls.{checkWithdraw, withdrawOf}
 use Rattle.board.proofs.Ready.{engine-in}
 use Rattle.board.proofs.Exits.{checks-fail, checks-pass, withdraw-passed}
@@ -28,7 +29,7 @@ returns c =
     let a = c .before .before .before .before .before .args in
     let p = c .before .before .check .given in
     withdraw-promises (a .b) (a .e) _
-    (checks-fail (a .b) [] _ (c .refuse .result) (checkWithdraw (a .b) (a .e)) (p .0 .0)
+    (checks-fail (a .b) (lent [] []) _ (c .refuse .result) (checkWithdraw (a .b) (a .e)) (p .0 .0)
     (ap checkedOf (sym (p .1)) ∙ c .before .before .before .before .check-withdraw .ensures)
     (c .refuse .ensures .0)
     (c .refuse .ensures .1))
@@ -44,7 +45,7 @@ unfolding withdrawOf
 returns-2 c =
     let a = c .before .before .before .before .args in
     withdraw-promises (a .b) (a .e) _
-    (checks-pass (a .b) [] _ (c .move-engine .result) (checkWithdraw (a .b) (a .e)) [] (passed (c .before))
+    (checks-pass (a .b) (lent [] []) _ (c .move-engine .result) (checkWithdraw (a .b) (a .e)) (lent [] []) (passed (c .before))
     (record { answer = ap outcomeOf (c .move-engine .ensures .0); board = c .move-engine .ensures .1; table = refl }))
 
 pub withdraw-spec : {M : Type 1} → statement M

@@ -19,7 +19,7 @@ board-passed c = ap checkedOf (sym (c .enum-told .given .1)) ∙ c .before .befo
 type-passed : (c : tie.After-enum-told2) → passes ≡ typeCheck (c .before .before .before .before .before .before .before .args .b .system) (c .before .before .before .before .before .before .before .args .t)
 type-passed c = ap checkedOf (sym (c .enum-told2 .given .1)) ∙ c .before .before .type-check .ensures
 
-table-passed : (c : tie.After-enum-told3) → passes ≡ roomCheck (c .before .before .before .before .before .before .before .before .before .before .args .b .system) (c .before .before .before .before .before .before .before .before .before .before .args .room)
+table-passed : (c : tie.After-enum-told3) → passes ≡ roomCheck (c .before .before .before .before .before .before .before .before .before .before .args .b .system) (c .before .before .before .before .before .before .before .before .before .before .args .rows) (c .before .before .before .before .before .before .before .before .before .before .args .predecessors)
 table-passed c = ap checkedOf (sym (c .enum-told3 .given .1)) ∙ c .before .before .table-check .ensures
 
 is-true : (c : tie.After-enum-told) → trueBoard (c .before .before .before .args .b) ≡ true

@@ -1,14 +1,14 @@
--- The loop's invariant: `column` is at most 1024.
+-- The loop's invariant: `column` is at most 4096.
 use Prim.Native.Nat.{_-_, _≤_}
 use borrow.Author.Needs.{needs}
 use Rattle.brute.proofs.recovery.column_of.Statement.{statement}
 use Rattle.brute.proofs.recovery.column_of.Tie as tie
 
 abbrev Inv-loop : tie.InvT-loop
-Inv-loop load bases at₀ column₀ at column = column ≤ 1024
+Inv-loop load bases at₀ column₀ at column = column ≤ 4096
 
 abbrev μ-loop : tie.MeasureT-loop
-μ-loop load bases at₀ column₀ at column = 1024 - column
+μ-loop load bases at₀ column₀ at column = 4096 - column
 
 ceilings-of-requires : tie.Need-ceilings-of-requires Inv-loop μ-loop
 ceilings-of-requires c κs = search needs

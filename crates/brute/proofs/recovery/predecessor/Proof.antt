@@ -1,14 +1,14 @@
--- The loop's invariant: `turn` is at most 1024.
+-- The loop's invariant: `turn` is at most 4096.
 use Prim.Native.Nat.{_-_, _≤_}
 use borrow.Author.Needs.{needs}
 use Rattle.brute.proofs.recovery.predecessor.Statement.{statement}
 use Rattle.brute.proofs.recovery.predecessor.Tie as tie
 
 abbrev Inv-loop : tie.InvT-loop
-Inv-loop y load rows bases at₀ turn₀ at turn = turn ≤ 1024
+Inv-loop y load rows bases at₀ turn₀ at turn = turn ≤ 4096
 
 abbrev μ-loop : tie.MeasureT-loop
-μ-loop y load rows bases at₀ turn₀ at turn = 1024 - turn
+μ-loop y load rows bases at₀ turn₀ at turn = 4096 - turn
 
 bases-of-requires : tie.Need-bases-of-requires Inv-loop μ-loop
 bases-of-requires c κs = search needs

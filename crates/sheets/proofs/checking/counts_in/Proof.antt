@@ -5,7 +5,7 @@ use native.Mathlib.Omega.{arith}
 use lib.ListN.{length, take, length-set}
 use lib.Seq.{take-all}
 use borrow.Author.Needs.{needs}
-use Rattle.table.specs.Table.{upTo}
+use Rattle.table.specs.Parts.{upTo}
 use Rattle.sheets.specs.Sheet.{statedCount}
 use Rattle.sheets.proofs.Steps.{upTo-turn}
 use Rattle.sheets.proofs.checking.counts_in.Statement.{statement}

@@ -1,4 +1,4 @@
--- The loop's invariant: `i` is at most 1022, and the lent table is as long as it was.
+-- The loop's invariant: `i` is at most more, which is at most 4094, and the lent parts are as long as they were.
 use Prim.Native.Nat.{_-_, _≤_}
 use mathlib.Core.Path.{_≡_}
 use lib.ListN.{length}
@@ -7,10 +7,10 @@ use Rattle.trial_limits.proofs.calls.admit_all.Statement.{statement}
 use Rattle.trial_limits.proofs.calls.admit_all.Tie as tie
 
 abbrev Inv-loop : tie.InvT-loop
-Inv-loop t table₀ turn₀ i₀ table turn i = (i ≤ 1022) × (length table ≡ length table₀)
+Inv-loop t more rows₀ predecessors₀ turn₀ i₀ rows predecessors turn i = (i ≤ more) × (more ≤ 4094) × (length rows ≡ length rows₀) × (length predecessors ≡ length predecessors₀)
 
 abbrev μ-loop : tie.MeasureT-loop
-μ-loop t table₀ turn₀ i₀ table turn i = 1022 - i
+μ-loop t more rows₀ predecessors₀ turn₀ i₀ rows predecessors turn i = more - i
 
 admit-requires : tie.Need-admit-requires Inv-loop μ-loop
 admit-requires c κs = search needs
@@ -33,6 +33,9 @@ loop-again c = search needs
 same-length : tie.Need-same-length Inv-loop μ-loop
 same-length c = search needs
 
+same-length-2 : tie.Need-same-length-2 Inv-loop μ-loop
+same-length-2 c = search needs
+
 returns : tie.Need-returns Inv-loop μ-loop
 returns c = search needs
 
@@ -49,4 +52,5 @@ admit-all-spec =
     loop-less
     loop-again
     same-length
+    same-length-2
     returns)

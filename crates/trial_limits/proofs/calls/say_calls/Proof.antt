@@ -1,4 +1,4 @@
--- The loop's invariant: `i` is at most 64, and the lent table is as long as it was.
+-- The loop's invariant: `i` is at most 64, and the lent parts are as long as they were.
 use Prim.Native.Nat.{_-_, _≤_}
 use mathlib.Core.Path.{_≡_}
 use lib.ListN.{length}
@@ -7,10 +7,10 @@ use Rattle.trial_limits.proofs.calls.say_calls.Statement.{statement}
 use Rattle.trial_limits.proofs.calls.say_calls.Tie as tie
 
 abbrev Inv-loop : tie.InvT-loop
-Inv-loop script table₀ board₀ i₀ table board i = (i ≤ 64) × (length table ≡ length table₀)
+Inv-loop script rows₀ predecessors₀ board₀ i₀ rows predecessors board i = (i ≤ 64) × (length rows ≡ length rows₀) × (length predecessors ≡ length predecessors₀)
 
 abbrev μ-loop : tie.MeasureT-loop
-μ-loop script table₀ board₀ i₀ table board i = 64 - i
+μ-loop script rows₀ predecessors₀ board₀ i₀ rows predecessors board i = 64 - i
 
 loop-holds : tie.Need-loop-holds Inv-loop μ-loop
 loop-holds c = search needs
@@ -33,6 +33,9 @@ loop-again c = search needs
 same-length : tie.Need-same-length Inv-loop μ-loop
 same-length c = search needs
 
+same-length-2 : tie.Need-same-length-2 Inv-loop μ-loop
+same-length-2 c = search needs
+
 returns : tie.Need-returns Inv-loop μ-loop
 returns c = search needs
 
@@ -49,4 +52,5 @@ say-calls-spec =
     loop-less
     loop-again
     same-length
+    same-length-2
     returns)

@@ -1,14 +1,17 @@
--- The loop's invariant: `p` is at most columns.
+-- The loop's invariant: `p` is at most end.
 use Prim.Native.Nat.{_-_, _≤_}
 use borrow.Author.Needs.{needs}
 use Rattle.trial_pairs.proofs.count.cell_at.Statement.{statement}
 use Rattle.trial_pairs.proofs.count.cell_at.Tie as tie
 
 abbrev Inv-loop : tie.InvT-loop
-Inv-loop y loads columns before c tried₀ p₀ tried p = p ≤ columns
+Inv-loop y loads rows row c tried₀ end p₀ tried p = p ≤ end
 
 abbrev μ-loop : tie.MeasureT-loop
-μ-loop y loads columns before c tried₀ p₀ tried p = columns - p
+μ-loop y loads rows row c tried₀ end p₀ tried p = end - p
+
+add-end : tie.Need-add-end Inv-loop μ-loop
+add-end c = search needs
 
 loop-holds : tie.Need-loop-holds Inv-loop μ-loop
 loop-holds c = search needs
@@ -28,8 +31,8 @@ element-copy-out-if2 c = search needs
 difference-fits-requires : tie.Need-difference-fits-requires Inv-loop μ-loop
 difference-fits-requires c κs = search needs
 
-cast-t16 : tie.Need-cast-t16 Inv-loop μ-loop
-cast-t16 c = search needs
+cast-t17 : tie.Need-cast-t17 Inv-loop μ-loop
+cast-t17 c = search needs
 
 returns : tie.Need-returns Inv-loop μ-loop
 returns c = search needs
@@ -52,13 +55,14 @@ cell-at-spec =
     (tie.spec
     Inv-loop
     μ-loop
+    add-end
     loop-holds
     no-greater-requires
     wrapping-add-usize-requires
     mul-if2
     element-copy-out-if2
     difference-fits-requires
-    cast-t16
+    cast-t17
     returns
     add-p
     loop-less

@@ -1,14 +1,14 @@
--- The loop's invariant: `c` is at most 1024.
+-- The loop's invariant: `c` is at most 4096.
 use Prim.Native.Nat.{_-_, _≤_}
 use borrow.Author.Needs.{needs}
 use Rattle.trial_pairs.proofs.count.loads_of.Statement.{statement}
 use Rattle.trial_pairs.proofs.count.loads_of.Tie as tie
 
 abbrev Inv-loop : tie.InvT-loop
-Inv-loop bases counts₀ digits₀ c₀ counts digits c = c ≤ 1024
+Inv-loop bases counts₀ digits₀ c₀ counts digits c = c ≤ 4096
 
 abbrev μ-loop : tie.MeasureT-loop
-μ-loop bases counts₀ digits₀ c₀ counts digits c = 1024 - c
+μ-loop bases counts₀ digits₀ c₀ counts digits c = 4096 - c
 
 ceilings-of-requires : tie.Need-ceilings-of-requires Inv-loop μ-loop
 ceilings-of-requires c κs = search needs

@@ -1,14 +1,14 @@
--- The loop's invariant: `i` is at most 2048.
+-- The loop's invariant: `i` is at most 4096.
 use Prim.Native.Nat.{_-_, _≤_}
 use borrow.Author.Needs.{needs}
 use Rattle.trial_sheets.proofs.calls.dirty_table.Statement.{statement}
 use Rattle.trial_sheets.proofs.calls.dirty_table.Tie as tie
 
 abbrev Inv-loop : tie.InvT-loop
-Inv-loop table₀ i₀ table i = i ≤ 2048
+Inv-loop rows₀ predecessors₀ i₀ rows predecessors i = i ≤ 4096
 
 abbrev μ-loop : tie.MeasureT-loop
-μ-loop table₀ i₀ table i = 2048 - i
+μ-loop rows₀ predecessors₀ i₀ rows predecessors i = 4096 - i
 
 loop-holds : tie.Need-loop-holds Inv-loop μ-loop
 loop-holds c = search needs
@@ -16,11 +16,23 @@ loop-holds c = search needs
 dirt-requires : tie.Need-dirt-requires Inv-loop μ-loop
 dirt-requires c κs = search needs
 
-mul-table : tie.Need-mul-table Inv-loop μ-loop
-mul-table c = search needs
+mul-rows : tie.Need-mul-rows Inv-loop μ-loop
+mul-rows c = search needs
 
-array-write-table : tie.Need-array-write-table Inv-loop μ-loop
-array-write-table c = search needs
+array-write-rows : tie.Need-array-write-rows Inv-loop μ-loop
+array-write-rows c = search needs
+
+add-dirt : tie.Need-add-dirt Inv-loop μ-loop
+add-dirt c = search needs
+
+dirt-requires-2 : tie.Need-dirt-requires-2 Inv-loop μ-loop
+dirt-requires-2 c κs = search needs
+
+mul-predecessors : tie.Need-mul-predecessors Inv-loop μ-loop
+mul-predecessors c = search needs
+
+array-write-predecessors : tie.Need-array-write-predecessors Inv-loop μ-loop
+array-write-predecessors c = search needs
 
 add-i : tie.Need-add-i Inv-loop μ-loop
 add-i c = search needs
@@ -42,8 +54,12 @@ dirty-table-spec =
     μ-loop
     loop-holds
     dirt-requires
-    mul-table
-    array-write-table
+    mul-rows
+    array-write-rows
+    add-dirt
+    dirt-requires-2
+    mul-predecessors
+    array-write-predecessors
     add-i
     loop-less
     loop-again

@@ -1,14 +1,14 @@
--- The loop's invariant: `i` is at most 512.
+-- The loop's invariant: `i` is at most 4096.
 use Prim.Native.Nat.{_-_, _≤_}
 use borrow.Author.Needs.{needs}
 use Rattle.trial_truth.proofs.calls.untouched.Statement.{statement}
 use Rattle.trial_truth.proofs.calls.untouched.Tie as tie
 
 abbrev Inv-loop : tie.InvT-loop
-Inv-loop table same₀ i₀ same i = i ≤ 512
+Inv-loop rows predecessors same₀ i₀ same i = i ≤ 4096
 
 abbrev μ-loop : tie.MeasureT-loop
-μ-loop table same₀ i₀ same i = 512 - i
+μ-loop rows predecessors same₀ i₀ same i = 4096 - i
 
 loop-holds : tie.Need-loop-holds Inv-loop μ-loop
 loop-holds c = search needs
@@ -18,6 +18,12 @@ mul-same c = search needs
 
 array-read-same : tie.Need-array-read-same Inv-loop μ-loop
 array-read-same c = search needs
+
+mul-same-2 : tie.Need-mul-same-2 Inv-loop μ-loop
+mul-same-2 c = search needs
+
+array-read-same-2 : tie.Need-array-read-same-2 Inv-loop μ-loop
+array-read-same-2 c = search needs
 
 add-i : tie.Need-add-i Inv-loop μ-loop
 add-i c = search needs
@@ -40,6 +46,8 @@ untouched-spec =
     loop-holds
     mul-same
     array-read-same
+    mul-same-2
+    array-read-same-2
     add-i
     loop-less
     loop-again
