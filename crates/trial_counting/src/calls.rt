@@ -1,4 +1,6 @@
 // The call over a part that is dirty, and of which first entries are lent; and what was left in it.
+ghost use Rattle.system.specs.Layout.{readFile};
+ghost use Rattle.counting.specs.Meaning.{CountPromises};
 use counting::CountAnswer;
 use counting::count_assignments;
 use trial::files::first_of;
@@ -38,12 +40,19 @@ fn kept_from(part: [u64; LONG]) -> usize {
     from
 }
 
+// The call with all that it promises, of every file and every part: a contract that said it of some alone would not prove this.
+fn as_promised(file: &[u8], part: &mut [u64]) -> CountAnswer
+    ensures { λ r. ⌜ CountPromises (readFile (now (file .entry))) (now (part .entry)) r (now (part .exit)) ⌝ }
+{
+    count_assignments(file, part)
+}
+
 // The count over the first entries of the part, or all where it has fewer.
 fn count_over(file: &[u8], part: &mut [u64], lent: usize) -> CountAnswer {
     if lent < part.len() {
-        return count_assignments(file, &mut part[0..lent]);
+        return as_promised(file, &mut part[0..lent]);
     }
-    count_assignments(file, part)
+    as_promised(file, part)
 }
 
 // The assignments of a file counted, with so many entries lent.
