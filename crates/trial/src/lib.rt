@@ -1,6 +1,7 @@
 // What the test programs share beside the search of crate `brute`: systems made, changed by words and drawn, the bytes of a system file and a reader of
-// them, written from documents 01 and 02 and apart from the code under test, whose structs alone they share; tables, the words of their cases, and
-// lines. It needs nothing of `brute`, so that the two are proved side by side.
+// them, written from documents 01 and 02 and apart from the code under test, whose structs alone they share; tables, buffers, the words of their
+// cases, and lines. It needs nothing of `brute`, so that the two are proved side by side.
+pub mod buffers;
 pub mod changes;
 pub mod files;
 pub mod say;

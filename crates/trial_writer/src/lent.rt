@@ -1,9 +1,11 @@
-// Buffers of 256 bytes, of which a first part is lent: what stands in them before a call of the writer, and whether the call left what it
-// must there.
+// The call of the writer over a buffer of 256 bytes, of which a first part is lent; and whether it left what it must there.
 use crate::judge;
 use std::num::wrapping_add_usize;
 use system::Answer;
 use system::System;
+use trial::buffers::kept_from;
+use trial::buffers::old_bytes;
+use trial::buffers::same_front;
 use trial::files;
 use trial::say;
 use writer::write_system;
@@ -12,19 +14,6 @@ use writer::write_system;
 pub struct Call {
     pub answer: Answer,
     pub bytes: [u8; 256],
-}
-
-// What stands at a place before a call: never 0, and another byte for each `fill` below 127.
-fn old_byte(fill: usize, i: usize) -> u8 {
-    (((i % 256) * 7 + fill % 127) % 127 + 129) as u8
-}
-
-fn old_bytes(fill: usize) -> [u8; 256] {
-    let mut bytes: [u8; 256] = [0; 256];
-    for i in 0..256 {
-        bytes[i] = old_byte(fill, i);
-    }
-    bytes
 }
 
 // Writes a system into the first `room` bytes of a buffer, all of them where it has fewer.
@@ -36,28 +25,6 @@ pub fn called(y: System, room: usize, fill: usize) -> Call {
     }
     let answer = write_system(y, &mut bytes);
     Call { answer, bytes }
-}
-
-// The bytes from `start` on are as they were before the call.
-fn kept_from(bytes: [u8; 256], fill: usize, start: usize) -> bool {
-    let mut kept = true;
-    for i in 0..256 {
-        if start <= i {
-            kept = kept & (bytes[i] == old_byte(fill, i));
-        }
-    }
-    kept
-}
-
-// The first bytes of two buffers are the same.
-pub fn same_front(a: [u8; 256], b: [u8; 256], end: usize) -> bool {
-    let mut same = true;
-    for i in 0..256 {
-        if i < end {
-            same = same & (a[i] == b[i]);
-        }
-    }
-    same
 }
 
 // The call was refused from the input with this number.

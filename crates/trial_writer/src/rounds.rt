@@ -4,6 +4,7 @@ use crate::lent;
 use crate::zeros;
 use system::System;
 use system::read_system;
+use trial::buffers::same_front;
 use trial::files;
 use trial::files::File;
 use trial::say;
@@ -47,7 +48,7 @@ fn comes_back(y: System, from: File, to: File) -> bool {
     (say::code_of(read) == 0)
         & systems::same_system(z, known_part(y))
         & lent::wrote(answer, to.size)
-        & lent::same_front(written, wanted, to.size)
+        & same_front(written, wanted, to.size)
 }
 
 // The file of y with a tag 3 that gives 0 after its type at index t comes back without it.

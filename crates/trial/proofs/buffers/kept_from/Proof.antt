@@ -1,23 +1,23 @@
 -- The loop's invariant: `i` is at most 256.
 use Prim.Native.Nat.{_-_, _≤_}
 use borrow.Author.Needs.{needs}
-use Rattle.trial_writer.proofs.lent.same_front.Statement.{statement}
-use Rattle.trial_writer.proofs.lent.same_front.Tie as tie
+use Rattle.trial.proofs.buffers.kept_from.Statement.{statement}
+use Rattle.trial.proofs.buffers.kept_from.Tie as tie
 
 abbrev Inv-loop : tie.InvT-loop
-Inv-loop end a b same₀ i₀ same i = i ≤ 256
+Inv-loop fill start bytes kept₀ i₀ kept i = i ≤ 256
 
 abbrev μ-loop : tie.MeasureT-loop
-μ-loop end a b same₀ i₀ same i = 256 - i
+μ-loop fill start bytes kept₀ i₀ kept i = 256 - i
 
 loop-holds : tie.Need-loop-holds Inv-loop μ-loop
 loop-holds c = search needs
 
-array-read-same : tie.Need-array-read-same Inv-loop μ-loop
-array-read-same c = search needs
+array-read-kept : tie.Need-array-read-kept Inv-loop μ-loop
+array-read-kept c = search needs
 
-array-read-same-2 : tie.Need-array-read-same-2 Inv-loop μ-loop
-array-read-same-2 c = search needs
+old-byte-requires : tie.Need-old-byte-requires Inv-loop μ-loop
+old-byte-requires c κs = search needs
 
 add-i : tie.Need-add-i Inv-loop μ-loop
 add-i c = search needs
@@ -31,15 +31,15 @@ loop-again c = search needs
 returns : tie.Need-returns Inv-loop μ-loop
 returns c = search needs
 
-pub same-front-spec : {M : Type 1} → statement M
-same-front-spec =
+pub kept-from-spec : {M : Type 1} → statement M
+kept-from-spec =
     tie.close
     (tie.spec
     Inv-loop
     μ-loop
     loop-holds
-    array-read-same
-    array-read-same-2
+    array-read-kept
+    old-byte-requires
     add-i
     loop-less
     loop-again

@@ -1,23 +1,23 @@
--- The loop's invariant: `i` is at most 256.
+-- The loop's invariant: `i` is at most 20,000.
 use Prim.Native.Nat.{_-_, _≤_}
 use borrow.Author.Needs.{needs}
-use Rattle.trial_writer.proofs.lent.old_bytes.Statement.{statement}
-use Rattle.trial_writer.proofs.lent.old_bytes.Tie as tie
+use Rattle.trial_making.proofs.sweeps.ends.Statement.{statement}
+use Rattle.trial_making.proofs.sweeps.ends.Tie as tie
 
 abbrev Inv-loop : tie.InvT-loop
-Inv-loop fill bytes₀ i₀ bytes i = i ≤ 256
+Inv-loop r₀ i₀ r i = i ≤ 20000
 
 abbrev μ-loop : tie.MeasureT-loop
-μ-loop fill bytes₀ i₀ bytes i = 256 - i
+μ-loop r₀ i₀ r i = 20000 - i
+
+no-tally-requires : tie.Need-no-tally-requires Inv-loop μ-loop
+no-tally-requires c κs = search needs
 
 loop-holds : tie.Need-loop-holds Inv-loop μ-loop
 loop-holds c = search needs
 
-old-byte-requires : tie.Need-old-byte-requires Inv-loop μ-loop
-old-byte-requires c κs = search needs
-
-array-write-bytes : tie.Need-array-write-bytes Inv-loop μ-loop
-array-write-bytes c = search needs
+next-drawn-requires : tie.Need-next-drawn-requires Inv-loop μ-loop
+next-drawn-requires c κs = search needs
 
 add-i : tie.Need-add-i Inv-loop μ-loop
 add-i c = search needs
@@ -31,15 +31,15 @@ loop-again c = search needs
 returns : tie.Need-returns Inv-loop μ-loop
 returns c = search needs
 
-pub old-bytes-spec : {M : Type 1} → statement M
-old-bytes-spec =
+pub ends-spec : {M : Type 1} → statement M
+ends-spec =
     tie.close
     (tie.spec
     Inv-loop
     μ-loop
+    no-tally-requires
     loop-holds
-    old-byte-requires
-    array-write-bytes
+    next-drawn-requires
     add-i
     loop-less
     loop-again
