@@ -11,7 +11,7 @@ use Rattle.system.specs.declared.System.{System}
 use Rattle.system.specs.declared.Refusal.the-variants.{Input, State}
 use Rattle.system.specs.Layout.{Reading, readFile, opened, unread}
 use Rattle.system.specs.Outcome.{Source, fromInput, fromState, check, andThen}
-use Rattle.system.proofs.Laws.{read-keeps-limits}
+use Rattle.system.proofs.Laws.{read-keeps-limits, file-card}
 use Rattle.partition.specs.Lent.{Lent, lent}
 use Rattle.partition.specs.Plain.{LongEnough}
 use Rattle.table.specs.Table.{longEnough}
@@ -47,7 +47,7 @@ check-alone (opened y) sheet table h = rw (h y refl)
 
 pub check-any-table : (file sheet : List ℕ) (table : Lent) → LongForAll table → checkOutcome (readFile file) sheet table ≡ readingCheck (readFile file) sheet
 check-any-table file sheet table size =
-    check-alone (readFile file) sheet table (λ y e. long-enough-out y table (read-keeps-limits file y e) .1 (long-for-all file y table e size))
+    check-alone (readFile file) sheet table (λ y e. long-enough-out y table (read-keeps-limits file y e) .1 (long-for-all file y table (file-card file y e .0) size))
 
 -- every refusal is from the input
 from-input : (x : Reading) (sheet : List ℕ) (s : Source) (n : ℕ) → readingCheck x sheet ≡ wrong s n → s ≡ fromInput
@@ -76,7 +76,7 @@ answer-of (wrong fromState n) = refl
 
 module _ (file sheet : List ℕ) (table : Lent) (size : LongForAll table) (r : SheetAnswer) (after : Lent) (p : SheetCheckPromises (readFile file) sheet table r after) where
   long : (y : System) → readFile file ≡ opened y → LongEnough y table
-  long y e = long-for-all file y table e size
+  long y e = long-for-all file y table (file-card file y e .0) size
 
   is-wrong : (n : ℕ) → TellsRefusal n (lineOf (sheetOutcomeOf r)) → sheetOutcomeOf r ≡ wrong fromInput n
   is-wrong n t =

@@ -19,7 +19,7 @@ use Rattle.system.specs.declared.Refusal.the-variants.{Input, State}
 use Rattle.system.specs.Limits.{engineLimit, keepsLimits}
 use Rattle.system.specs.Layout.{Reading, readFile, opened, unread}
 use Rattle.system.specs.Outcome.{accepted, refused, fromInput, fromState, check, refusalOf}
-use Rattle.system.proofs.Laws.{limits-of, read-limits, read-keeps-limits}
+use Rattle.system.proofs.Laws.{limits-of, read-limits, read-keeps-limits, file-card}
 use Rattle.system.proofs.Prefix.{read-prefix}
 use Rattle.partition.specs.Assignment.{Assignment}
 use Rattle.partition.specs.Lent.{Lent}
@@ -45,7 +45,7 @@ use Rattle.answers.proofs.Checked.{spare, spare-long, tells-check}
 -- over a table that is long enough the verdict does not know the table
 pub sheet-any-table : (file : List ℕ) (table : Lent) → LongForAll table → sheetVerdict (readFile file) table ≡ readingVerdict (readFile file)
 sheet-any-table file table size =
-    verdict-alone (readFile file) table (λ y e. (long-enough-out y table (read-keeps-limits file y e) .1 (long-for-all file y table e size), read-limits file y e .engines))
+    verdict-alone (readFile file) table (λ y e. (long-enough-out y table (read-keeps-limits file y e) .1 (long-for-all file y table (file-card file y e .0) size), read-limits file y e .engines))
 
 -- intermediate: the sheet of a system that is planned, by what `write_sheet` would promise of a buffer that just holds it
 
@@ -87,7 +87,7 @@ module _ (file : List ℕ) (y : System) (opens : readFile file ≡ opened y) whe
   keeps = read-keeps-limits file y opens
 
   long : LongEnough y spare
-  long = long-for-all file y spare opens spare-long
+  long = long-for-all file y spare (file-card file y opens .0) spare-long
 
   impossible-by : {v : Verdict} {after : Lent} → Case y spare engineLimit v after → TellsRefusal 12 (verdictSheet v) ↔ Impossible y (EngineOf y) (ceilingNo y)
   impossible-by (tooShort less) = absurd (not-short y spare long less)

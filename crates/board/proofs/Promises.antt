@@ -1,21 +1,26 @@
--- What each call promises besides the equation with its definition: demand 1, the order of the refusals, and its meaning for a true board. All hold of the definition,
--- so of what the call gave.
+-- What each call promises besides the equation with its definition: demand 1, the order of the refusals, that it takes a board of one kind of engine only, and its meaning for a true board.
+-- All hold of the definition, so of what the call gave.
 use Prim.Native.Nat.{ℕ, _≤_}
 use mathlib.Core.Path.{_≡_, refl, sym, ap, subst, _∙_}
 use mathlib.Core.List.{List, []}
 use native.Mathlib.Omega.{arith}
+use Rattle.system.specs.declared.Costs.{Costs}
+use Rattle.system.specs.declared.There.the-variants.{Absent, Takes}
+use Rattle.system.specs.declared.Kind.{Kind}
+use Rattle.system.specs.declared.Second.the-variants.{OneKind, TwoKinds}
 use Rattle.system.specs.declared.System.{System}
 use Rattle.system.specs.Values.{blank}
 use Rattle.system.specs.Layout.{readFile, readOutcome, opened}
-use Rattle.system.specs.Outcome.{Outcome, outcomeOf}
+use Rattle.system.specs.Outcome.{Outcome, refused, fromState, outcomeOf}
 use Rattle.system.proofs.Laws.{read-keeps-limits}
 use Rattle.partition.specs.Lent.{Lent, lent}
+use Rattle.partition.specs.Plain.{typeNo}
 use Rattle.board.specs.declared.Board.{Board}
 use Rattle.board.specs.declared.Turn.{Turn}
 use Rattle.board.specs.Boards.{emptyBoard, openedBoard}
 use Rattle.board.specs.Words.{IsTrue, IsFresh}
 use Rattle.board.specs.Calls.{admitOf, seatOf, retireOf, repackOf, withdrawOf, restoreOf, gave, Does}
-use Rattle.board.specs.Meaning.{OpenMeans, AdmitPromises, SeatPromises, RetirePromises, RepackPromises, WithdrawPromises, RestorePromises}
+use Rattle.board.specs.Meaning.{OpenMeans, OneKindOnly, AdmitPromises, SeatPromises, RetirePromises, RepackPromises, WithdrawPromises, RestorePromises}
 use Rattle.board.proofs.Demand1.{admit-demand1, seat-demand1, retire-demand1, repack-demand1, withdraw-demand1, restore-demand1}
 use Rattle.board.proofs.TrueMeans.{fresh-is, fresh-true}
 use Rattle.board.proofs.Means.{admit-means, seat-means, retire-means, repack-means, withdraw-means, restore-means}
@@ -44,25 +49,36 @@ open-means file o b a s = record {
     is : (y : System) → readFile file ≡ opened y → b ≡ emptyBoard y
     is y e = s ∙ ap openedBoard e
 
+-- one kind of engine: a true board has no second kind, and no type of it has u and s on one
+
+two-untrue : (b : Board) (k : Kind) → b .system .second ≡ TwoKinds k → IsTrue b → ⊥
+two-untrue b k e w = let one : b .system .second ≡ OneKind = w .limits .oneKind in let z : _≡_ {A = ℕ} 0 1 = cc in omega arith
+
+there-untrue : (b : Board) (t : ℕ) (c : Costs) → typeNo (b .system) t .there ≡ Takes c → IsTrue b → ⊥
+there-untrue b t c e w = let none : typeNo (b .system) t .there ≡ Absent = w .limits .absent t in let z : _≡_ {A = ℕ} 0 1 = cc in omega arith
+
+pub only-one : (b : Board) {o : Outcome} → ((IsTrue b → ⊥) → o ≡ refused fromState 20) → OneKindOnly b o
+only-one b refuses = record { second = λ k e. refuses (two-untrue b k e); there = λ t c e. refuses (there-untrue b t c e) }
+
 -- the calls: of their definitions
 
 admit-holds : (b : Board) (t : ℕ) (table : Lent) → AdmitPromises b t table (admitOf b t table)
-admit-holds b t table = record { demand1 = admit-demand1 b t table; order = admit-in-order b t table; means = λ w long. admit-means b w t table long }
+admit-holds b t table = record { demand1 = admit-demand1 b t table; order = admit-in-order b t table; oneKind = only-one b (admit-in-order b t table .boardFirst .1); means = λ w long. admit-means b w t table long }
 
 seat-holds : (b : Board) (t : ℕ) (table : Lent) → SeatPromises b t table (seatOf b t table)
-seat-holds b t table = record { demand1 = seat-demand1 b t table; order = seat-in-order b t table; means = λ w long. seat-means b w t table long }
+seat-holds b t table = record { demand1 = seat-demand1 b t table; order = seat-in-order b t table; oneKind = only-one b (seat-in-order b t table .boardFirst .1); means = λ w long. seat-means b w t table long }
 
 retire-holds : (b : Board) (t e : ℕ) → RetirePromises b t e (retireOf b t e (lent [] []))
-retire-holds b t e = record { demand1 = retire-demand1 b t e (lent [] []); order = retire-in-order b t e (lent [] []); means = λ w. retire-means b w t e (lent [] []) }
+retire-holds b t e = record { demand1 = retire-demand1 b t e (lent [] []); order = retire-in-order b t e (lent [] []); oneKind = only-one b (retire-in-order b t e (lent [] []) .boardFirst .1); means = λ w. retire-means b w t e (lent [] []) }
 
 repack-holds : (b : Board) (table : Lent) → RepackPromises b table (repackOf b table)
-repack-holds b table = record { demand1 = repack-demand1 b table; order = repack-in-order b table; means = λ w long. repack-means b w table long }
+repack-holds b table = record { demand1 = repack-demand1 b table; order = repack-in-order b table; oneKind = only-one b (repack-in-order b table .boardFirst .1); means = λ w long. repack-means b w table long }
 
 withdraw-holds : (b : Board) (e : ℕ) → WithdrawPromises b e (withdrawOf b e (lent [] []))
-withdraw-holds b e = record { demand1 = withdraw-demand1 b e (lent [] []); order = withdraw-in-order b e (lent [] []); means = λ w. withdraw-means b w e (lent [] []) }
+withdraw-holds b e = record { demand1 = withdraw-demand1 b e (lent [] []); order = withdraw-in-order b e (lent [] []); oneKind = only-one b (withdraw-in-order b e (lent [] []) .boardFirst .1); means = λ w. withdraw-means b w e (lent [] []) }
 
 restore-holds : (b : Board) (e : ℕ) → RestorePromises b e (restoreOf b e (lent [] []))
-restore-holds b e = record { demand1 = restore-demand1 b e (lent [] []); order = restore-in-order b e (lent [] []); means = λ w. restore-means b w e (lent [] []) }
+restore-holds b e = record { demand1 = restore-demand1 b e (lent [] []); order = restore-in-order b e (lent [] []); oneKind = only-one b (restore-in-order b e (lent [] []) .boardFirst .1); means = λ w. restore-means b w e (lent [] []) }
 
 -- main: of what they gave
 

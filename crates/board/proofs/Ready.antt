@@ -9,7 +9,7 @@ use borrow.Author.Tests.{leb-true, le-leb, ltb-true}
 use lib.ListN.{length, getD}
 use lib.Dec.{leb}
 use Rattle.system.specs.Values.{ceilingsOf}
-use Rattle.system.specs.Limits.{keepsLimits, columnLimit, engineLimit, typeLimit}
+use Rattle.system.specs.Limits.{columns, keepsLimits, columnLimit, engineLimit, typeLimit}
 use Rattle.system.proofs.Laws.{Limits, limits-of, ceiling-lt}
 use Rattle.loads.specs.Load.{fitsEngine, within}
 use Rattle.loads.proofs.Order.{and-parts, and-both}
@@ -40,6 +40,9 @@ module _ (b : Board) (h : trueBoard b ≡ true) where
 
   pub engines-most : b .system .engines ≤ engineLimit
   engines-most = true-limits .engines
+
+  pub columns-most : columns (b .system) ≤ columnLimit
+  columns-most = true-limits .columns
 
   pub true-within : within (standing b) (ceilingsOf (b .system)) ≡ true
   true-within = let t = truth-of b h in subst (λ (x : List ℕ). within x (ceilingsOf (b .system)) ≡ true) (sym (t .stands)) (t .valid .ceiling)

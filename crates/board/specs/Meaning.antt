@@ -5,12 +5,16 @@ use mathlib.Core.List.{List, [], _∷_}
 use mathlib.Core.Bool.{true, false}
 use mathlib.Core.Path.{_≡_}
 use mathlib.Core.Logic.{_↔_}
+use Rattle.system.specs.declared.Costs.{Costs}
+use Rattle.system.specs.declared.There.the-variants.{Takes}
+use Rattle.system.specs.declared.Kind.{Kind}
+use Rattle.system.specs.declared.Second.the-variants.{TwoKinds}
 use Rattle.system.specs.declared.System.{System}
 use Rattle.system.specs.Layout.{readFile, opened, unread}
 use Rattle.system.specs.Outcome.{Outcome, Source, accepted, refused, fromInput, fromState, isAccepted}
 use Rattle.partition.specs.Assignment.{enginesTo}
 use Rattle.partition.specs.Lent.{Lent, lent}
-use Rattle.partition.specs.Plain.{LongEnough, TooShort, recordNo, Stands, HoldsNothing}
+use Rattle.partition.specs.Plain.{typeNo, LongEnough, TooShort, recordNo, Stands, HoldsNothing}
 use Rattle.table.specs.Table.{filled}
 use Rattle.table.specs.Meaning.{FilledMeans}
 use Rattle.board.specs.declared.Board.{Board}
@@ -129,34 +133,45 @@ pub record Demand1 (b : Board) (table left : Lent) (r : Result) : Type 0 where
   pub filledOn24 : (s : Source) → r .outcome ≡ refused s 24 → r .table ≡ filled (b .system) (enginesTo (servingAll b)) table
   pub onAccept : isAccepted (r .outcome) ≡ true → r .table ≡ left
 
+-- Request 2026-13, for every call: "A board handed in with a second kind is refused 20", and so is one that has u and s on such a kind alone, of any type, past k too, whatever else it holds
+pub record OneKindOnly (b : Board) (o : Outcome) : Type 0 where
+  pub second : (k : Kind) → b .system .second ≡ TwoKinds k → o ≡ refused fromState 20
+  pub there : (t : ℕ) (c : Costs) → typeNo (b .system) t .there ≡ Takes c → o ≡ refused fromState 20
+
 -- What the contracts cite
 
 pub record AdmitPromises (b : Board) (t : ℕ) (table : Lent) (r : Result) : Type 0 where
   pub demand1 : Demand1 b table table r
   pub order : NewcomerInOrder b t table (r .outcome)
+  pub oneKind : OneKindOnly b (r .outcome)
   pub means : IsTrue b → LongEnough (b .system) table → AdmitMeans b t table r
 
 pub record SeatPromises (b : Board) (t : ℕ) (table : Lent) (r : Result) : Type 0 where
   pub demand1 : Demand1 b table (filled (b .system) (enginesTo (servingAll b)) table) r
   pub order : NewcomerInOrder b t table (r .outcome)
+  pub oneKind : OneKindOnly b (r .outcome)
   pub means : IsTrue b → LongEnough (b .system) table → SeatMeans b t table r
 
 pub record RetirePromises (b : Board) (t e : ℕ) (r : Result) : Type 0 where
   pub demand1 : Demand1 b (lent [] []) (lent [] []) r
   pub order : RetireInOrder b t e (r .outcome)
+  pub oneKind : OneKindOnly b (r .outcome)
   pub means : IsTrue b → RetireMeans b t e r
 
 pub record RepackPromises (b : Board) (table : Lent) (r : Result) : Type 0 where
   pub demand1 : Demand1 b table (filled (b .system) (enginesTo (servingAll b)) table) r
   pub order : RepackInOrder b table (r .outcome)
+  pub oneKind : OneKindOnly b (r .outcome)
   pub means : IsTrue b → LongEnough (b .system) table → RepackMeans b table r
 
 pub record WithdrawPromises (b : Board) (e : ℕ) (r : Result) : Type 0 where
   pub demand1 : Demand1 b (lent [] []) (lent [] []) r
   pub order : WithdrawInOrder b e (r .outcome)
+  pub oneKind : OneKindOnly b (r .outcome)
   pub means : IsTrue b → WithdrawMeans b e r
 
 pub record RestorePromises (b : Board) (e : ℕ) (r : Result) : Type 0 where
   pub demand1 : Demand1 b (lent [] []) (lent [] []) r
   pub order : RestoreInOrder b e (r .outcome)
+  pub oneKind : OneKindOnly b (r .outcome)
   pub means : IsTrue b → RestoreMeans b e r

@@ -158,7 +158,7 @@ pub record IsTrue (b : Board) : Type 0 where
   pub sixteen : length (b .loads) ≡ 16
   pub sixteenMarks : length (b .marks) ≡ 16
   pub six : (e : ℕ) → 1 ≤ e → e ≤ 16 → length (recordNo (b .loads) e .counts) ≡ 6
-  -- "its system breaks a limit", "the system's own u, s and n too", d and q
+  -- "its system breaks a limit", "the system's own u, s and n too", d and q; and it has one kind of engine (request 2026-13)
   pub limits : LimitsOut (b .system)
   -- "an entry for an engine past m or a type past k is not 0"
   pub pastEngines : (e : ℕ) → b .system .engines < e → HoldsNothing (recordNo (b .loads) e)

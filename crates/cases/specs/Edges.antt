@@ -1,12 +1,16 @@
 -- Document 01's "Edges" with request 2026-10's columns, and a file for every row of "From the input" that a file can be refused by: what it reads as against the number that 01 writes,
--- and the same of tag 3 (request 2026-03) and tag 4 (2026-04).
+-- and the same of tag 3 (request 2026-03), tag 4 (2026-04), and tags 6 and 7 (2026-13). One kind of engine is wanted of each file; the same table says what it comes to as a card of one kind or two.
 use Prim.Native.Nat.{ℕ, zero, suc, _/_, _%_}
 use mathlib.Core.List.{List, [], _∷_, _++_, map}
+use mathlib.Core.Bool.{cond}
 use mathlib.Core.Path.{_≡_}
 use lib.ListN.{replicate}
+use lib.Dec.{eqb}
 use Rattle.system.specs.declared.Most.{Most}
+use Rattle.system.specs.declared.There.{There}
+use Rattle.system.specs.declared.Second.{Second}
 use Rattle.system.specs.declared.TaskType.{TaskType}
-use Rattle.system.specs.Layout.{readFile, readOutcome, readSystem}
+use Rattle.system.specs.Layout.{readCard, readFile, readOutcome, readSystem}
 use Rattle.system.specs.Outcome.{Outcome, accepted, refused, fromInput}
 
 -- numbers of two and of four bytes, most significant byte first
@@ -32,6 +36,12 @@ dataWith d = field 3 4 (four d)
 abbrev pub mostWith : ℕ → List ℕ
 mostWith q = field 4 2 (two q)
 
+abbrev pub secondWith : ℕ → ℕ → ℕ → List ℕ
+secondWith n u s = field 6 9 ((n ∷ []) ++ (four u ++ four s))
+
+abbrev pub costsWith : ℕ → ℕ → List ℕ
+costsWith u s = field 7 8 (four u ++ four s)
+
 -- a good platform, a good type, one with its d, and one with its d and its q
 abbrev pub goodPlatform : List ℕ
 goodPlatform = platformWith 3 0 10 8
@@ -45,6 +55,16 @@ goodBoth = goodType ++ dataWith 5
 abbrev pub goodAll : List ℕ
 goodAll = goodBoth ++ mostWith 1
 
+-- a good second kind of engine, and a good type with its u and s there, alone and with its d and its q
+abbrev pub goodSecond : List ℕ
+goodSecond = secondWith 2 6 5
+
+abbrev pub goodThere : List ℕ
+goodThere = goodType ++ costsWith 2 1
+
+abbrev pub goodLast : List ℕ
+goodLast = goodAll ++ costsWith 2 1
+
 -- the file with these types
 unfoldable pub typesOf : List (List ℕ) → List ℕ
 typesOf [] = []
@@ -52,6 +72,10 @@ typesOf (t ∷ ts) = t ++ typesOf ts
 
 abbrev pub withTypes : List (List ℕ) → List ℕ
 withTypes ts = goodPlatform ++ typesOf ts
+
+-- and with a second kind
+abbrev pub withKinds : List (List ℕ) → List ℕ
+withKinds ts = goodPlatform ++ (goodSecond ++ typesOf ts)
 
 -- a file, and what it comes to: 0 where it opens, else the number of its refusal
 pub record Edge : Type 0 where
@@ -139,6 +163,62 @@ edges =
     -- "at the end 9, 10": a fault of a later field comes before them
     ∷ edge (withTypes (typeWith 4 3 4096 ∷ typeWith 1000001 3 1 ∷ [])) 8
     ∷ edge (goodPlatform ++ field 5 2 []) 2
+    -- request 2026-13: a file of two kinds of engine is refused 42 where one is wanted. "at least 1, total still at most 16"; u and s of 0 are given ones
+    ∷ edge (withKinds (goodThere ∷ [])) 42
+    ∷ edge (withKinds (replicate 6 goodLast)) 42
+    ∷ edge (withKinds (goodThere ∷ goodBoth ∷ costsWith 0 0 ∷ goodType ∷ mostWith 1 ∷ costsWith 2 1 ∷ [])) 42
+    ∷ edge (platformWith 1 0 10 8 ++ (secondWith 1 0 0 ++ goodThere)) 42
+    ∷ edge (platformWith 3 0 10 8 ++ (secondWith 13 6 5 ++ goodThere)) 42
+    ∷ edge (platformWith 15 0 10 8 ++ (secondWith 1 1000000 1000000 ++ (goodType ++ costsWith 1000000 1000000))) 42
+    ∷ edge (withKinds (typeWith 4 3 4095 ∷ costsWith 2 1 ∷ [])) 42
+    -- "directly after 10"
+    ∷ edge (withKinds (typeWith 4 3 4096 ∷ costsWith 2 1 ∷ [])) 10
+    -- "41, when tag 7 is missing though tag 6 stands, or the reverse, after 9", so before 10
+    ∷ edge (withKinds (goodType ∷ [])) 41
+    ∷ edge (withKinds (goodThere ∷ goodAll ∷ [])) 41
+    ∷ edge (withKinds (goodAll ∷ goodThere ∷ [])) 41
+    ∷ edge (withTypes (goodThere ∷ [])) 41
+    ∷ edge (withTypes (goodType ∷ goodType ∷ costsWith 0 0 ∷ [])) 41
+    ∷ edge (withTypes (goodThere ∷ goodType ∷ [])) 41
+    ∷ edge (withKinds (typeWith 4 3 4096 ∷ [])) 41
+    ∷ edge (withTypes (typeWith 4 3 4096 ∷ costsWith 2 1 ∷ [])) 41
+    ∷ edge (goodPlatform ++ goodSecond) 9
+    -- "directly after the platform", and "once, last after each type"
+    ∷ edge goodSecond 3
+    ∷ edge (withTypes (goodType ∷ goodSecond ∷ [])) 3
+    ∷ edge (withTypes (goodThere ∷ field 6 10 [] ∷ [])) 3
+    ∷ edge (withKinds (goodSecond ∷ goodThere ∷ [])) 3
+    ∷ edge (withKinds (goodPlatform ∷ goodThere ∷ [])) 3
+    ∷ edge (withKinds (goodThere ∷ goodPlatform ∷ [])) 3
+    ∷ edge (costsWith 2 1) 3
+    ∷ edge (withTypes (costsWith 2 1 ∷ goodType ∷ [])) 3
+    ∷ edge (withKinds (costsWith 2 1 ∷ goodType ∷ [])) 3
+    ∷ edge (withKinds (dataWith 5 ∷ goodType ∷ [])) 3
+    ∷ edge (withKinds (mostWith 1 ∷ goodType ∷ [])) 3
+    ∷ edge (withKinds (goodThere ∷ mostWith 1 ∷ [])) 3
+    ∷ edge (withKinds (goodThere ∷ dataWith 5 ∷ [])) 3
+    ∷ edge (withKinds (goodLast ∷ costsWith 2 1 ∷ [])) 3
+    -- the other numbers of these two fields
+    ∷ edge (goodPlatform ++ (6 ∷ 0 ∷ [])) 1
+    ∷ edge (goodPlatform ++ field 6 9 (2 ∷ four 6)) 1
+    ∷ edge (withKinds (goodType ∷ (7 ∷ 0 ∷ []) ∷ [])) 1
+    ∷ edge (withKinds (goodAll ∷ field 7 8 (four 2) ∷ [])) 1
+    ∷ edge (goodPlatform ++ field 6 10 []) 4
+    ∷ edge (withKinds (goodType ∷ field 7 9 [] ∷ [])) 4
+    ∷ edge (goodPlatform ++ (secondWith 0 1000001 5 ++ goodThere)) 5
+    ∷ edge (platformWith 3 0 10 8 ++ (secondWith 14 6 5 ++ goodThere)) 5
+    ∷ edge (platformWith 16 0 10 8 ++ (secondWith 1 6 5 ++ goodThere)) 5
+    ∷ edge (platformWith 1 0 10 8 ++ (secondWith 255 6 1000001 ++ goodThere)) 5
+    ∷ edge (withKinds (replicate 6 goodLast ++ (goodThere ∷ []))) 7
+    ∷ edge (goodPlatform ++ (secondWith 2 1000001 5 ++ goodThere)) 8
+    ∷ edge (goodPlatform ++ (secondWith 2 6 1000001 ++ goodThere)) 8
+    ∷ edge (withKinds (goodType ∷ costsWith 1000001 1 ∷ [])) 8
+    ∷ edge (withKinds (goodAll ∷ costsWith 2 1000001 ∷ [])) 8
+    -- and in file order: what such a field is refused with comes before any fault of a later one, and before 41
+    ∷ edge (goodPlatform ++ (secondWith 0 6 5 ++ field 5 2 [])) 5
+    ∷ edge (goodPlatform ++ (secondWith 2 1000001 5 ++ goodPlatform)) 8
+    ∷ edge (withTypes (goodType ∷ costsWith 2 1000001 ∷ (2 ∷ []) ∷ [])) 8
+    ∷ edge (withTypes (goodType ∷ mostWith 0 ∷ costsWith 2 1 ∷ [])) 31
     ∷ []
 
 -- the number as an outcome
@@ -150,6 +230,13 @@ told (suc n) = refused fromInput (suc n)
 abbrev pub EdgesHold : List Edge → Type 0
 EdgesHold es = map (λ (e : Edge). readOutcome (readFile (e .file))) es ≡ map (λ (e : Edge). told (e .comesTo)) es
 
+-- where two kinds will do, those of 42 open, and every other file comes to the same
+abbrev pub toldOfCard : ℕ → Outcome
+toldOfCard n = cond (eqb n 42) (accepted []) (told n)
+
+abbrev pub CardEdgesHold : List Edge → Type 0
+CardEdgesHold es = map (λ (e : Edge). readOutcome (readCard (e .file))) es ≡ map (λ (e : Edge). toldOfCard (e .comesTo)) es
+
 -- the file's types have these d, 0 past k
 abbrev pub DataRead : List ℕ → List ℕ → Type 0
 DataRead file ds = map (λ (t : TaskType). t .data) (readSystem (readFile file) .types) ≡ ds
@@ -157,3 +244,10 @@ DataRead file ds = map (λ (t : TaskType). t .data) (readSystem (readFile file) 
 -- and these q, none past k
 abbrev pub MostRead : List ℕ → List Most → Type 0
 MostRead file qs = map (λ (t : TaskType). t .most) (readSystem (readFile file) .types) ≡ qs
+
+-- the card has this second kind, and its types these u and s there, none past k
+abbrev pub SecondRead : List ℕ → Second → Type 0
+SecondRead file second = readSystem (readCard file) .second ≡ second
+
+abbrev pub ThereRead : List ℕ → List There → Type 0
+ThereRead file costs = map (λ (t : TaskType). t .there) (readSystem (readCard file) .types) ≡ costs

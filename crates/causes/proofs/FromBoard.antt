@@ -43,6 +43,7 @@ use Rattle.board.proofs.TrueMeans.{stands-said, true-means}
 use Rattle.board.proofs.Means.{admit-means, seat-means}
 use Rattle.board.proofs.Order.{seat-in-order}
 use Rattle.board.proofs.Ready.{true-keeps, newcomer-range, newcomer-within}
+use Rattle.board.proofs.Promises.{only-one}
 use Rattle.causes.specs.declared.Cause.{Cause}
 use Rattle.causes.specs.declared.CauseAnswer.{CauseAnswer}
 use Rattle.causes.specs.declared.CauseAnswer.the-variants.{Because, Refused}
@@ -175,6 +176,7 @@ module _ (b : Board) (t : ℕ) (table : Lent) where
     answers = g .answer;
     leavesTable = g .left;
     order = rw (g .answer) order-kept;
+    oneKind = rw (g .answer) (only-one b (order-kept .boardFirst .1));
     asLent = λ s n e. g .left ∙ lent-back s n (sym (g .answer) ∙ e);
     leftFilled = λ w long below. rw (g .left) (left-filled w long below);
     means = λ w long below. rw (g .answer) (means-so w long below);

@@ -17,7 +17,7 @@ use Rattle.planner.specs.Plan.{verdictOf, planOutcome}
 use Rattle.board.specs.declared.Board.{Board}
 use Rattle.board.specs.Calls.{admitOf, seatOf}
 use Rattle.board.specs.Words.{plusOne, standsNo, sumSix, timeOut, ownOut, sharedOut, FitsOut, EngineIn, servingAll, BelowCeiling, IsTrue}
-use Rattle.board.specs.Meaning.{NewcomerInOrder}
+use Rattle.board.specs.Meaning.{NewcomerInOrder, OneKindOnly}
 use Rattle.causes.specs.declared.Cause.{Cause}
 use Rattle.causes.specs.declared.CauseAnswer.{CauseAnswer}
 use Rattle.causes.specs.Causes.{causeOutcomeOf, told, planCause, planCauseTable, roomCause, roomCauseTable}
@@ -109,7 +109,7 @@ pub record CauseMeans (y : System) (E : ℕ → Type 0) (r : ℕ) (count : ℕ �
 
 -- The call from a file
 
--- 1 to 10 and 31 as the file is read, then 11, for a part of the table that is shorter than the columns
+-- 1 to 10, 31, 41 and 42 as the file is read, then 11, for a part of the table that is shorter than the columns
 pub record PlanChecksInOrder (x : Reading) (table : Lent) (o : Outcome) : Type 0 where
   pub fileFirst : (n : ℕ) → x ≡ unread n → o ≡ refused fromInput n
   pub thenTable : (y : System) → x ≡ opened y → (o ≡ refused fromInput 11) ↔ TooShort y table
@@ -128,12 +128,13 @@ pub record PlanCausePromises (x : Reading) (table : Lent) (r : CauseAnswer) (aft
 
 -- The call from a board
 
--- What the call `why_no_room` promises: its answer and the table, whole; the order 20, 13, 11, 21; demand 1; and for a true board, a type below its ceiling and a table long enough,
+-- What the call `why_no_room` promises: its answer and the table, whole; the order 20, 13, 11, 21; that a board of two kinds of engine is refused 20 (request 2026-13); demand 1; and for a true board, a type below its ceiling and a table long enough,
 -- that the table is left filled, what the cause says of what stands and the newcomer on the engines in service, and that an admit and a seat are refused 24 exactly when it is not 0
 pub record RoomCausePromises (b : Board) (t : ℕ) (table : Lent) (r : CauseAnswer) (after : Lent) : Type 0 where
   pub answers : causeOutcomeOf r ≡ roomCause b t table
   pub leavesTable : after ≡ roomCauseTable b t table
   pub order : NewcomerInOrder b t table (causeOutcomeOf r)
+  pub oneKind : OneKindOnly b (causeOutcomeOf r)
   pub asLent : (s : Source) (n : ℕ) → causeOutcomeOf r ≡ refused s n → after ≡ table
   pub leftFilled : IsTrue b → LongEnough (b .system) table → BelowCeiling b t → FilledMeans (b .system) (servingAll b) table after
   pub means : IsTrue b → LongEnough (b .system) table → BelowCeiling b t → CauseMeans (b .system) (EngineIn b) (servingAll b) (plusOne t (standsNo b)) (causeOutcomeOf r)

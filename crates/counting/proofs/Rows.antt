@@ -3,7 +3,7 @@ use Prim.Native.Nat.{ℕ, zero, suc, _+_, _-_, _*_, _^_, _≤_, _<_}
 use mathlib.Core.Path.{_≡_, refl, sym, ap, subst, _∙_}
 use mathlib.Core.List.{List, [], _∷_}
 use mathlib.Core.Bool.{Bool, true, false, and-false}
-use native.Mathlib.Nat.{le-trans, le-refl, mul-zero, mul-one, one-mul, zero-mul, mul-add, sub-self, pow-le-pow-left, pow-le-pow-right}
+use native.Mathlib.Nat.{le-trans, le-refl, mul-zero, mul-one, one-mul, zero-mul, sub-self, pow-le-pow-left, pow-le-pow-right}
 use native.Mathlib.Numerals.{add-one}
 use native.Mathlib.Omega.{arith}
 use borrow.Author.Tests.{eqb-true, eqb-false, ne-eqb, leb-true, leb-false}
@@ -13,12 +13,12 @@ use lib.Dec.{eqb, leb}
 use Rattle.system.specs.declared.TaskType.{TaskType}
 use Rattle.system.specs.declared.System.{System}
 use Rattle.system.specs.Values.{ceilingsOf}
-use Rattle.system.specs.Limits.{columnsOf, columns}
+use Rattle.system.specs.Limits.{columns}
 use Rattle.system.proofs.Laws.{columnsOf-pos}
 use Rattle.loads.specs.Load.{holdsNone, less, fitsEngine}
-use Rattle.loads.specs.Column.{columnFrom, columnOf, loadOf}
-use Rattle.loads.proofs.Order.{Below, none, more, below-refl}
-use Rattle.loads.proofs.Column.{columnOf-horner, columnOf-loadOf, length-loadOf, loadOf-below, loadOf-within, loadOf-columnOf-below}
+use Rattle.loads.specs.Column.{loadOf}
+use Rattle.loads.proofs.Order.{Below, none, more}
+use Rattle.loads.proofs.Column.{columnOf-loadOf, length-loadOf, loadOf-below, loadOf-within, load-last}
 use Rattle.partition.specs.Listing.{instances}
 use Rattle.counting.specs.Counts.{greatest, goodCount}
 use Rattle.counting.specs.Tally.{sumTo, choose, bit, overParts, tally, strideAt, overColumns}
@@ -87,18 +87,6 @@ unfolding tally
 tally-one f x =
     whole-only x (λ (z : List ℕ). bit (f z) * bit (holdsNone (less x z))) (λ z b e. rw e (mul-zero (bit (f z))))
     ∙ rw (none-left x) (mul-one (bit (f x)))
-
--- main: the column of all instances is the last
-
-column-last : (ns : List ℕ) → columnOf ns ns + 1 ≡ columnsOf ns
-unfolding columnFrom columnsOf
-column-last [] = refl
-column-last (n ∷ ns) = rw (columnOf-horner n n ns ns, ← (column-last ns), mul-add (n + 1) (columnOf ns ns) 1) (omega arith)
-
-pub load-last : (ns : List ℕ) → loadOf ns (columnsOf ns - 1) ≡ ns
-load-last ns =
-    let e : columnsOf ns - 1 ≡ columnOf ns ns = omega (arith, column-last ns) in
-    rw e (loadOf-columnOf-below (below-refl ns))
 
 -- main: one cell of a pass, where the columns up to it are as they were before the pass
 

@@ -13,8 +13,8 @@ use writer::write_system;
 // Writes the file of a system to standard output. A system outside the limits gets its refusal, on standard error.
 fn main() {
     let y = first_system();
-    // A system of six types, each with data memory and a q, has a file of 163 bytes. A buffer that is too short is refused 30.
-    let mut file = [0u8; 163];
+    // A system of six types, each with data memory, a q and costs on a second kind of engine, has a file of 241 bytes. A buffer that is too short is refused 30.
+    let mut file = [0u8; 241];
     let answer = write_system(y, &mut file);
     match answer {
         Answer::Number(n) => write_first(&file, n),

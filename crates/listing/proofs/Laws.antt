@@ -3,7 +3,7 @@ use Prim.Native.Nat.{ℕ, zero, suc, _+_, _-_, _/_, _%_, _^_, _≤_, _<_, min}
 use mathlib.Core.Path.{_≡_, refl, sym, ap, _∙_}
 use mathlib.Core.Bool.{Bool, true, false}
 use mathlib.Core.List.{List, [], _∷_, _++_, append-assoc, append-nil, map, map-append}
-use native.Mathlib.Nat.{add-zero, le-refl, le-of-lt, min-eq-left, min-eq-right, mod-eq-of-lt, pow-suc, pow-le-pow-right, one-le-pow}
+use native.Mathlib.Nat.{le-refl, le-of-lt, min-eq-left, min-eq-right, mod-eq-of-lt, pow-suc, pow-le-pow-right, one-le-pow}
 use native.Mathlib.Omega.{arith}
 use native.Mathlib.Numerals.{add-one, sub-one}
 use lib.ListN.{length, getD, take, drop, length-drop}
@@ -12,14 +12,14 @@ use lib.Dec.{leb, lit<}
 use borrow.Author.Tests.{lt-ltb, le-ltb, leb-true, leb-false}
 use Rattle.buffer.specs.Written.{Puts}
 use Rattle.buffer.proofs.Laws.{puts-then}
-use Rattle.system.specs.Layout.{Reading}
+use Rattle.system.specs.Card.{Card}
 use Rattle.loads.specs.declared.EngineLoad.{EngineLoad}
 use Rattle.partition.specs.Lent.{Lent}
 use Rattle.planner.specs.declared.Plan.{Plan}
-use Rattle.planner.specs.Plan.{recordsFrom, recordsOf, verdictOf}
-use Rattle.planner.specs.Demands.{PlanPromises}
+use Rattle.planner.specs.Plan.{recordsWith}
+use Rattle.planner.specs.MixedDemands.{PlanCall}
 use Rattle.io.specs.Digits.{glyph, digits, Fewest}
-use Rattle.listing.specs.Listing.{enginesWord, engineWord, utilWord, memWord, typesWord, refusedWord, space, lineEnd, digit, decimalFrom, decimal, parted, line, engineLine, recordLine, recordLines, planListing, verdictListing}
+use Rattle.listing.specs.Listing.{enginesWord, engineWord, utilWord, memWord, typesWord, refusedWord, space, lineEnd, digit, decimalFrom, decimal, parted, line, engineLine, recordLine, recordLines, planListing, cardListing}
 use Rattle.listing.specs.Room.{numberRoom}
 
 -- decimal digits
@@ -146,34 +146,29 @@ engineLine-entries n t m xs =
     ended : (a b c d e f g h i j : List ℕ) → (a ++ b ++ c) ++ (d ++ e ++ c) ++ (f ++ g ++ c) ++ (h ++ i ++ j) ≡ (a ++ b) ++ (c ++ d ++ e) ++ (c ++ f ++ g) ++ c ++ h ++ i ++ j
     ended a b c d e f g h i j = simp append-assoc
 
--- one engine more; its number is its place in the list, counted from a
-engines-suc : (k a : ℕ) (loads : List EngineLoad) (i : ℕ) (d : EngineLoad) → i < length loads
-    → recordLines k (take (suc i) (recordsFrom a loads)) ≡ recordLines k (take i (recordsFrom a loads)) ++ recordLine k (record { number = a + i; load = getD loads i d })
-unfolding recordLines recordsFrom
-engines-suc k a [] i d h = absurd (omega arith)
-engines-suc k a (l ∷ ls) zero d h = simp (append-nil, add-zero)
-engines-suc k a (l ∷ ls) (suc i) d h =
-    let first = recordLine k (record { number = a; load = l }) in
-    let lines = recordLines k (take i (recordsFrom (suc a) ls)) in
-    let same : suc a + i ≡ a + suc i = omega arith in
-    ap (λ (rest : List ℕ). first ++ rest) (engines-suc k (suc a) ls i d (omega arith))
-    ∙ sym (append-assoc first lines (recordLine k (record { number = suc a + i; load = getD ls i d })))
-    ∙ ap (λ (n : ℕ). first ++ lines ++ recordLine k (record { number = n; load = getD ls i d })) same
+-- one engine more, under its own number
+engines-suc : (k : ℕ) (numbers : List ℕ) (loads : List EngineLoad) (i : ℕ) (d : EngineLoad) → i < length numbers → i < length loads
+    → recordLines k (take (suc i) (recordsWith numbers loads)) ≡ recordLines k (take i (recordsWith numbers loads)) ++ recordLine k (record { number = getD numbers i 0; load = getD loads i d })
+unfolding recordLines recordsWith
+engines-suc k [] loads i d p q = absurd (omega arith)
+engines-suc k (n ∷ ns) [] i d p q = absurd (omega arith)
+engines-suc k (n ∷ ns) (l ∷ ls) zero d p q = simp append-nil
+engines-suc k (n ∷ ns) (l ∷ ls) (suc i) d p q =
+    let first = recordLine k (record { number = n; load = l }) in
+    let lines = recordLines k (take i (recordsWith ns ls)) in
+    ap (λ (rest : List ℕ). first ++ rest) (engines-suc k ns ls i d (omega arith) (omega arith))
+    ∙ sym (append-assoc first lines (recordLine k (record { number = getD ns i 0; load = getD ls i d })))
 
-pub lines-suc : (k : ℕ) (loads : List EngineLoad) (i : ℕ) (d : EngineLoad) → i < length loads
-    → recordLines k (take (i + 1) (recordsOf loads)) ≡ recordLines k (take i (recordsOf loads)) ++ recordLine k (record { number = i + 1; load = getD loads i d })
-lines-suc k loads i d h =
-    let same : 1 + i ≡ i + 1 = omega arith in
-    ap (λ (n : ℕ). recordLines k (take n (recordsOf loads))) (add-one i)
-    ∙ engines-suc k 1 loads i d h
-    ∙ ap (λ (n : ℕ). recordLines k (take i (recordsOf loads)) ++ recordLine k (record { number = n; load = getD loads i d })) same
+pub lines-suc : (k : ℕ) (numbers : List ℕ) (loads : List EngineLoad) (i : ℕ) (d : EngineLoad) → i < length numbers → i < length loads
+    → recordLines k (take (i + 1) (recordsWith numbers loads)) ≡ recordLines k (take i (recordsWith numbers loads)) ++ recordLine k (record { number = getD numbers i 0; load = getD loads i d })
+lines-suc k numbers loads i d p q =
+    ap (λ (n : ℕ). recordLines k (take n (recordsWith numbers loads))) (add-one i) ∙ engines-suc k numbers loads i d p q
 
 -- a line of one word and one number
 pub line-parts : (word : List ℕ) (n : ℕ) → word ++ (space ∷ decimal n) ++ (lineEnd ∷ []) ≡ line word (decimal n ∷ [])
 unfolding parted
 line-parts word n = simp (append-assoc, append-nil)
 
--- the listing of what a plan promises
-pub listing-planned : {x : Reading} {table : Lent} {room : ℕ} {p : Plan} {after : Lent} → PlanPromises x table room p after
-    → planListing p ≡ verdictListing (verdictOf x table room)
-listing-planned h = rw (h .answers, h .uses, h .counts, h .places)
+-- the listing of what a plan promises, of whichever card
+pub listing-planned : {c : Card} {table : Lent} {room : ℕ} {p : Plan} {after : Lent} → PlanCall c table room p after → planListing p ≡ cardListing c table room
+listing-planned h = rw (h .whole .answers, h .whole .uses, h .whole .counts, h .whole .numbers, h .whole .places)

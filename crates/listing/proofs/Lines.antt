@@ -1,4 +1,4 @@
--- The definition's lines are the bytes that a reader finds: a refusal tells its number, and a plan's lines tell the records.
+-- The definition's lines are the bytes that a reader finds: a refusal tells its number, and a plan's lines tell the records, each under its engine's number.
 use Prim.Native.Nat.{ℕ, zero, suc, _+_, _-_, _≤_}
 use mathlib.Core.Path.{_≡_, refl, sym, ap, ap₂, _∙_}
 use mathlib.Core.List.{List, [], _∷_, _++_, append-assoc, append-nil, append-cancel-right, map}
@@ -10,13 +10,16 @@ use Rattle.system.specs.declared.System.{System}
 use Rattle.system.specs.declared.Answer.{Answer}
 use Rattle.system.specs.declared.Answer.the-variants.{Accepted, Number, Refused}
 use Rattle.system.specs.declared.Refusal.{Refusal}
+use Rattle.system.specs.declared.Kind.{Kind}
 use Rattle.system.specs.Outcome.{Source, refused, fromInput, fromState, outcomeOf}
 use Rattle.loads.specs.declared.EngineLoad.{EngineLoad}
 use Rattle.partition.specs.Plain.{recordNo}
+use Rattle.partition.specs.PlainKinds.{numberNo}
+use Rattle.planner.specs.declared.EngineRecord.{EngineRecord}
 use Rattle.planner.specs.declared.Plan.{Plan}
-use Rattle.planner.specs.Plan.{recordsOf}
+use Rattle.planner.specs.Plan.{recordsWith}
 use Rattle.listing.specs.Listing.{space, typesWord, decimal, parted, engineLine, recordLines, planLines, refusalLine, listingOf, planListing}
-use Rattle.listing.specs.Demands.{TellsRefusal, eachTo, engineText, recordText, TellsRecords, TellsPlan, WriteListingPromises}
+use Rattle.listing.specs.Demands.{TellsRefusal, eachTo, engineText, recordText, TellsRecords, TellsPlan, TellsMixed, WriteListingPromises}
 use Rattle.listing.proofs.Laws.{counts-suc, engineLine-parts, lines-suc}
 use Rattle.listing.proofs.Numbers.{in-decimal}
 
@@ -31,9 +34,9 @@ number-told n = record {
 }
 
 -- whichever its number, from whichever list
-pub refused-told : (s : Source) (n used k : ℕ) (loads : List EngineLoad) → TellsRefusal n (listingOf (refused s n) used k loads)
+pub refused-told : (s : Source) (n used k : ℕ) (records : List EngineRecord) → TellsRefusal n (listingOf (refused s n) used k records)
 unfolding listingOf
-refused-told s n used k loads = number-told n
+refused-told s n used k records = number-told n
 
 -- a text tells one number
 pub told-once : {n k : ℕ} {text : List ℕ} → TellsRefusal n text → TellsRefusal k text → n ≡ k
@@ -46,6 +49,11 @@ told-once a b =
 pub no-plan-told : {n : ℕ} {y : System} {text : List ℕ} → TellsRefusal n text → TellsPlan y text → ⊥
 no-plan-told r p =
     let first : _≡_ {A = ℕ} 114 101 = ap (λ (l : List ℕ). getD l 0 0) (sym (r .bytes) ∙ p .lines) in
+    absurd (omega arith)
+
+pub no-mixed-told : {n : ℕ} {y : System} {k : Kind} {text : List ℕ} → TellsRefusal n text → TellsMixed y k text → ⊥
+no-mixed-told r p =
+    let first : _≡_ {A = ℕ} 114 101 = ap (λ (l : List ℕ). getD l 0 0) (sym (r .bytes) ∙ p .tells .lines) in
     absurd (omega arith)
 
 -- a plan
@@ -73,46 +81,47 @@ line-told e time memory xs k h =
     ∙ regroup front (space ∷ []) typesWord (parted (map decimal (take k xs))) (10 ∷ [])
     ∙ ap (λ (l : List ℕ). front ++ (32 ∷ 116 ∷ 121 ∷ 112 ∷ 101 ∷ 115 ∷ l) ++ (10 ∷ [])) (counts-told xs k h)
 
-records-told : (k : ℕ) (loads : List EngineLoad) (used : ℕ) → used ≤ length loads → ((e : ℕ) → 1 ≤ e → e ≤ used → k ≤ length (recordNo loads e .counts))
-    → recordLines k (take used (recordsOf loads)) ≡ eachTo (recordText decimal k loads) used
+records-told : (k : ℕ) (numbers : List ℕ) (loads : List EngineLoad) (used : ℕ) → used ≤ length loads → used ≤ length numbers → ((e : ℕ) → 1 ≤ e → e ≤ used → k ≤ length (recordNo loads e .counts))
+    → recordLines k (take used (recordsWith numbers loads)) ≡ eachTo (recordText decimal k numbers loads) used
 unfolding recordLines eachTo
-records-told k loads zero h each = refl
-records-told k loads (suc i) h each =
+records-told k numbers loads zero h named each = refl
+records-told k numbers loads (suc i) h named each =
     let back : i ≡ suc i - 1 = omega arith in
     let l = recordNo loads (suc i) in
-    ap (λ (n : ℕ). recordLines k (take n (recordsOf loads))) (sym (add-one i))
-    ∙ lines-suc k loads i (record { time = 0; memory = 0; counts = [] }) (omega arith)
-    ∙ ap₂ (λ (a b : List ℕ). a ++ b) (records-told k loads i (omega arith) (λ e low high. each e low (omega arith)))
-    (ap₂ (λ (n j : ℕ). engineLine n (getD loads j none .time) (getD loads j none .memory) (take k (getD loads j none .counts))) (add-one i) back
-    ∙ line-told (suc i) (l .time) (l .memory) (l .counts) k (each (suc i) (omega arith) (omega arith)))
+    ap (λ (n : ℕ). recordLines k (take n (recordsWith numbers loads))) (sym (add-one i))
+    ∙ lines-suc k numbers loads i (record { time = 0; memory = 0; counts = [] }) (omega arith) (omega arith)
+    ∙ ap₂ (λ (a b : List ℕ). a ++ b) (records-told k numbers loads i (omega arith) (omega arith) (λ e low high. each e low (omega arith)))
+    (ap (λ (j : ℕ). engineLine (getD numbers j 0) (getD loads j none .time) (getD loads j none .memory) (take k (getD loads j none .counts))) back
+    ∙ line-told (numberNo numbers (suc i)) (l .time) (l .memory) (l .counts) k (each (suc i) (omega arith) (omega arith)))
   where
     none : EngineLoad
     none = record { time = 0; memory = 0; counts = [] }
 
-pub plan-told : (used k : ℕ) (loads : List EngineLoad) → used ≤ length loads → ((e : ℕ) → 1 ≤ e → e ≤ used → k ≤ length (recordNo loads e .counts)) → TellsRecords used k loads (planLines used k loads)
+pub plan-told : (used k : ℕ) (numbers : List ℕ) (loads : List EngineLoad) → used ≤ length loads → used ≤ length numbers → ((e : ℕ) → 1 ≤ e → e ≤ used → k ≤ length (recordNo loads e .counts))
+    → TellsRecords used k numbers loads (planLines used k (recordsWith numbers loads))
 unfolding parted
-plan-told used k loads h each = record {
+plan-told used k numbers loads h named each = record {
   spelt = decimal;
   inDecimal = in-decimal;
   lines =
-      let told = records-told k loads used h each in
+      let told = records-told k numbers loads used h named each in
       let text : (lines : List ℕ) → decimal used ++ [] ++ (10 ∷ []) ++ lines ≡ decimal used ++ (10 ∷ lines) = λ lines. simp (append-nil, append-assoc) in
-      ap (λ (l : List ℕ). 101 ∷ 110 ∷ 103 ∷ 105 ∷ 110 ∷ 101 ∷ 115 ∷ 32 ∷ l) (text (recordLines k (take used (recordsOf loads))) ∙ ap (λ (l : List ℕ). decimal used ++ (10 ∷ l)) told);
+      ap (λ (l : List ℕ). 101 ∷ 110 ∷ 103 ∷ 105 ∷ 110 ∷ 101 ∷ 115 ∷ 32 ∷ l) (text (recordLines k (take used (recordsWith numbers loads))) ∙ ap (λ (l : List ℕ). decimal used ++ (10 ∷ l)) told);
 }
 
 -- what `write_listing` promises
 
-listing-given : (a : Answer) (used k : ℕ) (loads : List EngineLoad) → ((why : Refusal) → a ≡ Refused why → ⊥) → listingOf (outcomeOf a) used k loads ≡ planLines used k loads
+listing-given : (a : Answer) (used k : ℕ) (records : List EngineRecord) → ((why : Refusal) → a ≡ Refused why → ⊥) → listingOf (outcomeOf a) used k records ≡ planLines used k records
 unfolding listingOf
-listing-given Accepted used k loads h = refl
-listing-given (Number n) used k loads h = refl
-listing-given (Refused why) used k loads h = absurd (h why refl)
+listing-given Accepted used k records h = refl
+listing-given (Number n) used k records h = refl
+listing-given (Refused why) used k records h = absurd (h why refl)
 
 pub write-promised : (p : Plan) {old new : List ℕ} {r : ℕ} → Written (planListing p) old new r → WriteListingPromises p old new r
 write-promised p written = record {
   written = written;
-  onInput = λ n e. rw e (refused-told fromInput n (p .used) (p .typecount) (p .loads));
-  onState = λ n e. rw e (refused-told fromState n (p .used) (p .typecount) (p .loads));
-  given = λ h few known.
-      rw (listing-given (p .answer) (p .used) (p .typecount) (p .loads) h) (plan-told (p .used) (p .typecount) (p .loads) few known);
+  onInput = λ n e. rw e (refused-told fromInput n (p .used) (p .typecount) (recordsWith (p .numbers) (p .loads)));
+  onState = λ n e. rw e (refused-told fromState n (p .used) (p .typecount) (recordsWith (p .numbers) (p .loads)));
+  given = λ h few named known.
+      rw (listing-given (p .answer) (p .used) (p .typecount) (recordsWith (p .numbers) (p .loads)) h) (plan-told (p .used) (p .typecount) (p .numbers) (p .loads) few named known);
 }

@@ -12,15 +12,19 @@ use Rattle.system.specs.declared.Answer.the-variants.{Refused}
 use Rattle.system.specs.declared.Refusal.{Refusal}
 use Rattle.system.specs.declared.Refusal.the-variants.{Input, State}
 use Rattle.system.specs.Limits.{engineLimit}
-use Rattle.system.specs.Layout.{readFile, opened, unread}
+use Rattle.system.specs.declared.Kind.{Kind}
+use Rattle.system.specs.declared.Second.the-variants.{TwoKinds}
+use Rattle.system.specs.Layout.{readCard, readFile, opened, unread}
+use Rattle.system.specs.Card.{cardOf}
 use Rattle.loads.specs.declared.EngineLoad.{EngineLoad}
 use Rattle.partition.specs.Assignment.{Assignment}
 use Rattle.partition.specs.Lent.{Lent}
 use Rattle.partition.specs.OwnWords.{overInstances, timeOn, memoryOn, sharedMemoryOn}
 use Rattle.partition.specs.Plain.{ceilingNo, LongEnough, TooShort, EngineOf, placesNo, Partition, Impossible, usedTo, recordNo}
+use Rattle.partition.specs.PlainKinds.{MixedPartition, MixedImpossible, numberNo, MixedOnFewest}
 use Rattle.planner.specs.declared.Plan.{Plan}
-use Rattle.planner.specs.Plan.{planTable}
-use Rattle.planner.specs.Demands.{PlanPromises}
+use Rattle.planner.specs.Mixed.{cardTable}
+use Rattle.planner.specs.MixedDemands.{PlanCall}
 use Rattle.listing.specs.Listing.{refusalLine, planListing, fileListing}
 
 -- the bytes of `0` to `9`
@@ -64,16 +68,16 @@ engineText spelt k e time memory count =
 abbrev pub planText : (ℕ → List ℕ) → ℕ → (ℕ → List ℕ) → List ℕ
 planText spelt used lineOf = 101 ∷ 110 ∷ 103 ∷ 105 ∷ 110 ∷ 101 ∷ 115 ∷ 32 ∷ (spelt used ++ (10 ∷ eachTo lineOf used))
 
--- the line of engine e as its record has it
-abbrev pub recordText : (ℕ → List ℕ) → ℕ → List EngineLoad → ℕ → List ℕ
-recordText spelt k loads e =
-    engineText spelt k e (recordNo loads e .time) (recordNo loads e .memory) (λ (t : ℕ). getD (recordNo loads e .counts) (t - 1) 0)
+-- the line of the i-th record, counted from 1: its engine's number, and what it holds
+abbrev pub recordText : (ℕ → List ℕ) → ℕ → List ℕ → List EngineLoad → ℕ → List ℕ
+recordText spelt k numbers loads i =
+    engineText spelt k (numberNo numbers i) (recordNo loads i .time) (recordNo loads i .memory) (λ (t : ℕ). getD (recordNo loads i .counts) (t - 1) 0)
 
--- the text is about the records of engines 1 to `used`, in this order
-pub record TellsRecords (used k : ℕ) (loads : List EngineLoad) (text : List ℕ) : Type 0 where
+-- the text is about the first `used` records, in this order, of engines with these numbers
+pub record TellsRecords (used k : ℕ) (numbers : List ℕ) (loads : List EngineLoad) (text : List ℕ) : Type 0 where
   pub spelt : ℕ → List ℕ
   pub inDecimal : (n : ℕ) → InDecimal n (spelt n)
-  pub lines : text ≡ planText spelt used (recordText spelt k loads)
+  pub lines : text ≡ planText spelt used (recordText spelt k numbers loads)
 
 -- what the instances on engine e take of its memory: s and d of each instance under rule 0; s of each type of which one is there and d of each instance under rule 1
 abbrev pub memoryUnder : System → Assignment → ℕ → ℕ
@@ -96,15 +100,26 @@ pub record TellsPlan (y : System) (text : List ℕ) : Type 0 where
   pub inDecimal : (n : ℕ) → InDecimal n (spelt n)
   pub lines : text ≡ planText spelt used (assignedText spelt y mapping)
 
+-- the same of two kinds of engine (request 2026-13): the lines are the records of a partition "on the fewest engines of both kinds together, and among those the fewest of the second kind",
+-- with the used engines' own numbers, rising
+pub record TellsMixed (y : System) (k : Kind) (text : List ℕ) : Type 0 where
+  pub used : ℕ
+  pub numbers : List ℕ
+  pub loads : List EngineLoad
+  pub onFewest : MixedOnFewest y k (ceilingNo y) numbers loads used
+  pub tells : TellsRecords used (y .typecount) numbers loads text
+
 -- Demand 2, where the file reads and 11 passes: such a text if there is a partition, and `refused 12` exactly if there is none
 pub record ListingDemand2 (file : List ℕ) (table : Lent) (text : List ℕ) : Type 0 where
   pub given : (y : System) → readFile file ≡ opened y → LongEnough y table → (χ : Assignment) → Partition y (EngineOf y) (ceilingNo y) χ → TellsPlan y text
   pub impossible : (y : System) → readFile file ≡ opened y → LongEnough y table → TellsRefusal 12 text ↔ Impossible y (EngineOf y) (ceilingNo y)
+  pub givenMixed : (y : System) (k : Kind) → readCard file ≡ opened y → y .second ≡ TwoKinds k → LongEnough y table → (χ : Assignment) → MixedPartition y k (ceilingNo y) χ → TellsMixed y k text
+  pub impossibleMixed : (y : System) (k : Kind) → readCard file ≡ opened y → y .second ≡ TwoKinds k → LongEnough y table → TellsRefusal 12 text ↔ MixedImpossible y k (ceilingNo y)
 
 -- before that the number of the file's own refusal, whichever it is, and `refused 11` exactly if a part of the table is shorter than the columns
 pub record ListingRefuses (file : List ℕ) (table : Lent) (text : List ℕ) : Type 0 where
-  pub unreadable : (n : ℕ) → readFile file ≡ unread n → TellsRefusal n text
-  pub shortTable : (y : System) → readFile file ≡ opened y → TellsRefusal 11 text ↔ TooShort y table
+  pub unreadable : (n : ℕ) → readCard file ≡ unread n → TellsRefusal n text
+  pub shortTable : (y : System) → readCard file ≡ opened y → TellsRefusal 11 text ↔ TooShort y table
 
 -- the number of a refusal, from whichever list
 abbrev pub numberOf : Refusal → ℕ
@@ -122,16 +137,16 @@ pub record WriteListingPromises (p : Plan) (old new : List ℕ) (r : ℕ) : Type
   pub written : Written (planListing p) old new r
   pub onInput : (n : ℕ) → p .answer ≡ Refused (Input n) → TellsRefusal n (planListing p)
   pub onState : (n : ℕ) → p .answer ≡ Refused (State n) → TellsRefusal n (planListing p)
-  pub given : ((why : Refusal) → p .answer ≡ Refused why → ⊥) → p .used ≤ length (p .loads)
+  pub given : ((why : Refusal) → p .answer ≡ Refused why → ⊥) → p .used ≤ length (p .loads) → p .used ≤ length (p .numbers)
       → ((e : ℕ) → 1 ≤ e → e ≤ p .used → p .typecount ≤ length (recordNo (p .loads) e .counts))
-      → TellsRecords (p .used) (p .typecount) (p .loads) (planListing p)
+      → TellsRecords (p .used) (p .typecount) (p .numbers) (p .loads) (planListing p)
 
 -- what the call `listing` promises of its result, the buffer and the table, and with that the refusals and demand 2; the plan that it lists is the one that `plan_of` gives,
 -- and it leaves the table as that call does
 pub record ListingPromises (file : List ℕ) (table : Lent) (old new : List ℕ) (r : ℕ) (tableAfter : Lent) : Type 0 where
   pub written : Written (fileListing file table) old new r
-  pub leavesTable : tableAfter ≡ planTable (readFile file) table engineLimit
+  pub leavesTable : tableAfter ≡ cardTable (cardOf (readCard file)) table engineLimit
   pub refuses : ListingRefuses file table (fileListing file table)
   pub demand2 : ListingDemand2 file table (fileListing file table)
-  pub samePlan : (p : Plan) (after : Lent) → PlanPromises (readFile file) table engineLimit p after → planListing p ≡ fileListing file table
-  pub sameTable : (p : Plan) (after : Lent) → PlanPromises (readFile file) table engineLimit p after → tableAfter ≡ after
+  pub samePlan : (p : Plan) (after : Lent) → PlanCall (cardOf (readCard file)) table engineLimit p after → planListing p ≡ fileListing file table
+  pub sameTable : (p : Plan) (after : Lent) → PlanCall (cardOf (readCard file)) table engineLimit p after → tableAfter ≡ after

@@ -5,13 +5,14 @@ use mathlib.Core.Bool.{cond}
 use lib.ListN.{take}
 use lib.Dec.{ltb}
 use Rattle.system.specs.Limits.{engineLimit}
-use Rattle.system.specs.Layout.{readFile}
+use Rattle.system.specs.Layout.{readCard}
+use Rattle.system.specs.Card.{Card, cardOf}
 use Rattle.system.specs.Outcome.{Outcome, accepted, refused, outcomeOf}
-use Rattle.loads.specs.declared.EngineLoad.{EngineLoad}
 use Rattle.partition.specs.Lent.{Lent}
 use Rattle.planner.specs.declared.EngineRecord.{EngineRecord}
 use Rattle.planner.specs.declared.Plan.{Plan}
-use Rattle.planner.specs.Plan.{Verdict, verdictOf, planOutcome, usedEngines, plannedTypes, planLoads, recordsOf}
+use Rattle.planner.specs.Plan.{Verdict, planOutcome, usedEngines, plannedTypes, planLoads, recordsOf, recordsWith}
+use Rattle.planner.specs.Mixed.{cardOutcome, cardUsed, cardTypes, cardRecords}
 
 -- the words of a listing, as bytes
 abbrev pub enginesWord : List ℕ
@@ -74,26 +75,30 @@ unfoldable pub recordLines : ℕ → List EngineRecord → List ℕ
 recordLines k [] = []
 recordLines k (e ∷ es) = recordLine k e ++ recordLines k es
 
--- "First the used engines, then for each its number, .."
-abbrev pub planLines : ℕ → ℕ → List EngineLoad → List ℕ
-planLines used k loads = line enginesWord (decimal used ∷ []) ++ recordLines k (take used (recordsOf loads))
+-- "First the used engines, then for each its number, ..": their records come first
+abbrev pub planLines : ℕ → ℕ → List EngineRecord → List ℕ
+planLines used k records = line enginesWord (decimal used ∷ []) ++ recordLines k (take used records)
 
 -- "A refusal is one line, as `refused 12`"
 abbrev pub refusalLine : ℕ → List ℕ
 refusalLine n = line refusedWord (decimal n ∷ [])
 
-unfoldable pub listingOf : Outcome → ℕ → ℕ → List EngineLoad → List ℕ
-listingOf (accepted ns) used k loads = planLines used k loads
-listingOf (refused s n) used k loads = refusalLine n
+unfoldable pub listingOf : Outcome → ℕ → ℕ → List EngineRecord → List ℕ
+listingOf (accepted ns) used k records = planLines used k records
+listingOf (refused s n) used k records = refusalLine n
 
 -- the listing of a plan
 abbrev pub planListing : Plan → List ℕ
-planListing p = listingOf (outcomeOf (p .answer)) (p .used) (p .typecount) (p .loads)
+planListing p = listingOf (outcomeOf (p .answer)) (p .used) (p .typecount) (recordsWith (p .numbers) (p .loads))
 
--- the listing of a verdict on a system file
+-- the listing of a verdict on a system file of one kind of engine
 abbrev pub verdictListing : Verdict → List ℕ
-verdictListing v = listingOf (planOutcome v) (usedEngines v) (plannedTypes v) (planLoads v)
+verdictListing v = listingOf (planOutcome v) (usedEngines v) (plannedTypes v) (recordsOf (planLoads v))
+
+-- of any card
+abbrev pub cardListing : Card → Lent → ℕ → List ℕ
+cardListing c table room = listingOf (cardOutcome c table room) (cardUsed c table room) (cardTypes c table room) (cardRecords c table room)
 
 -- the listing of a file, planned over the lent table
 abbrev pub fileListing : List ℕ → Lent → List ℕ
-fileListing file table = verdictListing (verdictOf (readFile file) table engineLimit)
+fileListing file table = cardListing (cardOf (readCard file)) table engineLimit

@@ -8,7 +8,7 @@ ghost use lib.ListN.{length, getD, take, drop};
 ghost use Rattle.buffer.specs.Written.{Puts};
 ghost use Rattle.system.specs.Outcome.{refusalOf};
 ghost use Rattle.partition.specs.Lent.{lent};
-ghost use Rattle.planner.specs.Plan.{recordsOf};
+ghost use Rattle.planner.specs.Plan.{recordsWith};
 ghost use Rattle.listing.specs.Listing.{enginesWord, utilWord, memWord, typesWord, refusedWord, space, decimal, parted, recordLine, recordLines, planLines, listingOf};
 ghost use Rattle.listing.specs.Room.{numberRoom, spacedRoom, lineRoom, engineRoom, enginesRoom, listingRoom};
 ghost use Rattle.listing.specs.Demands.{RefusalPromises, WriteListingPromises, ListingPromises};
@@ -170,21 +170,22 @@ fn put_engine(out: &mut [u8], at: usize, number: usize, load: EngineLoad, typeco
     put_numbered(out, sized, TYPES, 5, &numbers[..end], b'\n')
 }
 
-// Puts the lines of the first `used` engines.
+// Puts the lines of the first `used` engines, which have these numbers.
 fn put_engines(
     out: &mut [u8],
     at: usize,
+    numbers: [usize; ENGINE_LIMIT],
     loads: [EngineLoad; ENGINE_LIMIT],
     used: usize,
     typecount: usize,
 ) -> usize
     requires { ⌜ at + enginesRoom ≤ length (now out) ⌝ }
-    ensures { λ r. ⌜ Puts (recordLines typecount (take used (recordsOf loads))) at (now (out .entry)) (now (out .exit)) r × (r ≤ at + enginesRoom) ⌝ }
+    ensures { λ r. ⌜ Puts (recordLines typecount (take used (recordsWith numbers loads))) at (now (out .entry)) (now (out .exit)) r × (r ≤ at + enginesRoom) ⌝ }
 {
     let end = least(used, ENGINE_LIMIT);
     let mut next = at;
     for i in 0..end {
-        next = put_engine(out, next, i + 1, loads[i], typecount);
+        next = put_engine(out, next, numbers[i], loads[i], typecount);
     }
     next
 }
@@ -194,13 +195,14 @@ fn put_plan(
     out: &mut [u8],
     used: usize,
     typecount: usize,
+    numbers: [usize; ENGINE_LIMIT],
     loads: [EngineLoad; ENGINE_LIMIT],
 ) -> usize
     requires { ⌜ listingRoom ≤ length (now out) ⌝ }
-    ensures { λ r. ⌜ Puts (planLines used typecount loads) 0 (now (out .entry)) (now (out .exit)) r × (r ≤ listingRoom) ⌝ }
+    ensures { λ r. ⌜ Puts (planLines used typecount (recordsWith numbers loads)) 0 (now (out .entry)) (now (out .exit)) r × (r ≤ listingRoom) ⌝ }
 {
     let next = put_entry(out, 0, ENGINES, 7, used as u64, b'\n');
-    put_engines(out, next, loads, used, typecount)
+    put_engines(out, next, numbers, loads, used, typecount)
 }
 
 // Puts the listing of a refusal, from whichever list.
@@ -227,8 +229,9 @@ pub fn write_listing(out: &mut [u8; 4096], p: Plan) -> usize
 {
     let answer = p.answer;
     let Answer::Refused(why) = answer else {
+        let numbers = p.numbers;
         let loads = p.loads;
-        return put_plan(out, p.used, p.typecount, loads);
+        return put_plan(out, p.used, p.typecount, numbers, loads);
     };
     put_refusal(out, why)
 }

@@ -13,7 +13,7 @@ use Rattle.system.specs.Limits.{columnsOf}
 use Rattle.system.proofs.Laws.{columnsOf-pos}
 use Rattle.loads.specs.Load.{holdsNone, within, less}
 use Rattle.loads.specs.Column.{columnFrom, columnOf, loadOf}
-use Rattle.loads.proofs.Order.{Below, none, more, and-parts, cons-path, within→below, below→within, below-trans, below-less}
+use Rattle.loads.proofs.Order.{Below, none, more, and-parts, cons-path, within→below, below→within, below-refl, below-trans, below-less}
 use Rattle.loads.proofs.Order.{holdsNone-is-zero}
 
 -- intermediate
@@ -105,6 +105,18 @@ pub holdsNone-loadOf : (ns : List ℕ) (c : ℕ) → c < columnsOf ns → holdsN
 holdsNone-loadOf ns c h e =
     sym (columnOf-loadOf ns c h)
     ∙ rw (holdsNone-is-zero (loadOf ns c) e, length-loadOf ns c) (columnOf-zero ns)
+
+-- main: the column of all instances is the last
+
+column-last : (ns : List ℕ) → columnOf ns ns + 1 ≡ columnsOf ns
+unfolding columnFrom columnsOf
+column-last [] = refl
+column-last (n ∷ ns) = rw (columnOf-horner n n ns ns, ← (column-last ns), mul-add (n + 1) (columnOf ns ns) 1) (omega arith)
+
+pub load-last : (ns : List ℕ) → loadOf ns (columnsOf ns - 1) ≡ ns
+load-last ns =
+    let e : columnsOf ns - 1 ≡ columnOf ns ns = omega (arith, column-last ns) in
+    rw e (loadOf-columnOf-below (below-refl ns))
 
 -- main: the load less that of a dominated column
 

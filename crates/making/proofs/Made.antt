@@ -10,6 +10,9 @@ use lib.ListN.{length, getD, set, length-append}
 use lib.Seq.{getD-set-same, getD-set-other, ext-getD}
 use lib.Dec.{leb, eqb}
 use Rattle.system.specs.declared.Most.the-variants.{NotGiven}
+use Rattle.system.specs.declared.There.the-variants.{Absent}
+use Rattle.system.specs.declared.Second.{Second}
+use Rattle.system.specs.declared.Second.the-variants.{OneKind}
 use Rattle.system.specs.declared.TaskType.{TaskType}
 use Rattle.system.specs.declared.System.{System}
 use Rattle.system.specs.Values.{noTask, ceilingsOf}
@@ -17,7 +20,7 @@ use Rattle.system.specs.Limits.{columnsOf}
 use Rattle.system.proofs.Laws.{getD-blank}
 use Rattle.partition.specs.Plain.{typeNo, LimitsOut}
 use Rattle.partition.proofs.Plain.{columns-out, ceiling-out}
-use Rattle.writer.specs.Meaning.{typeOut, typesOut, fileOut}
+use Rattle.writer.specs.Meaning.{secondOut, typeOut, typesOut, fileOut}
 use Rattle.making.specs.declared.Recipe.{Recipe}
 use Rattle.making.specs.Generator.{step, valueAfter}
 use Rattle.making.specs.Making.{drawnFrom, drawnTo, drawnSystem}
@@ -64,6 +67,11 @@ module _ (w : Recipe) where
   drawn-platform zero = (refl, refl, refl, refl)
   drawn-platform (suc t) = drawn-platform t
 
+  drawn-second : (t : ℕ) → drawnTo w t .second ≡ OneKind
+  unfolding drawnTo
+  drawn-second zero = refl
+  drawn-second (suc t) = drawn-second t
+
 -- intermediate: the values of the three draws of type t
 
 value-first : (seed t : ℕ) → 1 ≤ t → step (valueAfter seed (3 * (t - 1))) ≡ valueAfter seed (3 * t - 2)
@@ -100,7 +108,10 @@ module _ (w : Recipe) (short : w .seed < 2 ^ 64) (few : w .typecount ≤ 6) wher
         times = λ t some known. ap (λ (task : TaskType). task .time) (type-at t some known) ∙ ap (λ (x : ℕ). 1 + x % w .timecap) (value-first (w .seed) t some);
         memories = λ t some known. ap (λ (task : TaskType). task .memory) (type-at t some known) ∙ ap (λ (x : ℕ). 1 + x % w .memorycap) (value-second (w .seed) t some);
         ceilings = λ t some known. ap (λ (task : TaskType). task .ceiling) (type-at t some known) ∙ ap (λ (x : ℕ). x % (w .top + 1)) (value-third (w .seed) t some);
-        bare = λ t some known. (ap (λ (task : TaskType). task .data) (type-at t some known), ap (λ (task : TaskType). task .most) (type-at t some known));
+        bare = λ t some known.
+            let is = type-at t some known in
+            (ap (λ (task : TaskType). task .data) is, ap (λ (task : TaskType). task .most) is, ap (λ (task : TaskType). task .there) is);
+        second = drawn-second w (w .typecount);
         six = drawn-six w (w .typecount);
         past = λ t over. drawn-past w (w .typecount) (t - 1) (omega arith);
       }
@@ -138,6 +149,16 @@ module _ (w : Recipe) (y : System) (made : Made w y) (within : NumbersWithin w) 
   made-columns : columnsOf (ceilingsOf y) ≤ (w .top + 1) ^ w .typecount
   made-columns = columns-few (ceilingsOf y) (w .top) (w .typecount) ceiling-few ceiling-past
 
+  -- nothing of a second kind: of types 1 to k by the draws, and past them there is nothing
+  made-absent : (i : ℕ) → getD (y .types) i noTask .there ≡ Absent
+  made-absent i =
+      let same : suc i - 1 ≡ i = omega arith in
+      subst (λ (j : ℕ). getD (y .types) j noTask .there ≡ Absent) same (go (leb (suc i) (w .typecount)) refl)
+    where
+      go : (b : Bool) → leb (suc i) (w .typecount) ≡ b → typeNo y (suc i) .there ≡ Absent
+      go true q = made .bare (suc i) (omega arith) (leb-true (suc i) (w .typecount) q) .2
+      go false q = ap (λ (task : TaskType). task .there) (made .past (suc i) (leb-false (suc i) (w .typecount) q))
+
   -- main: within every limit, where 39 and 40 pass
   pub made-limits : PowerWithin w → LimitsOut y
   made-limits power = record {
@@ -164,12 +185,14 @@ module _ (w : Recipe) (y : System) (made : Made w y) (within : NumbersWithin w) 
           ap (λ (task : TaskType). task .most) none,
         );
     columns = rw (columns-out y (made .six)) (omega (arith, made-columns, power));
+    oneKind = made .second;
+    absent = λ t. made-absent (t - 1);
   }
 
 -- main: the bytes of its file
 
-type-length : (t : TaskType) → t .data ≡ 0 → t .most ≡ NotGiven → length (typeOut false t) ≡ 13
-type-length t none bare = rw (none, bare)
+type-length : (t : TaskType) → t .data ≡ 0 → t .most ≡ NotGiven → t .there ≡ Absent → length (typeOut false t) ≡ 13
+type-length t none bare alone = rw (none, bare, alone)
 
 module _ (w : Recipe) (y : System) (made : Made w y) where
   types-length : (n : ℕ) → n ≤ w .typecount → length (typesOut (λ (t : ℕ). false) y n) ≡ 13 * n
@@ -178,13 +201,14 @@ module _ (w : Recipe) (y : System) (made : Made w y) where
   types-length (suc n) h =
       let bare = made .bare (suc n) (omega arith) h in
       length-append (typesOut (λ (t : ℕ). false) y n) (typeOut false (typeNo y (suc n)))
-      ∙ omega (arith, types-length n (omega arith), type-length (typeNo y (suc n)) (bare .0) (bare .1))
+      ∙ omega (arith, types-length n (omega arith), type-length (typeNo y (suc n)) (bare .0) (bare .1) (bare .2))
 
   pub made-length : length (fileOut y) ≡ sizeOut w
   made-length =
       let types : length (typesOut (λ (t : ℕ). false) y (y .typecount)) ≡ 13 * w .typecount =
       ap (λ (k : ℕ). length (typesOut (λ (t : ℕ). false) y k)) (made .typecount) ∙ types-length (w .typecount) (omega arith) in
-      omega arith
+      let second : length (secondOut (y .second)) ≡ 0 = ap (λ (s : Second). length (secondOut s)) (made .second) in
+      omega (arith, length-append (secondOut (y .second)) (typesOut (λ (t : ℕ). false) y (y .typecount)))
 
 -- main: a recipe makes one system
 
@@ -200,7 +224,8 @@ module _ (w : Recipe) (y z : System) (a : Made w y) (b : Made w z) where
       let ceiling = a .ceilings t some known ∙ ap (λ (x : ℕ). x % (w .top + 1)) (same-value (3 * t)) ∙ sym (b .ceilings t some known) in
       let none = a .bare t some known .0 ∙ sym (b .bare t some known .0) in
       let free = a .bare t some known .1 ∙ sym (b .bare t some known .1) in
-      λ i. record { time = time i; memory = memory i; ceiling = ceiling i; «data» = none i; most = free i }
+      let alone = a .bare t some known .2 ∙ sym (b .bare t some known .2) in
+      λ i. record { time = time i; memory = memory i; ceiling = ceiling i; «data» = none i; most = free i; there = alone i }
 
   same-type : (t : ℕ) → 1 ≤ t → typeNo y t ≡ typeNo z t
   same-type t some = go (leb t (w .typecount)) refl
@@ -218,4 +243,5 @@ module _ (w : Recipe) (y z : System) (a : Made w y) (b : Made w z) where
       let count = a .typecount ∙ sym (b .typecount) in
       let types = ext-getD noTask (y .types) (z .types) (a .six ∙ sym (b .six)) (λ i h. (let same : suc i - 1 ≡ i = omega arith in
       subst (λ (j : ℕ). getD (y .types) j noTask ≡ getD (z .types) j noTask) same (same-type (suc i) (omega arith)))) in
-      λ i. record { engines = engines i; rule = rule i; timecap = time i; memorycap = memory i; typecount = count i; types = types i }
+      let second = a .second ∙ sym (b .second) in
+      λ i. record { engines = engines i; rule = rule i; timecap = time i; memorycap = memory i; typecount = count i; types = types i; second = second i }

@@ -163,7 +163,8 @@ rows-outside none a zero es rows h = refl
 rows-outside none a (suc n) es rows h =
     cons-path (rowOn-outside none es rows a (h a (le-refl a))) (rows-outside none (suc a) n es rows (λ e l. h e (omega arith)))
 
-numbersFrom-more : {B : Type 0} (f : ℕ → B) (a m n : ℕ) → map f (numbersFrom a (m + n)) ≡ map f (numbersFrom a m) ++ map f (numbersFrom (a + m) n)
+-- the numbers from a, as many as m + n, are as many as m and after them as many as n
+pub numbersFrom-more : {B : Type 0} (f : ℕ → B) (a m n : ℕ) → map f (numbersFrom a (m + n)) ≡ map f (numbersFrom a m) ++ map f (numbersFrom (a + m) n)
 unfolding numbersFrom
 numbersFrom-more f a zero n = rw (zero-add n, add-zero a)
 numbersFrom-more f a (suc m) n = rw (suc-add m n) (cons-path refl (numbersFrom-more f (suc a) m n ∙ rw (suc-add a m, ← (add-suc a m))))

@@ -13,6 +13,9 @@ pub mod ForSystem
 pub mod Standing
 pub mod Plain
 pub mod Together
+pub mod Splits
+pub mod TwoKinds
+pub mod PlainKinds
 pub mod Releases
 pub mod ReleaseSheets
 pub mod ReleasesShown

@@ -1,5 +1,5 @@
 -- A good assignment is one that keeps source 001, Definition 1 in its own words: the sums over the single instances are the time and the memory of the loads, and their counts.
-use Prim.Native.Nat.{ℕ, suc, _+_, _*_, _≤_}
+use Prim.Native.Nat.{ℕ, suc, _+_, _*_, _≤_, _<_}
 use mathlib.Core.Path.{_≡_, refl, sym, ap₂, _∙_}
 use mathlib.Core.List.{List, [], _∷_}
 use mathlib.Core.Bool.{Bool, true, false, cond, _||_}
@@ -7,15 +7,15 @@ use mathlib.Core.Logic.{_↔_}
 use native.Mathlib.Nat.{zero-mul, mul-one, suc-mul, zero-add, add-comm}
 use native.Mathlib.Omega.{arith}
 use borrow.Author.Tests.{eqb-true, eqb-false}
-use lib.ListN.{getD, List·getD-map}
+use lib.ListN.{length, getD, List·getD-map}
 use lib.Dec.{eqb, eqb·suc-zero}
 use Rattle.system.specs.declared.TaskType.{TaskType}
 use Rattle.system.specs.declared.System.{System}
-use Rattle.loads.specs.Load.{sumOver, timeAt, timeOf, memoryAt, memoryOf, apart, fitsEngine}
+use Rattle.loads.specs.Load.{sumOver, timeAt, timeOf, memoryAt, memoryOf, fitsEngine}
 use Rattle.loads.proofs.Order.{and-both}
 use Rattle.loads.proofs.Laws.{own-all, apart-entries, fits-of, fits-time, fits-memory, fits-apart}
 use Rattle.partition.specs.Assignment.{Assignment, countOn, loadOn, among, every, good}
-use Rattle.partition.specs.OwnWords.{overInstances, sumOn, timeOn, memoryOn, sharedMemoryOn, placeOf, Definition1}
+use Rattle.partition.specs.OwnWords.{overInstances, sumOn, timeOn, memoryOn, sharedMemoryOn, placeOf, Definition1, KeepsOn}
 use Rattle.partition.proofs.Shares.{good-parts}
 use Rattle.partition.proofs.Lists.{every-getD, every-of-getD, among-tested, tested-among}
 
@@ -84,51 +84,79 @@ pub counted-on : (e : ℕ) (χ : Assignment) (t : ℕ) → overInstances e 1 (ge
 unfolding countOn
 counted-on e χ t = overInstances-count e 1 (getD χ t []) ∙ mul-one (countOn e (getD χ t [])) ∙ sym (List·getD-map (countOn e) χ t [])
 
+-- main: the test of a load says what an engine must keep
+
+-- a load that fits an engine is one that keeps Definition 1 there
+pub fits-keeps : (y : System) (e : ℕ) (χ : Assignment) → y .rule ≤ 1 → (fitsEngine y (loadOn e χ) ≡ true) ↔ KeepsOn y e χ
+fits-keeps y e χ r = (there, back)
+  where
+    there : fitsEngine y (loadOn e χ) ≡ true → KeepsOn y e χ
+    there h = record {
+      time = rw (timeOn-timeOf e (y .types) χ) (fits-time y (loadOn e χ) h);
+      ownCopies = λ q. rw (memoryOn-memoryOf e (y .types) χ, ← q) (fits-memory y (loadOn e χ) h);
+      sharedCode = λ q. rw (sharedMemoryOn-memoryOf e (y .types) χ, ← q) (fits-memory y (loadOn e χ) h);
+      separate = λ t q given. rw (counted-on e χ t) (apart-entries (y .types) (loadOn e χ) .0 (fits-apart y (loadOn e χ) h) t q given);
+    }
+
+    memory : (b : Bool) → eqb (y .rule) 0 ≡ b → KeepsOn y e χ → memoryOf (y .rule) (y .types) (loadOn e χ) ≤ y .memorycap
+    memory true q k =
+        let zero′ = eqb-true (y .rule) 0 q in
+        rw (zero′, ← (memoryOn-memoryOf e (y .types) χ)) (k .ownCopies zero′)
+    memory false q k =
+        let one′ : y .rule ≡ 1 = omega (arith, eqb-false (y .rule) 0 q) in
+        rw (one′, ← (sharedMemoryOn-memoryOf e (y .types) χ)) (k .sharedCode one′)
+
+    back : KeepsOn y e χ → fitsEngine y (loadOn e χ) ≡ true
+    back k =
+        fits-of y (loadOn e χ) (rw (← (timeOn-timeOf e (y .types) χ)) (k .time)) (memory (eqb (y .rule) 0) refl k)
+        (apart-entries (y .types) (loadOn e χ) .1 (λ t q given. rw (← (counted-on e χ t)) (k .separate t q given)))
+
 -- main: good says Definition 1
 
 -- where `E` says which engines the list es has
-module _ (y : System) (χ : Assignment) (es : List ℕ) (E : ℕ → Type 0) (says : (e : ℕ) → (among es e ≡ true) ↔ E e) where
-  fine : ℕ → Bool
-  fine e = fitsEngine y (loadOn e χ)
+module _ (χ : Assignment) (es : List ℕ) (E : ℕ → Type 0) (says : (e : ℕ) → (among es e ≡ true) ↔ E e) where
+  -- every instance is on one of them
+  pub every-placed : (every (every (among es)) χ ≡ true) ↔ ((t j : ℕ) → t < length χ → j < length (getD χ t []) → E (placeOf χ t j))
+  every-placed = (
+    (λ h t j i k. says (placeOf χ t j) .0 (every-getD (among es) (getD χ t []) 0 j (every-getD (every (among es)) χ [] t h i) k)),
+    (λ d.
+        every-of-getD (every (among es)) χ []
+        (λ t i. every-of-getD (among es) (getD χ t []) 0 (λ j k. says (placeOf χ t j) .1 (d t j i k)))),
+  )
 
-  good-keeps : good (λ (e : ℕ). fitsEngine y) es χ ≡ true → Definition1 y E χ
-  unfolding good fine
-  good-keeps h = record {
-    placed = λ t j i k. says (placeOf χ t j) .0 (every-getD (among es) (getD χ t []) 0 j (every-getD (every (among es)) χ [] t (b .0) i) k);
-    time = λ e at. rw (timeOn-timeOf e (y .types) χ) (fits-time y (loadOn e χ) (each e at));
-    ownCopies = λ q e at. rw (memoryOn-memoryOf e (y .types) χ, ← q) (fits-memory y (loadOn e χ) (each e at));
-    sharedCode = λ q e at. rw (sharedMemoryOn-memoryOf e (y .types) χ, ← q) (fits-memory y (loadOn e χ) (each e at));
-    separate = λ t q given e at. rw (counted-on e χ t) (apart-entries (y .types) (loadOn e χ) .0 (fits-apart y (loadOn e χ) (each e at)) t q given);
-  }
-    where
-      b : (every (every (among es)) χ ≡ true) × (every fine es ≡ true)
-      b = good-parts (λ (e : ℕ). fitsEngine y) es χ h
+  module _ (y : System) (rule : y .rule ≤ 1) where
+    fine : ℕ → Bool
+    fine e = fitsEngine y (loadOn e χ)
 
-      each : (e : ℕ) → E e → fine e ≡ true
-      each e at = among-tested fine es e (b .1) (says e .1 at)
+    good-keeps : good (λ (e : ℕ). fitsEngine y) es χ ≡ true → Definition1 y E χ
+    unfolding fine
+    good-keeps h = record {
+      placed = every-placed .0 (b .0);
+      time = λ e at. keeps e at .time;
+      ownCopies = λ q e at. keeps e at .ownCopies q;
+      sharedCode = λ q e at. keeps e at .sharedCode q;
+      separate = λ t q given e at. keeps e at .separate t q given;
+    }
+      where
+        b : (every (every (among es)) χ ≡ true) × (every fine es ≡ true)
+        b = good-parts (λ (e : ℕ). fitsEngine y) es χ h
 
-  keeps-good : y .rule ≤ 1 → Definition1 y E χ → good (λ (e : ℕ). fitsEngine y) es χ ≡ true
-  unfolding good fine
-  keeps-good r d = and-both (every (every (among es)) χ) (every fine es) placed (tested-among fine es (λ e k. each e (says e .0 k)))
-    where
-      placed : every (every (among es)) χ ≡ true
-      placed =
-          every-of-getD (every (among es)) χ []
-          (λ t i. every-of-getD (among es) (getD χ t []) 0 (λ j k. says (placeOf χ t j) .1 (d .placed t j i k)))
+        keeps : (e : ℕ) → E e → KeepsOn y e χ
+        keeps e at = fits-keeps y e χ rule .0 (among-tested fine es e (b .1) (says e .1 at))
 
-      memory : (b : Bool) → eqb (y .rule) 0 ≡ b → (e : ℕ) → E e → memoryOf (y .rule) (y .types) (loadOn e χ) ≤ y .memorycap
-      memory true q e at =
-          let zero′ = eqb-true (y .rule) 0 q in
-          rw (zero′, ← (memoryOn-memoryOf e (y .types) χ)) (d .ownCopies zero′ e at)
-      memory false q e at =
-          let one′ : y .rule ≡ 1 = omega (arith, eqb-false (y .rule) 0 q) in
-          rw (one′, ← (sharedMemoryOn-memoryOf e (y .types) χ)) (d .sharedCode one′ e at)
+    keeps-good : Definition1 y E χ → good (λ (e : ℕ). fitsEngine y) es χ ≡ true
+    unfolding good fine
+    keeps-good d =
+        and-both (every (every (among es)) χ) (every fine es) (every-placed .1 (d .placed))
+        (tested-among fine es (λ e k. fits-keeps y e χ rule .1 (keeps e (says e .0 k))))
+      where
+        keeps : (e : ℕ) → E e → KeepsOn y e χ
+        keeps e at = record {
+          time = d .time e at;
+          ownCopies = λ q. d .ownCopies q e at;
+          sharedCode = λ q. d .sharedCode q e at;
+          separate = λ t q given. d .separate t q given e at;
+        }
 
-      kept : (e : ℕ) → E e → apart (y .types) (loadOn e χ) ≡ true
-      kept e at = apart-entries (y .types) (loadOn e χ) .1 (λ t q given. rw (← (counted-on e χ t)) (d .separate t q given e at))
-
-      each : (e : ℕ) → E e → fine e ≡ true
-      each e at = fits-of y (loadOn e χ) (rw (← (timeOn-timeOf e (y .types) χ)) (d .time e at)) (memory (eqb (y .rule) 0) refl e at) (kept e at)
-
-  pub good-is-definition1 : y .rule ≤ 1 → (good (λ (e : ℕ). fitsEngine y) es χ ≡ true) ↔ Definition1 y E χ
-  good-is-definition1 r = (good-keeps, keeps-good r)
+pub good-is-definition1 : (y : System) (χ : Assignment) (es : List ℕ) (E : ℕ → Type 0) → ((e : ℕ) → (among es e ≡ true) ↔ E e) → y .rule ≤ 1 → (good (λ (e : ℕ). fitsEngine y) es χ ≡ true) ↔ Definition1 y E χ
+good-is-definition1 y χ es E says rule = (good-keeps χ es E says y rule, keeps-good χ es E says y rule)

@@ -1,5 +1,5 @@
 -- The plain words of the demands mean what the theory proves: the columns, the limits, partitions as good assignments, the used engines, and the records on the fewest of them.
-use Prim.Native.Nat.{ℕ, zero, suc, _+_, _-_, _*_, _≤_}
+use Prim.Native.Nat.{ℕ, zero, suc, _+_, _-_, _*_, _≤_, _<_}
 use mathlib.Core.Path.{_≡_, refl, sym, ap, subst, _∙_}
 use mathlib.Core.List.{List, [], _∷_, _++_, map}
 use mathlib.Core.Bool.{Bool, true, false, cond, not, _&&_, _||_}
@@ -9,19 +9,24 @@ use native.Mathlib.Omega.{arith}
 use borrow.Author.Tests.{ltb-true, ltb-false}
 use lib.ListN.{length, getD, length-map, List·getD-map}
 use lib.Dec.{eqb, ltb}
-use Rattle.system.specs.declared.Most.the-variants.{AtMost}
+use Rattle.system.specs.declared.Costs.{Costs}
+use Rattle.system.specs.declared.There.the-variants.{Absent, Takes}
+use Rattle.system.specs.declared.Kind.{Kind}
+use Rattle.system.specs.declared.Second.{Second}
+use Rattle.system.specs.declared.Second.the-variants.{OneKind, TwoKinds}
 use Rattle.system.specs.declared.TaskType.{TaskType}
 use Rattle.system.specs.declared.System.{System}
 use Rattle.system.specs.Values.{noTask, ceilingsOf}
-use Rattle.system.specs.Limits.{typeLimit, mostFault, columnsOf, columns, keepsLimits}
-use Rattle.system.proofs.Laws.{Limits, Sized, some-replica, replicas-keep, limits-of, limits-keep}
+use Rattle.system.specs.Limits.{typeLimit, mostFault, costsFault, given, isOneKind, kindsAgree, columnsOf, columns, keepsCard, keepsLimits}
+use Rattle.system.proofs.Laws.{KindLimits, CardLimits, Limits, Sized, some-replica, replicas-keep, costs-sized, costs-keep, second-limits, second-keep, given-takes}
+use Rattle.system.proofs.Laws.{kinds-absent, kinds-given, absent-kinds, given-kinds, card-of, card-keep, card-limits, limits-card, limits-of, limits-keep}
 use Rattle.loads.specs.declared.EngineLoad.{EngineLoad}
 use Rattle.loads.specs.Load.{fitsEngine, holdsNone, engineWith, idleEngine, memoryOf}
 use Rattle.loads.proofs.Order.{cons-path}
 use Rattle.partition.specs.Assignment.{Assignment, countOn, loadOn, assigned, among, every, anyOf, usedOf, numbersFrom, enginesTo}
 use Rattle.partition.specs.Shares.{distinct}
 use Rattle.partition.specs.ForSystem.{goodOn, FeasibleOn, Placed, OnFewest}
-use Rattle.partition.specs.Plain.{typeNo, ceilingNo, columnsOut, LimitsOut, Partition, Impossible, hosts, usedTo, RecordIs, recordNo, Stands, StandsOnFewest}
+use Rattle.partition.specs.Plain.{typeNo, ceilingNo, columnsOut, LimitsOut, CardOut, Partition, Impossible, hosts, usedTo, RecordIs, recordNo, Stands, StandsOnFewest}
 use Rattle.partition.proofs.Lists.{among-counted, distinct-enginesTo, enginesTo-last, getD-inside}
 use Rattle.partition.proofs.Shares.{good-parts}
 use Rattle.partition.proofs.Engines.{usedOf-wider}
@@ -51,8 +56,8 @@ pub ceiling-out : (y : System) (t : ℕ) → getD (ceilingsOf y) (t - 1) 0 ≡ c
 ceiling-out y t = List·getD-map (λ (task : TaskType). task .ceiling) (y .types) (t - 1) noTask
 
 module _ (y : System) where
-  limits-told : Limits y → LimitsOut y
-  limits-told l = record {
+  card-told : CardLimits y → CardOut y
+  card-told l = record {
     engines = (l .some-engine, l .engines);
     rule = l .rule;
     capacities = (l .time, l .memory);
@@ -60,19 +65,29 @@ module _ (y : System) where
     six = l .six;
     costs = λ t low high. (l .sized (t - 1) .time, l .sized (t - 1) .memory, l .sized (t - 1) .data);
     replicas = λ t q low high given. some-replica (typeNo y t .most) q (l .replicas (t - 1)) given;
-    past = λ t h.
-        let none = l .past (t - 1) (omega arith) in (
-          ap (λ (task : TaskType). task .time) none,
-          ap (λ (task : TaskType). task .memory) none,
-          ap (λ (task : TaskType). task .ceiling) none,
-          ap (λ (task : TaskType). task .data) none,
-          ap (λ (task : TaskType). task .most) none,
-        );
+    past = λ t h. l .past (t - 1) (omega arith);
     columns = rw (columns-out y (l .six)) (l .columns);
+    second = λ k is. let w = within k is in (w .some-engine, w .engines);
+    secondSizes = record {
+      capacities = λ k is. let w = within k is in (w .time, w .memory);
+      costs = λ t c low high is. costs-sized (typeNo y t .there) c (l .costs (t - 1)) is;
+    };
+    kinds = record {
+      none = λ is t low high. kinds-absent (y .typecount) (y .types) (agree OneKind is) (t - 1) (omega arith);
+      all = λ k is t low high.
+          given-takes (typeNo y t .there)
+          (kinds-given (y .typecount) (y .types) (agree (TwoKinds k) is) (t - 1) (omega arith) (omega (arith, l .six, l .typecount)));
+    };
   }
+    where
+      within : (k : Kind) → y .second ≡ TwoKinds k → KindLimits (y .engines) k
+      within k is = second-limits (y .engines) (y .second) k (l .second) is
 
-  limits-back : LimitsOut y → Limits y
-  limits-back l = record {
+      agree : (s : Second) → y .second ≡ s → kindsAgree (isOneKind s) (y .typecount) (y .types) ≡ true
+      agree s is = ap (λ (x : Second). kindsAgree (isOneKind x) (y .typecount) (y .types)) (sym is) ∙ l .kinds
+
+  card-back : CardOut y → CardLimits y
+  card-back l = record {
     some-engine = l .engines .0;
     engines = l .engines .1;
     rule = l .rule;
@@ -83,31 +98,109 @@ module _ (y : System) where
     six = l .six;
     columns = rw (columns-out y (l .six)) at (l .columns);
     past = none;
-    sized = λ i. go i (ltb i (y .typecount)) refl;
-    replicas = λ i. replicas-keep (getD (y .types) i noTask .most) (some i (ltb i (y .typecount)) refl);
+    sized = each Sized (record { time = omega arith; memory = omega arith; «data» = omega arith }) sizes;
+    replicas = each (λ (task : TaskType). mostFault (task .most) ≡ 0) refl (λ t low high. replicas-keep (typeNo y t .most) (λ q. l .replicas t q low high));
+    costs = each (λ (task : TaskType). costsFault (task .there) ≡ 0) refl (λ t low high. costs-keep (typeNo y t .there) (λ c. l .secondSizes .costs t c low high));
+    second = second-keep (y .engines) (y .second) within;
+    kinds = agree (y .second) refl;
   }
     where
       none : (i : ℕ) → y .typecount ≤ i → getD (y .types) i noTask ≡ noTask
       none i h =
-          let p = l .past (suc i) (omega arith) in
           let same : suc i - 1 ≡ i = omega arith in
-          subst (λ (j : ℕ). getD (y .types) j noTask ≡ noTask) same (λ z. record { time = p .0 z; memory = p .1 z; ceiling = p .2 z; «data» = p .3 z; most = p .4 z })
+          subst (λ (j : ℕ). getD (y .types) j noTask ≡ noTask) same (l .past (suc i) (omega arith))
 
-      go : (i : ℕ) (b : Bool) → ltb i (y .typecount) ≡ b → Sized (getD (y .types) i noTask)
-      go i true q =
-          let c = l .costs (suc i) (omega arith) (ltb-true i (y .typecount) q) in
+      -- what holds of types 1 to k, counted from 1, and of nothing, holds of every entry
+      first : (P : TaskType → Type 0) → ((t : ℕ) → 1 ≤ t → t ≤ y .typecount → P (typeNo y t)) → (i : ℕ) → i < y .typecount → P (getD (y .types) i noTask)
+      first P types i h =
           let same : suc i - 1 ≡ i = omega arith in
-          subst (λ (j : ℕ). Sized (getD (y .types) j noTask)) same (record { time = c .0; memory = c .1; «data» = c .2 })
-      go i false q = rw (none i (ltb-false i (y .typecount) q)) (record { time = omega arith; memory = omega arith; «data» = omega arith })
+          subst (λ (j : ℕ). P (getD (y .types) j noTask)) same (types (suc i) (omega arith) (omega arith))
 
-      some : (i : ℕ) (b : Bool) → ltb i (y .typecount) ≡ b → (q : ℕ) → getD (y .types) i noTask .most ≡ AtMost q → 1 ≤ q
-      some i true e =
-          let same : suc i - 1 ≡ i = omega arith in
-          subst (λ (j : ℕ). (q : ℕ) → getD (y .types) j noTask .most ≡ AtMost q → 1 ≤ q) same (λ q. l .replicas (suc i) q (omega arith) (ltb-true i (y .typecount) e))
-      some i false e =
-          λ q. some-replica (getD (y .types) i noTask .most) q (ap (λ (task : TaskType). mostFault (task .most)) (none i (ltb-false i (y .typecount) e)))
+      each : (P : TaskType → Type 0) → P noTask → ((t : ℕ) → 1 ≤ t → t ≤ y .typecount → P (typeNo y t)) → (i : ℕ) → P (getD (y .types) i noTask)
+      each P nothing types i = go (ltb i (y .typecount)) refl
+        where
+          go : (b : Bool) → ltb i (y .typecount) ≡ b → P (getD (y .types) i noTask)
+          go true e = first P types i (ltb-true i (y .typecount) e)
+          go false e = subst P (sym (none i (ltb-false i (y .typecount) e))) nothing
 
-  -- the code's test of the limits is this
+      sizes : (t : ℕ) → 1 ≤ t → t ≤ y .typecount → Sized (typeNo y t)
+      sizes t low high = let c = l .costs t low high in record { time = c .0; memory = c .1; «data» = c .2 }
+
+      within : (k : Kind) → y .second ≡ TwoKinds k → KindLimits (y .engines) k
+      within k is =
+          let n = l .second k is in
+          let c = l .secondSizes .capacities k is in
+          record { some-engine = n .0; engines = n .1; time = c .0; memory = c .1 }
+
+      takes-given : (t : ℕ) → (c : Costs) × (typeNo y t .there ≡ Takes c) → given (typeNo y t .there) ≡ true
+      takes-given t (c, is) = ap given is
+
+      agree : (s : Second) → y .second ≡ s → kindsAgree (isOneKind s) (y .typecount) (y .types) ≡ true
+      agree OneKind is = absent-kinds (y .typecount) (y .types) (each (λ (task : TaskType). task .there ≡ Absent) refl (l .kinds .none is))
+      agree (TwoKinds k) is =
+          given-kinds (y .typecount) (y .types)
+          (first (λ (task : TaskType). given (task .there) ≡ true) (λ t low high. takes-given t (l .kinds .all k is t low high)))
+
+  -- the code's test of a card's limits is this
+  pub card-out : (keepsCard y ≡ true) ↔ CardOut y
+  card-out = ((λ k. card-told (card-of y k)), (λ l. card-keep y (card-back l)))
+
+  limits-told : Limits y → LimitsOut y
+  limits-told l =
+      let c = card-told (limits-card y l) in
+      record {
+        engines = c .engines;
+        rule = c .rule;
+        capacities = c .capacities;
+        known = c .known;
+        six = c .six;
+        costs = c .costs;
+        replicas = c .replicas;
+        past = λ t h.
+            let none = c .past t h in (
+              ap (λ (task : TaskType). task .time) none,
+              ap (λ (task : TaskType). task .memory) none,
+              ap (λ (task : TaskType). task .ceiling) none,
+              ap (λ (task : TaskType). task .data) none,
+              ap (λ (task : TaskType). task .most) none,
+            );
+        columns = c .columns;
+        oneKind = l .oneKind;
+        absent = λ t. l .absent (t - 1);
+      }
+
+  limits-back : LimitsOut y → Limits y
+  limits-back l = card-limits y (card-back whole) (l .oneKind)
+    where
+      never : (k : Kind) → y .second ≡ TwoKinds k → ⊥
+      never k is = let z : _≡_ {A = ℕ} 0 1 = cc (l .oneKind) in omega arith
+
+      never-takes : (t : ℕ) (c : Costs) → typeNo y t .there ≡ Takes c → ⊥
+      never-takes t c is = let z : _≡_ {A = ℕ} 0 1 = cc (l .absent t) in omega arith
+
+      whole : CardOut y
+      whole = record {
+        engines = l .engines;
+        rule = l .rule;
+        capacities = l .capacities;
+        known = l .known;
+        six = l .six;
+        costs = l .costs;
+        replicas = l .replicas;
+        past = λ t h.
+            let p = l .past t h in
+            let a = l .absent t in
+            λ z. record { time = p .0 z; memory = p .1 z; ceiling = p .2 z; «data» = p .3 z; most = p .4 z; there = a z };
+        columns = l .columns;
+        second = λ k is. absurd (never k is);
+        secondSizes = record {
+          capacities = λ k is. absurd (never k is);
+          costs = λ t c low high is. absurd (never-takes t c is);
+        };
+        kinds = record { none = λ is t low high. l .absent t; all = λ k is. absurd (never k is) };
+      }
+
+  -- and of those of a system of one kind this
   pub limits-out : (keepsLimits y ≡ true) ↔ LimitsOut y
   limits-out = ((λ k. limits-told (limits-of y k)), (λ l. limits-keep y (limits-back l)))
 
@@ -122,7 +215,7 @@ unfolding anyOf holdsNone
 hosts-some [] e = refl
 hosts-some (places ∷ χ) e = rw (among-counted places e, hosts-some χ e) (not-and (eqb (countOn e places) 0) (holdsNone (loadOn e χ)))
 
-usedOf-last : (es : List ℕ) (e : ℕ) (χ : Assignment) → usedOf (es ++ (e ∷ [])) χ ≡ usedOf es χ + cond (holdsNone (loadOn e χ)) 0 1
+pub usedOf-last : (es : List ℕ) (e : ℕ) (χ : Assignment) → usedOf (es ++ (e ∷ [])) χ ≡ usedOf es χ + cond (holdsNone (loadOn e χ)) 0 1
 unfolding usedOf
 usedOf-last [] e χ = go (holdsNone (loadOn e χ))
   where
@@ -138,7 +231,7 @@ usedOf-last (d ∷ es) e χ = go (holdsNone (loadOn d χ)) (usedOf-last es e χ)
     go true rest = rest
     go false rest = ap suc rest ∙ sym (suc-add (usedOf es χ) more)
 
-cond-not : (b : Bool) → _≡_ {A = ℕ} (cond (not b) 1 0) (cond b 0 1)
+pub cond-not : (b : Bool) → _≡_ {A = ℕ} (cond (not b) 1 0) (cond b 0 1)
 cond-not true = refl
 cond-not false = refl
 

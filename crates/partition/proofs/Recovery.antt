@@ -73,7 +73,7 @@ module _ (fits : List ℕ → Bool) (ns : List ℕ) (room : columnsOf ns ≤ noC
   recovery-used = all-used (recovery fits ns m c) (omega (arith, recovery-uses, length-recovery fits ns m c))
 
   -- with empty rows behind them they are as many as one likes
-  padded-shares : fits (replicate (length ns) 0) ≡ true → (n : ℕ) → Shares fits (length ns) (recovery fits ns m c ++ replicate n (replicate (length ns) 0)) (loadOf ns c)
+  pub padded-shares : fits (replicate (length ns) 0) ≡ true → (n : ℕ) → Shares fits (length ns) (recovery fits ns m c ++ replicate n (replicate (length ns) 0)) (loadOf ns c)
   unfolding recovery
   padded-shares emptyFits n =
       let later : List (List ℕ) = replicate n (replicate (length ns) 0) in

@@ -131,6 +131,8 @@ alike-back a = record {
   codes = λ t low. sym (a .codes t low);
   datas = λ t low. sym (a .datas t low);
   mosts = λ t low. sym (a .mosts t low);
+  theres = λ t low. sym (a .theres t low);
+  second = sym (a .second);
 }
 
 fewest-aside : (y z : System) → Limits y → Limits z → SameButCeilings y z → {E : ℕ → Type 0} {count : ℕ → ℕ} {r : ℕ} → Fewest z E count r → Fewest y E count r

@@ -96,7 +96,7 @@ unfolding sumOf plus countAll
 sumOf-types k [] places χ = refl
 sumOf-types k (e ∷ es) places χ = rw (sumOf-types k es places χ)
 
-sumOf-loadsOn : (es : List ℕ) (χ : Assignment) → distinct es ≡ true → every (every (among es)) χ ≡ true → sumOf (length χ) (loadsOn es χ) ≡ assigned χ
+pub sumOf-loadsOn : (es : List ℕ) (χ : Assignment) → distinct es ≡ true → every (every (among es)) χ ≡ true → sumOf (length χ) (loadsOn es χ) ≡ assigned χ
 unfolding every
 sumOf-loadsOn es [] d h = sumOf-none es
 sumOf-loadsOn es (places ∷ χ) d h =
@@ -134,14 +134,14 @@ pub good-parts : (test : ℕ → List ℕ → Bool) (es : List ℕ) (χ : Assign
 unfolding good
 good-parts test es χ h = and-parts (every (every (among es)) χ) (every (λ (e : ℕ). test e (loadOn e χ)) es) h
 
+-- the loads of engines on which a test passes, and what they make up
+pub tested-shares : (fits : List ℕ → Bool) (es : List ℕ) (χ : Assignment) → every (λ (e : ℕ). fits (loadOn e χ)) es ≡ true → Shares fits (length χ) (loadsOn es χ) (sumOf (length χ) (loadsOn es χ))
+tested-shares fits es χ h = record { sized = sized-loadsOn es χ; allFit = every-map fits (λ (e : ℕ). loadOn e χ) es ∙ h; sums = refl }
+
 pub good-shares : (fits : List ℕ → Bool) (es : List ℕ) (χ : Assignment) → distinct es ≡ true → good (λ (e : ℕ). fits) es χ ≡ true → Shares fits (length χ) (loadsOn es χ) (assigned χ)
 good-shares fits es χ d h =
     let b = good-parts (λ (e : ℕ). fits) es χ h in
-    record {
-      sized = sized-loadsOn es χ;
-      allFit = every-map fits (λ (e : ℕ). loadOn e χ) es ∙ b .1;
-      sums = sumOf-loadsOn es χ d (b .0);
-    }
+    subst (Shares fits (length χ) (loadsOn es χ)) (sumOf-loadsOn es χ d (b .0)) (tested-shares fits es χ (b .1))
 
 -- intermediate: instances put on one engine
 
@@ -263,12 +263,14 @@ loadsOn-placing k (e ∷ es) (x ∷ loads) d l s =
 
 -- main: loads that fit and make up ν are those of a good assignment of ν
 
-pub shares-carried : (fits : List ℕ → Bool) (k : ℕ) (es : List ℕ) (loads : List (List ℕ)) (ν : List ℕ) → distinct es ≡ true → length loads ≡ length es → Shares fits k loads ν → Carried (λ (e : ℕ). fits) es loads ν
+-- of a test that may differ from engine to engine: whatever has these loads must pass it
+pub tested-carried : (test : ℕ → List ℕ → Bool) (k : ℕ) (es : List ℕ) (loads : List (List ℕ)) (ν : List ℕ) → distinct es ≡ true → length loads ≡ length es → Sized k loads → sumOf k loads ≡ ν
+    → ((χ : Assignment) → loadsOn es χ ≡ loads → every (λ (e : ℕ). test e (loadOn e χ)) es ≡ true) → Carried test es loads ν
 unfolding good
-shares-carried fits k es loads ν d l s = record {
+tested-carried test k es loads ν d l sized sums passes = record {
   mapping = χ;
-  assigns = assigned-placing k es loads l ∙ s .sums;
-  isGood = and-both (every (every (among es)) χ) (every (λ (e : ℕ). fits (loadOn e χ)) es) (every-placing (among es) k es loads (every-among es)) fit;
+  assigns = assigned-placing k es loads l ∙ sums;
+  isGood = and-both (every (every (among es)) χ) (every (λ (e : ℕ). test e (loadOn e χ)) es) (every-placing (among es) k es loads (every-among es)) (passes χ same);
   holds = same;
   uses = usedOf-loadsOn es χ ∙ ap usedLoads same;
 }
@@ -277,10 +279,12 @@ shares-carried fits k es loads ν d l s = record {
     χ = placing k es loads
 
     same : loadsOn es χ ≡ loads
-    same = loadsOn-placing k es loads d l (s .sized)
+    same = loadsOn-placing k es loads d l sized
 
-    fit : every (λ (e : ℕ). fits (loadOn e χ)) es ≡ true
-    fit = sym (every-map fits (λ (e : ℕ). loadOn e χ) es) ∙ ap (every fits) same ∙ s .allFit
+pub shares-carried : (fits : List ℕ → Bool) (k : ℕ) (es : List ℕ) (loads : List (List ℕ)) (ν : List ℕ) → distinct es ≡ true → length loads ≡ length es → Shares fits k loads ν → Carried (λ (e : ℕ). fits) es loads ν
+shares-carried fits k es loads ν d l s =
+    tested-carried (λ (e : ℕ). fits) k es loads ν d l (s .sized) (s .sums)
+    (λ χ same. sym (every-map fits (λ (e : ℕ). loadOn e χ) es) ∙ ap (every fits) same ∙ s .allFit)
 
 -- the load of each engine j + 1, also past the last one
 pub carried-at : (test : ℕ → List ℕ → Bool) (n : ℕ) (loads : List (List ℕ)) (ν : List ℕ) (a : Carried test (enginesTo n) loads ν) (j : ℕ) → loadOn (suc j) (a .mapping) ≡ getD loads j (replicate (length ν) 0)

@@ -8,30 +8,33 @@ use native.Mathlib.Nat.{sub-le, suc-inj}
 use native.Mathlib.Omega.{arith}
 use borrow.Author.Tests.{leb-true, leb-false}
 use lib.ListN.{length, replicate, length-append}
-use lib.Dec.{leb}
+use lib.Dec.{eqb, leb}
 use Rattle.system.specs.Limits.{columnsOf}
 use Rattle.loads.specs.Load.{within, plus, less}
 use Rattle.loads.specs.Column.{loadOf}
 use Rattle.loads.proofs.Order.{Below, none, more, below→within, below-length, length-plus, plus-less-below, plus-comm, plus-assoc, zero-plus, cons-path}
 use Rattle.partition.specs.Cell.{noColumn, saysYes, cell, lowestRow, recovery}
 use Rattle.partition.specs.Shares.{sumOf, Shares}
+use Rattle.partition.proofs.Lists.{every-++}
+use Rattle.partition.proofs.Shares.{Sized}
 use Rattle.partition.proofs.Cells.{length-sumOf, no-shares, one-share, Split, split-shares, shares-cell}
 use Rattle.partition.proofs.Rows.{lowestRow-le, lowestRow-most}
 use Rattle.partition.proofs.Recovery.{length-recovery, recovery-shares}
 
 -- intermediate: shares behind each other
 
-shares-append : (fits : List ℕ → Bool) (k : ℕ) (xs zs : List (List ℕ)) (ν μ : List ℕ) → Shares fits k xs ν → Shares fits k zs μ → Shares fits k (xs ++ zs) (plus ν μ)
+-- what they make up is made up by both
+pub sumOf-append : (k : ℕ) (xs zs : List (List ℕ)) → Sized k zs → sumOf k (xs ++ zs) ≡ plus (sumOf k xs) (sumOf k zs)
 unfolding sumOf
-shares-append fits k [] zs ν μ s t =
-    subst (Shares fits k zs) (sym (ap (λ (l : List ℕ). plus l μ) (sym (s .sums)) ∙ ap (λ (n : ℕ). plus (replicate n 0) μ) (sym sized) ∙ zero-plus μ)) t
-  where
-    sized : length μ ≡ k
-    sized = ap length (sym (t .sums)) ∙ length-sumOf k zs (t .sized)
-shares-append fits k (x ∷ xs) zs ν μ s t =
-    let p = split-shares fits k x xs ν s in
-    subst (Shares fits k (x ∷ (xs ++ zs))) (sym (plus-assoc x (sumOf k xs) μ) ∙ ap (λ (l : List ℕ). plus l μ) (p .together))
-    (one-share fits k x (xs ++ zs) (plus (sumOf k xs) μ) (p .firstSized) (p .firstFits) (shares-append fits k xs zs (sumOf k xs) μ (p .rest) t))
+sumOf-append k [] zs h = sym (ap (λ (n : ℕ). plus (replicate n 0) (sumOf k zs)) (sym (length-sumOf k zs h)) ∙ zero-plus (sumOf k zs))
+sumOf-append k (x ∷ xs) zs h = ap (plus x) (sumOf-append k xs zs h) ∙ sym (plus-assoc x (sumOf k xs) (sumOf k zs))
+
+shares-append : (fits : List ℕ → Bool) (k : ℕ) (xs zs : List (List ℕ)) (ν μ : List ℕ) → Shares fits k xs ν → Shares fits k zs μ → Shares fits k (xs ++ zs) (plus ν μ)
+shares-append fits k xs zs ν μ s t = record {
+  sized = every-++ (λ (x : List ℕ). eqb (length x) k) xs zs (s .sized) (t .sized);
+  allFit = every-++ fits xs zs (s .allFit) (t .allFit);
+  sums = sumOf-append k xs zs (t .sized) ∙ rw (s .sums, t .sums);
+}
 
 -- intermediate: shares cut down to a part. Of x the part a gets as many as it wants, `a less (a less x)`; it still wants `a less x` of the others
 

@@ -7,6 +7,7 @@ use mathlib.Core.Path.{_≡_}
 use lib.ListN.{length, getD}
 use lib.Dec.{eqb}
 use Rattle.system.specs.declared.Most.the-variants.{NotGiven, AtMost}
+use Rattle.system.specs.declared.There.the-variants.{Absent}
 use Rattle.system.specs.declared.TaskType.{TaskType}
 use Rattle.system.specs.declared.System.{System}
 use Rattle.partition.specs.Assignment.{Assignment, among}
@@ -44,7 +45,7 @@ sharedMemoryOn e types χ = codeOn e types χ + dataOn e types χ
 
 -- type t of the system, from 0; where there is none, a type of nothing
 abbrev pub noType : TaskType
-noType = record { time = 0; memory = 0; ceiling = 0; «data» = 0; most = NotGiven }
+noType = record { time = 0; memory = 0; ceiling = 0; «data» = 0; most = NotGiven; there = Absent }
 
 abbrev pub typeAt : System → ℕ → TaskType
 typeAt y t = getD (y .types) t noType
@@ -65,3 +66,10 @@ pub record Definition1 (y : System) (E : ℕ → Type 0) (χ : Assignment) : Typ
   pub sharedCode : y .rule ≡ 1 → (e : ℕ) → E e → sharedMemoryOn e (y .types) χ ≤ y .memorycap
   -- replicas (request 2026-04): where q is given for type t, at most q of its instances are sent there, each counting 1
   pub separate : (t q : ℕ) → typeAt y t .most ≡ AtMost q → (e : ℕ) → E e → overInstances e 1 (getD χ t []) ≤ q
+
+-- the same of one engine e alone (request 2026-13: on a card with two kinds of engine each keeps the numbers of its own kind)
+pub record KeepsOn (y : System) (e : ℕ) (χ : Assignment) : Type 0 where
+  pub time : timeOn e (y .types) χ ≤ y .timecap
+  pub ownCopies : y .rule ≡ 0 → memoryOn e (y .types) χ ≤ y .memorycap
+  pub sharedCode : y .rule ≡ 1 → sharedMemoryOn e (y .types) χ ≤ y .memorycap
+  pub separate : (t q : ℕ) → typeAt y t .most ≡ AtMost q → overInstances e 1 (getD χ t []) ≤ q

@@ -8,14 +8,18 @@ use mathlib.Core.Path.{_≡_}
 use mathlib.Core.Logic.{_⊎_}
 use lib.ListN.{length, getD}
 use Rattle.system.specs.declared.Most.the-variants.{NotGiven, AtMost}
+use Rattle.system.specs.declared.Costs.{Costs}
+use Rattle.system.specs.declared.There.the-variants.{Absent, Takes}
+use Rattle.system.specs.declared.Kind.{Kind}
+use Rattle.system.specs.declared.Second.the-variants.{OneKind, TwoKinds}
 use Rattle.system.specs.declared.TaskType.{TaskType}
 use Rattle.system.specs.declared.System.{System}
 use Rattle.loads.specs.declared.EngineLoad.{EngineLoad}
 use Rattle.partition.specs.Assignment.{Assignment, among, anyOf}
 use Rattle.partition.specs.Lent.{Lent}
-use Rattle.partition.specs.OwnWords.{overInstances, timeOn, memoryOn, sharedMemoryOn, typeAt, Definition1}
+use Rattle.partition.specs.OwnWords.{overInstances, timeOn, memoryOn, sharedMemoryOn, noType, typeAt, Definition1}
 
--- type t, counted from 1: its u, s, n, d and q; all 0 and no q where there is no such type
+-- type t, counted from 1: its u, s, n, d and q, and its u and s on a second kind; all 0 and nothing given where there is no such type
 abbrev pub typeNo : System → ℕ → TaskType
 typeNo y t = typeAt y (t - 1)
 
@@ -48,6 +52,40 @@ pub record LimitsOut (y : System) : Type 0 where
   -- "an entry for .. a type past k (the system's own u, s and n too)" is 0, and so is its d, and it has no q
   pub past : (t : ℕ) → y .typecount < t → (typeNo y t .time ≡ 0) × (typeNo y t .memory ≡ 0) × (typeNo y t .ceiling ≡ 0) × (typeNo y t .data ≡ 0) × (typeNo y t .most ≡ NotGiven)
   pub columns : columnsOut y ≤ 4096
+  -- one kind of engine, and of no type anything on a second (request 2026-13)
+  pub oneKind : y .second ≡ OneKind
+  pub absent : (t : ℕ) → typeNo y t .there ≡ Absent
+
+-- Request 2026-13, "Cards with two kinds of engine": the limits of a card, of one kind or of two
+
+-- "at least 1, total still at most 16"
+abbrev pub SecondWithin : System → Type 0
+SecondWithin y = (k : Kind) → y .second ≡ TwoKinds k → (1 ≤ k .number) × (y .engines + k .number ≤ 16)
+
+-- the second kind's U and S, and u and s of types 1 to k there, are at most 1,000,000
+pub record SecondSizes (y : System) : Type 0 where
+  pub capacities : (k : Kind) → y .second ≡ TwoKinds k → (k .timecap ≤ 1000000) × (k .memorycap ≤ 1000000)
+  pub costs : (t : ℕ) (c : Costs) → 1 ≤ t → t ≤ y .typecount → typeNo y t .there ≡ Takes c → (c .time ≤ 1000000) × (c .memory ≤ 1000000)
+
+-- "Either all are present or none": without a second kind no type 1 to k has u and s there, with it each has
+pub record AllOrNone (y : System) : Type 0 where
+  pub none : y .second ≡ OneKind → (t : ℕ) → 1 ≤ t → t ≤ y .typecount → typeNo y t .there ≡ Absent
+  pub all : (k : Kind) → y .second ≡ TwoKinds k → (t : ℕ) → 1 ≤ t → t ≤ y .typecount → (c : Costs) × (typeNo y t .there ≡ Takes c)
+
+-- the limits of document 01 for such a card, number by number
+pub record CardOut (y : System) : Type 0 where
+  pub engines : (1 ≤ y .engines) × (y .engines ≤ 16)
+  pub rule : y .rule ≤ 1
+  pub capacities : (y .timecap ≤ 1000000) × (y .memorycap ≤ 1000000)
+  pub known : (1 ≤ y .typecount) × (y .typecount ≤ 6)
+  pub six : length (y .types) ≡ 6
+  pub costs : (t : ℕ) → 1 ≤ t → t ≤ y .typecount → (typeNo y t .time ≤ 1000000) × (typeNo y t .memory ≤ 1000000) × (typeNo y t .data ≤ 1000000)
+  pub replicas : (t q : ℕ) → 1 ≤ t → t ≤ y .typecount → typeNo y t .most ≡ AtMost q → 1 ≤ q
+  pub past : (t : ℕ) → y .typecount < t → typeNo y t ≡ noType
+  pub columns : columnsOut y ≤ 4096
+  pub second : SecondWithin y
+  pub secondSizes : SecondSizes y
+  pub kinds : AllOrNone y
 
 -- "m identical engines, numbered 1 to m"
 abbrev pub EngineOf : System → ℕ → Type 0

@@ -91,6 +91,8 @@ pub record SameButCeilings (y z : System) : Type 0 where
   pub codes : (t : ℕ) → 1 ≤ t → typeNo z t .memory ≡ typeNo y t .memory
   pub datas : (t : ℕ) → 1 ≤ t → typeNo z t .data ≡ typeNo y t .data
   pub mosts : (t : ℕ) → 1 ≤ t → typeNo z t .most ≡ typeNo y t .most
+  pub theres : (t : ℕ) → 1 ≤ t → typeNo z t .there ≡ typeNo y t .there
+  pub second : z .second ≡ y .second
 
 -- the systems of two releases and of both: they differ in their n alone, and n of both is the sum
 pub record BothReleases (first second both : System) : Type 0 where
@@ -115,6 +117,7 @@ pub record SameButRule (own shared : System) : Type 0 where
   pub memorycap : shared .memorycap ≡ own .memorycap
   pub typecount : shared .typecount ≡ own .typecount
   pub types : shared .types ≡ own .types
+  pub second : shared .second ≡ own .second
 
 -- no load's row is higher; every partition under rule 0, of however many instances, is one under rule 1;
 -- and where a load has its fewest engines under rule 0, it has them under rule 1, and they are no more

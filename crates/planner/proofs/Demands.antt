@@ -144,15 +144,15 @@ module _ (table : Lent) (room : ℕ) where
   lent-back (unread k) known s n o h = refl
   lent-back (opened y) known s n o h = as-lent (caseOf y (known y refl) table room) s n o h
 
-  all-loads : (x : Reading) → Known x → length (planLoads (verdictOf x table room)) ≡ engineLimit
+  pub length-loads-of : (x : Reading) → Known x → length (planLoads (verdictOf x table room)) ≡ engineLimit
   unfolding verdictOf
-  all-loads (unread k) known = refl
-  all-loads (opened y) known = sixteen (known y refl) (caseOf y (known y refl) table room)
+  length-loads-of (unread k) known = refl
+  length-loads-of (opened y) known = sixteen (known y refl) (caseOf y (known y refl) table room)
 
-  few-engines : (x : Reading) → Known x → (usedEngines (verdictOf x table room) ≤ engineLimit) × (usedEngines (verdictOf x table room) ≤ room)
+  pub few-of : (x : Reading) → Known x → (usedEngines (verdictOf x table room) ≤ engineLimit) × (usedEngines (verdictOf x table room) ≤ room)
   unfolding verdictOf
-  few-engines (unread k) known = (omega arith, omega arith)
-  few-engines (opened y) known = within (known y refl) (caseOf y (known y refl) table room)
+  few-of (unread k) known = (omega arith, omega arith)
+  few-of (opened y) known = within (known y refl) (caseOf y (known y refl) table room)
 
   module _ (x : Reading) (known : Known x) where
     pub plan-in-order : InOrder x table room (planOutcome (verdictOf x table room))
@@ -175,7 +175,7 @@ module _ (table : Lent) (room : ℕ) where
       impossible = λ y e. rw e (impossible (known y e) (caseOf y (known y e) table room));
       answered = λ y e. rw e (answered (known y e) (caseOf y (known y e) table room));
       given = λ y used e. rw e (given (known y e) (caseOf y (known y e) table room) used);
-      sixteen = all-loads x known;
+      sixteen = length-loads-of x known;
       sixCounts = λ y used e is. rw is (counts-six (known y is) (caseOf y (known y is) table room) used e);
       idlePast = idle-past (verdictOf x table room);
     }
@@ -187,11 +187,11 @@ module _ (table : Lent) (room : ℕ) where
 
 -- a plan has a load for each engine that a system can have
 pub length-planLoads : (file : List ℕ) (table : Lent) (room : ℕ) → length (planLoads (verdictOf (readFile file) table room)) ≡ engineLimit
-length-planLoads file table room = all-loads table room (readFile file) (read-limits file)
+length-planLoads file table room = length-loads-of table room (readFile file) (read-limits file)
 
 -- the used engines are few enough for the records and for the list
 pub used-within : (file : List ℕ) (table : Lent) (room : ℕ) → (usedEngines (verdictOf (readFile file) table room) ≤ engineLimit) × (usedEngines (verdictOf (readFile file) table room) ≤ room)
-used-within file table room = few-engines table room (readFile file) (read-limits file)
+used-within file table room = few-of table room (readFile file) (read-limits file)
 
 answer-used : (v : Verdict) (used : ℕ) → planOutcome v ≡ accepted (used ∷ []) → usedEngines v ≡ used
 answer-used (planned y) used o = cc
@@ -203,6 +203,7 @@ promises-of file table room r after p = record {
   uses = p .used;
   counts = p .typecount;
   places = p .loads;
+  numbers = p .numbers;
   leavesTable = p .left;
   order = rw (p .answer) (plan-in-order table room x known);
   demand1 = rw (p .answer, p .left) (plan-demand1 table room x known);

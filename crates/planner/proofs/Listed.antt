@@ -155,12 +155,12 @@ plan-list-recovers list table x known y used e = rw e (go (known y e) (caseOf y 
 
 -- ---- so a call whose result is the one defined keeps the demands
 
-pub list-promises-of : (file : List ℕ) (table : Lent) (list : List EngineRecord) (answer : Answer) (tableAfter : Lent) (listAfter : List EngineRecord)
-    → outcomeOf answer ≡ planOutcome (verdictOf (readFile file) table (length list))
-    → tableAfter ≡ planTable (readFile file) table (length list)
-    → listAfter ≡ planList (verdictOf (readFile file) table (length list)) list
-    → ListPromises (readFile file) table list answer tableAfter listAfter
-list-promises-of file table list answer tableAfter listAfter a t l = record {
+pub list-promises-for : (x : Reading) → Known x → (table : Lent) (list : List EngineRecord) (answer : Answer) (tableAfter : Lent) (listAfter : List EngineRecord)
+    → outcomeOf answer ≡ planOutcome (verdictOf x table (length list))
+    → tableAfter ≡ planTable x table (length list)
+    → listAfter ≡ planList (verdictOf x table (length list)) list
+    → ListPromises x table list answer tableAfter listAfter
+list-promises-for x known table list answer tableAfter listAfter a t l = record {
   answers = a;
   leavesTable = t;
   leavesList = l;
@@ -170,12 +170,6 @@ list-promises-of file table list answer tableAfter listAfter a t l = record {
   holds = rw (a, l) (plan-list-holds list table x known);
   recovers = rw (a, t, l) (plan-list-recovers list table x known);
 }
-  where
-    x : Reading
-    x = readFile file
-
-    known : Known x
-    known = read-limits file
 
 -- "What the table held before changes no answer": two plans of a file into the same list, each over a table that is long enough
 pub list-any-table : (file : List ℕ) (table other : Lent) (list : List EngineRecord) (a b : Answer) (after last : Lent) (l k : List EngineRecord) → ListPromises (readFile file) table list a after l → ListPromises (readFile file) other list b last k

@@ -10,7 +10,7 @@ use Rattle.system.specs.declared.Answer.{Answer}
 use Rattle.system.specs.Layout.{Reading, opened, unread}
 use Rattle.system.specs.Outcome.{Outcome, Source, accepted, refused, fromInput, outcomeOf}
 use Rattle.loads.specs.declared.EngineLoad.{EngineLoad}
-use Rattle.partition.specs.Assignment.{Assignment}
+use Rattle.partition.specs.Assignment.{Assignment, enginesTo}
 use Rattle.partition.specs.Lent.{Lent}
 use Rattle.partition.specs.OwnWords.{overInstances}
 use Rattle.partition.specs.Plain.{ceilingNo, LongEnough, TooShort, EngineOf, placesNo, Partition, Impossible, RecordIs, recordNo, HoldsNothing, StandsOnFewest}
@@ -19,7 +19,7 @@ use Rattle.planner.specs.declared.Plan.{Plan}
 use Rattle.planner.specs.declared.EngineRecord.{EngineRecord}
 use Rattle.planner.specs.Plan.{verdictOf, usedEngines, planOutcome, plannedTypes, planLoads, planTable, planList}
 
--- "Plan continues 11, 15, 12": 1 to 10 and 31 are judged before 11, which is for a part of the table shorter than the columns, and 11 before 15, which is for a list shorter than m.
+-- "Plan continues 11, 15, 12": 1 to 10, 31, 41 and 42 are judged before 11, which is for a part of the table shorter than the columns, and 11 before 15, which is for a list shorter than m.
 -- Demand 2 says when it is 12
 pub record InOrder (x : Reading) (table : Lent) (room : ℕ) (outcome : Outcome) : Type 0 where
   pub fileFirst : (n : ℕ) → x ≡ unread n → outcome ≡ refused fromInput n
@@ -54,6 +54,8 @@ pub record PlanPromises (x : Reading) (table : Lent) (room : ℕ) (r : Plan) (af
   pub uses : r .used ≡ usedEngines (verdictOf x table room)
   pub counts : r .typecount ≡ plannedTypes (verdictOf x table room)
   pub places : r .loads ≡ planLoads (verdictOf x table room)
+  -- load i is that of engine i (request 2026-13: of two kinds, the engines have other numbers)
+  pub numbers : r .numbers ≡ enginesTo 16
   pub leavesTable : after ≡ planTable x table room
   pub order : InOrder x table room (outcomeOf (r .answer))
   pub demand1 : Demand1 x table (outcomeOf (r .answer)) after

@@ -1,5 +1,5 @@
--- Document 01's "Plan": the recovery of n(t) instances of each type, with refusals 1 to 10 and 31, 11, 15, 12 in this order.
--- `room` is the length of the lent list; a plan by value has room for every engine that a system can have.
+-- Document 01's "Plan": the recovery of n(t) instances of each type, with refusals 1 to 10, 31, 41 and 42, then 11, 15, 12 in this order.
+-- `room` is the length of the lent list; a plan by value has room for every engine that a system can have. Here a file has one kind of engine; `Mixed` has the plan of two.
 use Prim.Native.Nat.{ℕ, suc}
 use mathlib.Core.List.{List, [], _∷_, _++_, map}
 use lib.ListN.{take, drop, replicate}
@@ -43,7 +43,7 @@ abbrev pub judged : System → Checked → Verdict
 judged y passes = planned y
 judged y (fails s n) = unplanned s n
 
--- 1 to 10 and 31 as the file is read, then 11, 15, 12
+-- 1 to 10, 31, 41 and 42 as the file is read, then 11, 15, 12
 unfoldable pub verdictOf : Reading → Lent → ℕ → Verdict
 verdictOf (unread n) table room = unplanned fromInput n
 verdictOf (opened y) table room = judged y (andThen (lentCheck y table room) (placeCheck y))
@@ -73,7 +73,7 @@ abbrev pub tableLeft : Checked → Lent → Lent → Lent
 tableLeft (fails s n) lent done = lent
 tableLeft passes lent done = done
 
--- "The table is left filled": after a plan and after 12; 1 to 10, 31, 11 and 15 leave it as lent
+-- "The table is left filled": after a plan and after 12; 1 to 10, 31, 41, 42, 11 and 15 leave it as lent
 abbrev pub planTable : Reading → Lent → ℕ → Lent
 planTable (unread n) table room = table
 planTable (opened y) table room = tableLeft (lentCheck y table room) table (filled y (planEngines y) table)
@@ -90,6 +90,12 @@ recordsFrom a (l ∷ ls) = recordOf a l ∷ recordsFrom (suc a) ls
 -- the records of all engines, which are numbered from 1
 abbrev pub recordsOf : List EngineLoad → List EngineRecord
 recordsOf loads = recordsFrom 1 loads
+
+-- the records of engines with these numbers
+unfoldable pub recordsWith : List ℕ → List EngineLoad → List EngineRecord
+recordsWith [] ls = []
+recordsWith (n ∷ ns) [] = []
+recordsWith (n ∷ ns) (l ∷ ls) = recordOf n l ∷ recordsWith ns ls
 
 -- the lent list: the records of the used engines, then what it held; as lent where the plan is refused
 abbrev pub planList : Verdict → List EngineRecord → List EngineRecord

@@ -96,7 +96,7 @@ pub(crate) fn put_sheet(out: &mut [u8], k: usize, loads: [EngineLoad; ENGINE_LIM
     put_records(out, typed, k, loads)
 }
 
-// Writes the plan of a file as a sheet at the start of the buffer, and answers its length; or refused 1 to 10 and 31, then 11, 12, 30, and nothing is written.
+// Writes the plan of a file as a sheet at the start of the buffer, and answers its length; or refused 1 to 10, 31, 41 and 42, then 11, 12, 30, and nothing is written.
 // The table need not be clean; it is left filled from 12 on. Bytes past the sheet stay as they were.
 pub fn write_sheet(
     file: &[u8],
@@ -106,7 +106,7 @@ pub fn write_sheet(
 ) -> Answer
     ensures { λ r. ⌜ WriteSheetPromises (readFile (now (file .entry))) (lent (now (rows .entry)) (now (predecessors .entry))) (now (buffer .entry)) r (lent (now (rows .exit)) (now (predecessors .exit))) (now (buffer .exit)) ⌝ }
 {
-    let plan = planner::plan_of(file, rows, predecessors);
+    let plan = planner::plan_one_kind(file, rows, predecessors);
     let answer = plan.answer;
     let Answer::Number(used) = answer else {
         return answer;

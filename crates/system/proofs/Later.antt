@@ -1,4 +1,5 @@
--- What `Fields` of the specs says of each field after the first and of the file's end: after fields that pass the reader stands behind them, with a sound system of their types.
+-- What `Fields` of the specs says of each field after the first and of the file's end: after fields that pass the reader stands behind them, with a sound system of their types, of the engines of both kinds, and of as many types with u and s on the second kind as there were tags 7.
+-- At the end those are none or all where `kindsAgree` says so: entries past k have none.
 use Prim.Native.Nat.{ℕ, zero, suc, _+_, _-_, _*_, _≤_, _<_}
 use native.Mathlib.Omega.{arith}
 use native.Mathlib.Nat.{le-refl, mul-comm, mul-assoc}
@@ -6,21 +7,26 @@ use mathlib.Core.List.{List, [], _∷_, _++_, append-assoc, append-nil, map}
 use mathlib.Core.Bool.{Bool, true, false, not, cond, _&&_, false≢true}
 use mathlib.Core.Path.{_≡_, refl, sym, ap, _∙_}
 use mathlib.Core.Logic.{_⊎_, inl, inr, ⊎-elim}
-use borrow.Author.Tests.{le-leb, lt-leb, eq-eqb, ne-eqb}
+use borrow.Author.Tests.{le-leb, lt-leb, eqb-true, eqb-false, eq-eqb, ne-eqb}
 use lib.ListN.{length, getD, set, drop, length-append}
+use lib.Seq.{getD-set-same}
 use lib.Dec.{leb, eqb}
 use Rattle.system.specs.declared.Most.the-variants.{AtMost}
+use Rattle.system.specs.declared.Kind.{Kind}
+use Rattle.system.specs.declared.Second.{Second}
+use Rattle.system.specs.declared.Second.the-variants.{OneKind, TwoKinds}
 use Rattle.system.specs.declared.TaskType.{TaskType}
 use Rattle.system.specs.declared.System.{System}
 use Rattle.system.specs.declared.rules.FieldRule.{FieldRule}
 use Rattle.system.specs.declared.rules.RuleFound.the-variants.{Known}
-use Rattle.system.specs.Values.{taskOf, withData, withMost, noTask, blank, withPlatform, withType, lastType, withLast, ceilingsOf}
-use Rattle.system.specs.Limits.{columnsOf, typeFault, mostFault}
-use Rattle.system.specs.Rules.{platformRule, typeRule, dataRule, mostRule, fieldRules, ruleOf, follows, mayFollow, headSize}
-use Rattle.system.specs.Layout.{Reading, opened, unread, fieldSize, bodyPart, typeFrom, dataFrom, mostFrom}
-use Rattle.system.specs.Layout.{unlessFault, ruledHead, headOf, bodyOf, ruledField, fieldOf, endOf, afterField, fieldsFrom, readFile}
-use Rattle.system.specs.Fields.{twoBytes, fourBytes, platformField, typeField, dataField, mostField, Beginning, a-platform, then-type, then-data, then-most, NextField, FileEnd, LaterFields}
-use Rattle.system.proofs.Laws.{Sound, sound-blank, data-after-type, most-after-type, sound-field, fieldsFrom-nil}
+use Rattle.system.specs.Values.{taskOf, withData, withMost, withCosts, noTask, blank, withPlatform, withSecond, withType, lastType, withLast, ceilingsOf}
+use Rattle.system.specs.Limits.{columnsOf, sizeFault, kindCounted, kindFault, typeFault, mostFault, given, isOneKind, kindsAgree}
+use Rattle.system.specs.Rules.{platformRule, typeRule, dataRule, mostRule, secondRule, costsRule, fieldRules, ruleOf, follows, mayFollow, headSize}
+use Rattle.system.specs.Layout.{Reading, opened, unread, fieldSize, bodyPart, typeFrom, dataFrom, mostFrom, secondFrom, costsFrom}
+use Rattle.system.specs.Layout.{unlessFault, ruledHead, headOf, bodyOf, ruledField, fieldOf, endOf, afterField, fieldsFrom, readCard, readFile}
+use Rattle.system.specs.Fields.{twoBytes, fourBytes, platformField, typeField, dataField, mostField, secondField, costsField, MayData, MayMost, MayCosts}
+use Rattle.system.specs.Fields.{Beginning, a-platform, then-second, then-type, then-data, then-most, then-costs, NextField, AllOrNone, FileEnd, LaterFields}
+use Rattle.system.proofs.Laws.{Sound, sound-blank, data-after-type, most-after-type, second-after-platform, costs-after-type, sound-field, fieldsFrom-nil, second-within, card-file, card-mixed, card-refused}
 use Rattle.system.proofs.Order.{first-field, starts}
 
 -- One field, after one of tag `last`
@@ -33,9 +39,18 @@ module _ (last : ℕ) (y : System) where
   cut-two a b = unfold fieldOf ruledField headOf in refl
 
   module _ (t h l : ℕ) (rest : List ℕ) where
-    unknown : (t ≡ 1 → ⊥) → (t ≡ 2 → ⊥) → (t ≡ 3 → ⊥) → (t ≡ 4 → ⊥) → fieldOf (t ∷ h ∷ l ∷ rest) last y ≡ unread 2
+    unknown : (t ≡ 1 → ⊥) → (t ≡ 2 → ⊥) → (t ≡ 3 → ⊥) → (t ≡ 4 → ⊥) → (t ≡ 6 → ⊥) → (t ≡ 7 → ⊥) → fieldOf (t ∷ h ∷ l ∷ rest) last y ≡ unread 2
     unfolding fieldOf ruledField headOf ruledHead ruleOf
-    unknown a b c d = rw (starts h l rest t, ne-eqb 1 t (λ e. a (sym e)), ne-eqb 2 t (λ e. b (sym e)), ne-eqb 3 t (λ e. c (sym e)), ne-eqb 4 t (λ e. d (sym e)))
+    unknown a b c d f g =
+        rw (
+          starts h l rest t,
+          ne-eqb 1 t (λ e. a (sym e)),
+          ne-eqb 2 t (λ e. b (sym e)),
+          ne-eqb 3 t (λ e. c (sym e)),
+          ne-eqb 4 t (λ e. d (sym e)),
+          ne-eqb 6 t (λ e. f (sym e)),
+          ne-eqb 7 t (λ e. g (sym e)),
+        )
 
     module _ (r : FieldRule) (known : ruleOf fieldRules t ≡ Known r) where
       misplaced : mayFollow follows last (r .tag) ≡ false → fieldOf (t ∷ h ∷ l ∷ rest) last y ≡ unread 3
@@ -99,6 +114,36 @@ module _ (last : ℕ) (y : System) where
     most-field : mayFollow follows last 4 ≡ true → fieldOf aMost last y ≡ unlessFault (mostFault (AtMost (twoBytes q1 q2))) (withLast withQ y)
     most-field p = whole-body 4 0 2 (q1 ∷ q2 ∷ rest) mostRule (unfold ruleOf in refl) p refl (omega arith) ∙ most-body
 
+  module _ (n u1 u2 u3 u4 s1 s2 s3 s4 : ℕ) (rest : List ℕ) where
+    abbrev aSecond : List ℕ
+    aSecond = secondField n u1 u2 u3 u4 s1 s2 s3 s4 ++ rest
+
+    abbrev secondRead : Reading
+    secondRead =
+        unlessFault (kindFault (y .engines) n (fourBytes u1 u2 u3 u4) (fourBytes s1 s2 s3 s4)) (withSecond n (fourBytes u1 u2 u3 u4) (fourBytes s1 s2 s3 s4) y)
+
+    second-body : bodyOf secondRule (bodyPart aSecond) y ≡ secondRead
+    unfolding bodyOf secondFrom
+    second-body = rw (le-leb 12 (length aSecond) (omega arith))
+
+    second-field : mayFollow follows last 6 ≡ true → fieldOf aSecond last y ≡ secondRead
+    second-field p = whole-body 6 0 9 (n ∷ u1 ∷ u2 ∷ u3 ∷ u4 ∷ s1 ∷ s2 ∷ s3 ∷ s4 ∷ rest) secondRule (unfold ruleOf in refl) p refl (omega arith) ∙ second-body
+
+  module _ (u1 u2 u3 u4 s1 s2 s3 s4 : ℕ) (rest : List ℕ) where
+    abbrev aCosts : List ℕ
+    aCosts = costsField u1 u2 u3 u4 s1 s2 s3 s4 ++ rest
+
+    abbrev costsRead : Reading
+    costsRead =
+        unlessFault (sizeFault (fourBytes u1 u2 u3 u4) (fourBytes s1 s2 s3 s4)) (withLast (withCosts (fourBytes u1 u2 u3 u4) (fourBytes s1 s2 s3 s4) (lastType y)) y)
+
+    costs-body : bodyOf costsRule (bodyPart aCosts) y ≡ costsRead
+    unfolding bodyOf costsFrom
+    costs-body = rw (le-leb 11 (length aCosts) (omega arith))
+
+    costs-field : mayFollow follows last 7 ≡ true → fieldOf aCosts last y ≡ costsRead
+    costs-field p = whole-body 7 0 8 (u1 ∷ u2 ∷ u3 ∷ u4 ∷ s1 ∷ s2 ∷ s3 ∷ s4 ∷ rest) costsRule (unfold ruleOf in refl) p refl (omega arith) ∙ costs-body
+
 -- The fields from here on: the first is refused, or passes
 
 stop-here : (f b : ℕ) (s : List ℕ) (last : ℕ) (y : System) (n : ℕ) → length (b ∷ s) ≤ f → fieldOf (b ∷ s) last y ≡ unread n → fieldsFrom f (b ∷ s) last y ≡ unread n
@@ -141,90 +186,223 @@ columns-same [] i t e = refl
 columns-same (v ∷ ts) zero t e = ap (λ (n : ℕ). (n + 1) * columnsIn ts) e
 columns-same (v ∷ ts) (suc i) t e = ap (λ (c : ℕ). (v .ceiling + 1) * c) (columns-same ts i t e)
 
+-- How many types have u and s on the second kind
+
+abbrev one : Bool → ℕ
+one b = cond b 1 0
+
+abbrev givenIn : List TaskType → ℕ
+givenIn [] = 0
+givenIn (t ∷ ts) = one (given (t .there)) + givenIn ts
+
+-- one type more has them, or as many
+given-more : (ts : List TaskType) (i : ℕ) (t : TaskType) → i < length ts → given (t .there) ≡ true → given (getD ts i noTask .there) ≡ false → givenIn (set ts i t) ≡ suc (givenIn ts)
+given-more [] i t h e n = absurd (omega arith)
+given-more (v ∷ ts) zero t h e n = rw (e, n) (omega arith)
+given-more (v ∷ ts) (suc i) t h e n = omega (arith, given-more ts i t (omega arith) e n)
+
+given-same : (ts : List TaskType) (i : ℕ) (t : TaskType) → given (t .there) ≡ given (getD ts i noTask .there) → givenIn (set ts i t) ≡ givenIn ts
+given-same [] i t e = refl
+given-same (v ∷ ts) zero t e = ap (λ (b : Bool). one b + givenIn ts) e
+given-same (v ∷ ts) (suc i) t e = ap (λ (n : ℕ). one (given (v .there)) + n) (given-same ts i t e)
+
+-- entries past k have none, so there are k at most
+given-few : (k : ℕ) (ts : List TaskType) → ((i : ℕ) → k ≤ i → getD ts i noTask ≡ noTask) → givenIn ts ≤ k
+given-few k [] past = omega arith
+given-few zero (t ∷ ts) past =
+    let none : given (t .there) ≡ false = ap (λ (x : TaskType). given (x .there)) (past 0 (omega arith)) in
+    rw none (omega (arith, given-few zero ts (λ i h. past (suc i) (omega arith))))
+given-few (suc k) (t ∷ ts) past = at-most (given (t .there)) (given-few k ts (λ i h. past (suc i) (omega arith)))
+  where
+    at-most : (b : Bool) → givenIn ts ≤ k → one b + givenIn ts ≤ suc k
+    at-most true h = omega arith
+    at-most false h = omega arith
+
+-- with one kind none is asked, with two all
+agree-none : (k : ℕ) (ts : List TaskType) → ((i : ℕ) → k ≤ i → getD ts i noTask ≡ noTask) → kindsAgree true k ts ≡ eqb (givenIn ts) 0
+unfolding kindsAgree
+agree-none k [] past = refl
+agree-none zero (t ∷ ts) past = sym (eq-eqb (givenIn (t ∷ ts)) 0 (omega (arith, given-few zero (t ∷ ts) past)))
+agree-none (suc k) (t ∷ ts) past = rest (given (t .there)) (agree-none k ts (λ i h. past (suc i) (omega arith)))
+  where
+    rest : (b : Bool) → kindsAgree true k ts ≡ eqb (givenIn ts) 0 → not b && kindsAgree true k ts ≡ eqb (one b + givenIn ts) 0
+    rest true e = sym (ne-eqb (1 + givenIn ts) 0 (λ z. omega arith))
+    rest false e = e ∙ ap (λ (n : ℕ). eqb n 0) (zeros (givenIn ts))
+      where
+        zeros : (n : ℕ) → n ≡ 0 + n
+        zeros n = omega arith
+
+agree-all : (k : ℕ) (ts : List TaskType) → ((i : ℕ) → k ≤ i → getD ts i noTask ≡ noTask) → k ≤ length ts → kindsAgree false k ts ≡ eqb (givenIn ts) k
+unfolding kindsAgree
+agree-all k [] past inside = sym (eq-eqb 0 k (omega arith))
+agree-all zero (t ∷ ts) past inside = sym (eq-eqb (givenIn (t ∷ ts)) 0 (omega (arith, given-few zero (t ∷ ts) past)))
+agree-all (suc k) (t ∷ ts) past inside =
+    rest (given (t .there)) (given-few k ts (λ i h. past (suc i) (omega arith))) (agree-all k ts (λ i h. past (suc i) (omega arith)) (omega arith))
+  where
+    next : (n : ℕ) → eqb n k ≡ eqb (1 + n) (suc k)
+    next n = go (eqb n k) refl
+      where
+        go : (b : Bool) → eqb n k ≡ b → b ≡ eqb (1 + n) (suc k)
+        go true q = sym (eq-eqb (1 + n) (suc k) (omega (arith, eqb-true n k q)))
+        go false q = sym (ne-eqb (1 + n) (suc k) (λ z. eqb-false n k q (omega arith)))
+
+    rest : (b : Bool) → givenIn ts ≤ k → kindsAgree false k ts ≡ eqb (givenIn ts) k → b && kindsAgree false k ts ≡ eqb (one b + givenIn ts) (suc k)
+    rest true few e = e ∙ next (givenIn ts)
+    rest false few e = sym (ne-eqb (0 + givenIn ts) (suc k) (λ z. omega arith))
+
 -- After fields that pass
 
-record Reached (p : List ℕ) (last k c : ℕ) : Type 0 where
+-- the kinds of engine that were read
+data KindsAre : ℕ → Second → Type 0 where
+  only-one : KindsAre 1 OneKind
+  one-more : (x : Kind) → KindsAre 2 (TwoKinds x)
+
+record Reached (p : List ℕ) (last k c m kinds w : ℕ) : Type 0 where
   so-far : System
-  goes : (rest : List ℕ) → GoesOn (readFile (p ++ rest)) rest last so-far
+  goes : (rest : List ℕ) → GoesOn (readCard (p ++ rest)) rest last so-far
   sound : Sound last so-far
   types : so-far .typecount ≡ k
   columns : columnsOf (ceilingsOf so-far) ≡ c
+  engines : so-far .engines ≡ m
+  second : KindsAre kinds (so-far .second)
+  costs : givenIn (so-far .types) ≡ w
+  -- the last type has no costs yet where they may come next
+  no-costs : MayCosts last → given (lastType so-far .there) ≡ false
   not-first : eqb last 0 ≡ false
   no-platform : mayFollow follows last 1 ≡ false
   type-may : mayFollow follows last 2 ≡ true
 
 -- one field more that passes
-module _ (p : List ℕ) (last : ℕ) (y : System) (goes : (rest : List ℕ) → GoesOn (readFile (p ++ rest)) rest last y) (sound : Sound last y) where
-  reach-field : (b : ℕ) (s : List ℕ) (z : System) (k c : ℕ)
+module _ (p : List ℕ) (last : ℕ) (y : System) (goes : (rest : List ℕ) → GoesOn (readCard (p ++ rest)) rest last y) (sound : Sound last y) where
+  reach-field : (b : ℕ) (s : List ℕ) (z : System) (k c m kinds w : ℕ)
       → ((rest : List ℕ) → fieldOf (b ∷ s ++ rest) last y ≡ opened z) → ((rest : List ℕ) → drop (fieldSize (b ∷ s ++ rest)) (b ∷ s ++ rest) ≡ rest)
-      → z .typecount ≡ k → columnsOf (ceilingsOf z) ≡ c → eqb b 0 ≡ false → mayFollow follows b 1 ≡ false → mayFollow follows b 2 ≡ true → Reached (p ++ (b ∷ s)) b k c
-  reach-field b s z k c passes left types columns not-first no-platform type-may =
+      → z .typecount ≡ k → columnsOf (ceilingsOf z) ≡ c → z .engines ≡ m → KindsAre kinds (z .second) → givenIn (z .types) ≡ w → (MayCosts b → given (lastType z .there) ≡ false)
+      → eqb b 0 ≡ false → mayFollow follows b 1 ≡ false → mayFollow follows b 2 ≡ true → Reached (p ++ (b ∷ s)) b k c m kinds w
+  reach-field b s z k c m kinds w passes left types columns engines second costs no-costs not-first no-platform type-may =
       record {
         so-far = z;
         goes = on;
         sound = sound-field (b ∷ s ++ []) last y z sound (passes []);
         types = types;
         columns = columns;
+        engines = engines;
+        second = second;
+        costs = costs;
+        no-costs = no-costs;
         not-first = not-first;
         no-platform = no-platform;
         type-may = type-may;
       }
     where
-      on : (rest : List ℕ) → GoesOn (readFile (p ++ (b ∷ s) ++ rest)) rest b z
+      on : (rest : List ℕ) → GoesOn (readCard (p ++ (b ∷ s) ++ rest)) rest b z
       on rest =
           let g = goes (b ∷ s ++ rest) in
           let next = go-on (g .steps) b (s ++ rest) last y z rest (g .enough) (left rest) (omega (arith, length-append s rest)) (passes rest) in
-          record { steps = next .steps; enough = next .enough; same = ap readFile (append-assoc p (b ∷ s) rest) ∙ g .same ∙ next .same }
+          record { steps = next .steps; enough = next .enough; same = ap readCard (append-assoc p (b ∷ s) rest) ∙ g .same ∙ next .same }
 
-at-start : (rest : List ℕ) → GoesOn (readFile rest) rest 0 blank
-at-start rest = record { steps = length rest; enough = le-refl (length rest); same = unfold readFile in refl }
+at-start : (rest : List ℕ) → GoesOn (readCard rest) rest 0 blank
+at-start rest = record { steps = length rest; enough = le-refl (length rest); same = unfold readCard in refl }
 
-reach-platform : (m r u1 u2 u3 u4 s1 s2 s3 s4 : ℕ) → 1 ≤ m → m ≤ 16 → r ≤ 1 → fourBytes u1 u2 u3 u4 ≤ 1000000 → fourBytes s1 s2 s3 s4 ≤ 1000000 → Reached (platformField m r u1 u2 u3 u4 s1 s2 s3 s4) 1 0 1
+-- a tag after which no costs may come
+no-place : {A : Type 0} (b : ℕ) → (b ≡ 2 → ⊥) → (b ≡ 3 → ⊥) → (b ≡ 4 → ⊥) → MayCosts b → A
+no-place b n2 n3 n4 may = absurd (⊎-elim n2 (⊎-elim n3 n4) may)
+
+reach-platform : (m r u1 u2 u3 u4 s1 s2 s3 s4 : ℕ) → 1 ≤ m → m ≤ 16 → r ≤ 1 → fourBytes u1 u2 u3 u4 ≤ 1000000 → fourBytes s1 s2 s3 s4 ≤ 1000000 → Reached (platformField m r u1 u2 u3 u4 s1 s2 s3 s4) 1 0 1 m 1 0
 unfolding columnsOf
 reach-platform m r u1 u2 u3 u4 s1 s2 s3 s4 low high rule time memory =
-    reach-field [] 0 blank at-start sound-blank 1 (0 ∷ 10 ∷ m ∷ r ∷ u1 ∷ u2 ∷ u3 ∷ u4 ∷ s1 ∷ s2 ∷ s3 ∷ s4 ∷ []) (withPlatform m r (fourBytes u1 u2 u3 u4) (fourBytes s1 s2 s3 s4) blank) 0 1
+    reach-field [] 0 blank at-start sound-blank 1 (0 ∷ 10 ∷ m ∷ r ∷ u1 ∷ u2 ∷ u3 ∷ u4 ∷ s1 ∷ s2 ∷ s3 ∷ s4 ∷ []) (withPlatform m r (fourBytes u1 u2 u3 u4) (fourBytes s1 s2 s3 s4) blank) 0 1 m 1 0
     (λ rest. first-field m r u1 u2 u3 u4 s1 s2 s3 s4 rest
     ∙ rw (le-leb 1 m low, le-leb m 16 high, le-leb r 1 rule, le-leb (fourBytes u1 u2 u3 u4) 1000000 time, le-leb (fourBytes s1 s2 s3 s4) 1000000 memory))
-    (λ rest. refl) refl refl refl refl refl
+    (λ rest. refl) refl refl refl only-one refl (no-place 1 (λ e. omega arith) (λ e. omega arith) (λ e. omega arith)) refl refl refl
 
-module _ (p : List ℕ) (last k c : ℕ) (before : Reached p last k c) where
+module _ (p : List ℕ) (last k c m kinds w : ℕ) (before : Reached p last k c m kinds w) where
   abbrev y : System
   y = before .so-far
 
+  abbrev at : ℕ
+  at = y .typecount - 1
+
+  -- where d, q and costs may come there is a type
+  some : MayCosts last → 0 < y .typecount
+  some may = before .sound .some-type (⊎-elim (λ e. (omega arith, λ z. omega arith)) (⊎-elim (λ e. (omega arith, λ z. omega arith)) (λ e. (omega arith, λ z. omega arith))) may)
+
+  -- another type in the last one's place is the last one
+  new-last : (t : TaskType) → MayCosts last → lastType (withLast t y) ≡ t
+  new-last t may = getD-set-same (y .types) at t noTask (omega (arith, before .sound .six, before .sound .typecount, some may))
+
+  reach-second : (n u1 u2 u3 u4 s1 s2 s3 s4 : ℕ) → last ≡ 1 → 1 ≤ n → m + n ≤ 16 → fourBytes u1 u2 u3 u4 ≤ 1000000 → fourBytes s1 s2 s3 s4 ≤ 1000000
+      → Reached (p ++ secondField n u1 u2 u3 u4 s1 s2 s3 s4) 6 k c m 2 w
+  reach-second n u1 u2 u3 u4 s1 s2 s3 s4 place low high time memory =
+      let new : Kind = record { number = n; timecap = fourBytes u1 u2 u3 u4; memorycap = fourBytes s1 s2 s3 s4 } in
+      let total : y .engines + n ≤ 16 = omega (arith, before .engines) in
+      reach-field p last y (before .goes) (before .sound) 6 (0 ∷ 9 ∷ n ∷ u1 ∷ u2 ∷ u3 ∷ u4 ∷ s1 ∷ s2 ∷ s3 ∷ s4 ∷ []) (withSecond n (fourBytes u1 u2 u3 u4) (fourBytes s1 s2 s3 s4) y) k c m 2 w
+      (λ rest. second-field last y n u1 u2 u3 u4 s1 s2 s3 s4 rest (second-after-platform last .1 place)
+      ∙ rw (
+        second-within (y .engines) n (fourBytes u1 u2 u3 u4) (fourBytes s1 s2 s3 s4) low total,
+        le-leb (fourBytes u1 u2 u3 u4) 1000000 time,
+        le-leb (fourBytes s1 s2 s3 s4) 1000000 memory,
+      ))
+      (λ rest. refl) (before .types) (before .columns) (before .engines) (one-more new) (before .costs) (no-place 6 (λ e. omega arith) (λ e. omega arith) (λ e. omega arith)) refl refl refl
+
   reach-type : (u1 u2 u3 u4 s1 s2 s3 s4 n1 n2 : ℕ) → k < 6 → fourBytes u1 u2 u3 u4 ≤ 1000000 → fourBytes s1 s2 s3 s4 ≤ 1000000
-      → Reached (p ++ typeField u1 u2 u3 u4 s1 s2 s3 s4 n1 n2) 2 (suc k) (c * (twoBytes n1 n2 + 1))
+      → Reached (p ++ typeField u1 u2 u3 u4 s1 s2 s3 s4 n1 n2) 2 (suc k) (c * (twoBytes n1 n2 + 1)) m kinds w
   reach-type u1 u2 u3 u4 s1 s2 s3 s4 n1 n2 room time memory =
       let new = taskOf (fourBytes u1 u2 u3 u4) (fourBytes s1 s2 s3 s4) (twoBytes n1 n2) in
-      let empty = ap (λ (t : TaskType). t .ceiling) (before .sound .past (y .typecount) (le-refl (y .typecount))) in
-      reach-field p last y (before .goes) (before .sound) 2 (0 ∷ 10 ∷ u1 ∷ u2 ∷ u3 ∷ u4 ∷ s1 ∷ s2 ∷ s3 ∷ s4 ∷ n1 ∷ n2 ∷ []) (withType new y) (suc k) (c * (twoBytes n1 n2 + 1))
+      let none = before .sound .past (y .typecount) (le-refl (y .typecount)) in
+      let inside : y .typecount < length (y .types) = omega (arith, before .types, before .sound .six) in
+      let one-less : suc (y .typecount) - 1 ≡ y .typecount = omega arith in
+      reach-field p last y (before .goes) (before .sound) 2 (0 ∷ 10 ∷ u1 ∷ u2 ∷ u3 ∷ u4 ∷ s1 ∷ s2 ∷ s3 ∷ s4 ∷ n1 ∷ n2 ∷ []) (withType new y) (suc k) (c * (twoBytes n1 n2 + 1)) m kinds w
       (λ rest. type-field last y u1 u2 u3 u4 s1 s2 s3 s4 n1 n2 rest (before .type-may)
       ∙ rw (lt-leb 6 (y .typecount) (omega (arith, before .types)), le-leb (fourBytes u1 u2 u3 u4) 1000000 time, le-leb (fourBytes s1 s2 s3 s4) 1000000 memory))
       (λ rest. refl) (ap suc (before .types))
-      (columns-more (y .types) (y .typecount) new (omega (arith, before .types, before .sound .six)) empty ∙ ap (λ (n : ℕ). n * (twoBytes n1 n2 + 1)) (before .columns))
-      refl refl refl
+      (columns-more (y .types) (y .typecount) new inside (ap (λ (t : TaskType). t .ceiling) none) ∙ ap (λ (n : ℕ). n * (twoBytes n1 n2 + 1)) (before .columns))
+      (before .engines) (before .second) (given-same (y .types) (y .typecount) new (ap (λ (t : TaskType). given (t .there)) (sym none)) ∙ before .costs)
+      (λ may. ap (λ (i : ℕ). given (getD (set (y .types) (y .typecount) new) i noTask .there)) one-less
+      ∙ ap (λ (t : TaskType). given (t .there)) (getD-set-same (y .types) (y .typecount) new noTask inside)) refl refl refl
 
-  reach-data : (d1 d2 d3 d4 : ℕ) → last ≡ 2 → fourBytes d1 d2 d3 d4 ≤ 1000000 → Reached (p ++ dataField d1 d2 d3 d4) 3 k c
+  reach-data : (d1 d2 d3 d4 : ℕ) → MayData last → fourBytes d1 d2 d3 d4 ≤ 1000000 → Reached (p ++ dataField d1 d2 d3 d4) 3 k c m kinds w
   reach-data d1 d2 d3 d4 place small =
       let new = withData (fourBytes d1 d2 d3 d4) (lastType y) in
-      let sized = before .sound .sized (y .typecount - 1) in
-      reach-field p last y (before .goes) (before .sound) 3 (0 ∷ 4 ∷ d1 ∷ d2 ∷ d3 ∷ d4 ∷ []) (withLast new y) k c
+      let sized = before .sound .sized at in
+      reach-field p last y (before .goes) (before .sound) 3 (0 ∷ 4 ∷ d1 ∷ d2 ∷ d3 ∷ d4 ∷ []) (withLast new y) k c m kinds w
       (λ rest. data-field last y d1 d2 d3 d4 rest (data-after-type last .1 place)
       ∙ rw (le-leb (lastType y .time) 1000000 (sized .time), le-leb (lastType y .memory) 1000000 (sized .memory), le-leb (fourBytes d1 d2 d3 d4) 1000000 small))
-      (λ rest. refl) (before .types) (columns-same (y .types) (y .typecount - 1) new refl ∙ before .columns) refl refl refl
+      (λ rest. refl) (before .types) (columns-same (y .types) at new refl ∙ before .columns) (before .engines) (before .second)
+      (given-same (y .types) at new refl ∙ before .costs)
+      (λ may. ap (λ (t : TaskType). given (t .there)) (new-last new (inl place)) ∙ before .no-costs (inl place)) refl refl refl
 
-  reach-most : (q1 q2 : ℕ) → (last ≡ 2) ⊎ (last ≡ 3) → (twoBytes q1 q2 ≡ 0 → ⊥) → Reached (p ++ mostField q1 q2) 4 k c
+  reach-most : (q1 q2 : ℕ) → MayMost last → (twoBytes q1 q2 ≡ 0 → ⊥) → Reached (p ++ mostField q1 q2) 4 k c m kinds w
   reach-most q1 q2 place some =
       let new = withMost (twoBytes q1 q2) (lastType y) in
-      reach-field p last y (before .goes) (before .sound) 4 (0 ∷ 2 ∷ q1 ∷ q2 ∷ []) (withLast new y) k c
+      let may-costs : MayCosts last = ⊎-elim inl (λ e. inr (inl e)) place in
+      reach-field p last y (before .goes) (before .sound) 4 (0 ∷ 2 ∷ q1 ∷ q2 ∷ []) (withLast new y) k c m kinds w
       (λ rest. most-field last y q1 q2 rest (most-after-type last .1 place) ∙ rw (ne-eqb (twoBytes q1 q2) 0 some))
-      (λ rest. refl) (before .types) (columns-same (y .types) (y .typecount - 1) new refl ∙ before .columns) refl refl refl
+      (λ rest. refl) (before .types) (columns-same (y .types) at new refl ∙ before .columns) (before .engines) (before .second)
+      (given-same (y .types) at new refl ∙ before .costs)
+      (λ may. ap (λ (t : TaskType). given (t .there)) (new-last new may-costs) ∙ before .no-costs may-costs) refl refl refl
 
-reached : {p : List ℕ} {last k c : ℕ} → Beginning p last k c → Reached p last k c
+  reach-costs : (u1 u2 u3 u4 s1 s2 s3 s4 : ℕ) → MayCosts last → fourBytes u1 u2 u3 u4 ≤ 1000000 → fourBytes s1 s2 s3 s4 ≤ 1000000
+      → Reached (p ++ costsField u1 u2 u3 u4 s1 s2 s3 s4) 7 k c m kinds (suc w)
+  reach-costs u1 u2 u3 u4 s1 s2 s3 s4 place time memory =
+      let new = withCosts (fourBytes u1 u2 u3 u4) (fourBytes s1 s2 s3 s4) (lastType y) in
+      let inside : at < length (y .types) = omega (arith, before .sound .six, before .sound .typecount, some place) in
+      reach-field p last y (before .goes) (before .sound) 7 (0 ∷ 8 ∷ u1 ∷ u2 ∷ u3 ∷ u4 ∷ s1 ∷ s2 ∷ s3 ∷ s4 ∷ []) (withLast new y) k c m kinds (suc w)
+      (λ rest. costs-field last y u1 u2 u3 u4 s1 s2 s3 s4 rest (costs-after-type last .1 place)
+      ∙ rw (le-leb (fourBytes u1 u2 u3 u4) 1000000 time, le-leb (fourBytes s1 s2 s3 s4) 1000000 memory))
+      (λ rest. refl) (before .types) (columns-same (y .types) at new refl ∙ before .columns) (before .engines) (before .second)
+      (given-more (y .types) at new inside refl (before .no-costs place) ∙ ap suc (before .costs))
+      (no-place 7 (λ e. omega arith) (λ e. omega arith) (λ e. omega arith)) refl refl refl
+
+reached : {p : List ℕ} {last k c m kinds w : ℕ} → Beginning p last k c m kinds w → Reached p last k c m kinds w
 reached (a-platform m r u1 u2 u3 u4 s1 s2 s3 s4 low high rule time memory) = reach-platform m r u1 u2 u3 u4 s1 s2 s3 s4 low high rule time memory
-reached (then-type p last k c u1 u2 u3 u4 s1 s2 s3 s4 n1 n2 before room time memory) =
-    reach-type p last k c (reached before) u1 u2 u3 u4 s1 s2 s3 s4 n1 n2 room time memory
-reached (then-data p last k c d1 d2 d3 d4 before place small) = reach-data p last k c (reached before) d1 d2 d3 d4 place small
-reached (then-most p last k c q1 q2 before place some) = reach-most p last k c (reached before) q1 q2 place some
+reached (then-second p last k c m kinds w n u1 u2 u3 u4 s1 s2 s3 s4 before place low high time memory) =
+    reach-second p last k c m kinds w (reached before) n u1 u2 u3 u4 s1 s2 s3 s4 place low high time memory
+reached (then-type p last k c m kinds w u1 u2 u3 u4 s1 s2 s3 s4 n1 n2 before room time memory) =
+    reach-type p last k c m kinds w (reached before) u1 u2 u3 u4 s1 s2 s3 s4 n1 n2 room time memory
+reached (then-data p last k c m kinds w d1 d2 d3 d4 before place small) = reach-data p last k c m kinds w (reached before) d1 d2 d3 d4 place small
+reached (then-most p last k c m kinds w q1 q2 before place some) = reach-most p last k c m kinds w (reached before) q1 q2 place some
+reached (then-costs p last k c m kinds w u1 u2 u3 u4 s1 s2 s3 s4 before place time memory) =
+    reach-costs p last k c m kinds w (reached before) u1 u2 u3 u4 s1 s2 s3 s4 place time memory
 
 -- What comes next
 
@@ -241,68 +419,154 @@ third-over true true = refl
 third-over true false = refl
 third-over false b = refl
 
-module _ (p : List ℕ) (last k c : ℕ) (here : Reached p last k c) where
-  stops : (b : ℕ) (s : List ℕ) (n : ℕ) → fieldOf (b ∷ s) last (here .so-far) ≡ unread n → readFile (p ++ (b ∷ s)) ≡ unread n
+-- one of two parts that fails, and a number of engines that does
+over-two : (a b : Bool) → (a ≡ false) ⊎ (b ≡ false) → not (a && b) ≡ true
+over-two false b e = refl
+over-two true false e = refl
+over-two true true (inl e) = absurd (false≢true (sym e))
+over-two true true (inr e) = absurd (false≢true (sym e))
+
+-- which of two sizes is over the limit
+too-large : (u s : ℕ) → (1000000 < u) ⊎ (1000000 < s) → (leb u 1000000 ≡ false) ⊎ (leb s 1000000 ≡ false)
+too-large u s large = ⊎-elim (λ e. inl (lt-leb u 1000000 e)) (λ e. inr (lt-leb s 1000000 e)) large
+
+module _ (p : List ℕ) (last k c m kinds w : ℕ) (here : Reached p last k c m kinds w) where
+  stops : (b : ℕ) (s : List ℕ) (n : ℕ) → fieldOf (b ∷ s) last (here .so-far) ≡ unread n → readCard (p ++ (b ∷ s)) ≡ unread n
   stops b s n e = let g = here .goes (b ∷ s) in g .same ∙ stop-here (g .steps) b s last (here .so-far) n (g .enough) e
 
-  data-may-not : (last ≡ 2 → ⊥) → mayFollow follows last 3 ≡ false
+  data-may-not : (MayData last → ⊥) → mayFollow follows last 3 ≡ false
   data-may-not n = rw (ne-eqb 2 last (λ e. n (sym e)))
 
-  most-may-not : (last ≡ 2 → ⊥) → (last ≡ 3 → ⊥) → mayFollow follows last 4 ≡ false
-  most-may-not n m = rw (ne-eqb 2 last (λ e. n (sym e)), ne-eqb 3 last (λ e. m (sym e)))
+  most-may-not : (MayMost last → ⊥) → mayFollow follows last 4 ≡ false
+  most-may-not n = rw (ne-eqb 2 last (λ e. n (inl (sym e))), ne-eqb 3 last (λ e. n (inr (sym e))))
 
-  next-field : NextField p last k
+  second-may-not : (last ≡ 1 → ⊥) → mayFollow follows last 6 ≡ false
+  second-may-not n = rw (ne-eqb 1 last (λ e. n (sym e)))
+
+  costs-may-not : (MayCosts last → ⊥) → mayFollow follows last 7 ≡ false
+  costs-may-not n = rw (ne-eqb 2 last (λ e. n (inl (sym e))), ne-eqb 3 last (λ e. n (inr (inl (sym e)))), ne-eqb 4 last (λ e. n (inr (inr (sym e)))))
+
+  number-over : (n : ℕ) → (n ≡ 0) ⊎ (16 < m + n) → not (kindCounted (here .so-far .engines) n) ≡ true
+  number-over n bad =
+      over-two (leb 1 n) (leb (here .so-far .engines + n) 16)
+      (⊎-elim (λ (e : n ≡ 0). inl (lt-leb 1 n (omega arith))) (λ (e : 16 < m + n). inr (lt-leb (here .so-far .engines + n) 16 (omega (arith, here .engines)))) bad)
+
+  next-field : NextField p last k m
   next-field =
       let y = here .so-far in
       record {
         one-byte = λ a. stops a [] 1 (cut-one last y a);
         two-bytes = λ a b. stops a (b ∷ []) 1 (cut-two last y a b);
-        no-tag = λ t h l rest n1 n2 n3 n4. stops t (h ∷ l ∷ rest) 2 (unknown last y t h l rest n1 n2 n3 n4);
+        no-tag = λ t h l rest n1 n2 n3 n4 n6 n7. stops t (h ∷ l ∷ rest) 2 (unknown last y t h l rest n1 n2 n3 n4 n6 n7);
         platform-again = λ h l rest. stops 1 (h ∷ l ∷ rest) 3 (misplaced last y 1 h l rest platformRule (unfold ruleOf in refl) (here .no-platform));
         data-place = λ h l rest n. stops 3 (h ∷ l ∷ rest) 3 (misplaced last y 3 h l rest dataRule (unfold ruleOf in refl) (data-may-not n));
-        most-place = λ h l rest n m. stops 4 (h ∷ l ∷ rest) 3 (misplaced last y 4 h l rest mostRule (unfold ruleOf in refl) (most-may-not n m));
+        most-place = λ h l rest n. stops 4 (h ∷ l ∷ rest) 3 (misplaced last y 4 h l rest mostRule (unfold ruleOf in refl) (most-may-not n));
+        second-place = λ h l rest n. stops 6 (h ∷ l ∷ rest) 3 (misplaced last y 6 h l rest secondRule (unfold ruleOf in refl) (second-may-not n));
+        costs-place = λ h l rest n. stops 7 (h ∷ l ∷ rest) 3 (misplaced last y 7 h l rest costsRule (unfold ruleOf in refl) (costs-may-not n));
         type-length = λ h l rest n. stops 2 (h ∷ l ∷ rest) 4 (other-length last y 2 h l rest typeRule (unfold ruleOf in refl) (here .type-may) n);
         data-length = λ h l rest e n. stops 3 (h ∷ l ∷ rest) 4 (other-length last y 3 h l rest dataRule (unfold ruleOf in refl) (data-after-type last .1 e) n);
         most-length = λ h l rest e n. stops 4 (h ∷ l ∷ rest) 4 (other-length last y 4 h l rest mostRule (unfold ruleOf in refl) (most-after-type last .1 e) n);
+        second-length = λ h l rest e n. stops 6 (h ∷ l ∷ rest) 4 (other-length last y 6 h l rest secondRule (unfold ruleOf in refl) (second-after-platform last .1 e) n);
+        costs-length = λ h l rest e n. stops 7 (h ∷ l ∷ rest) 4 (other-length last y 7 h l rest costsRule (unfold ruleOf in refl) (costs-after-type last .1 e) n);
         type-cut = λ rest short. stops 2 (0 ∷ 10 ∷ rest) 1 (cut-body last y 2 0 10 rest typeRule (unfold ruleOf in refl) (here .type-may) refl short);
         data-cut = λ rest e short. stops 3 (0 ∷ 4 ∷ rest) 1 (cut-body last y 3 0 4 rest dataRule (unfold ruleOf in refl) (data-after-type last .1 e) refl short);
         most-cut = λ rest e short. stops 4 (0 ∷ 2 ∷ rest) 1 (cut-body last y 4 0 2 rest mostRule (unfold ruleOf in refl) (most-after-type last .1 e) refl short);
+        second-cut = λ rest e short. stops 6 (0 ∷ 9 ∷ rest) 1 (cut-body last y 6 0 9 rest secondRule (unfold ruleOf in refl) (second-after-platform last .1 e) refl short);
+        costs-cut = λ rest e short. stops 7 (0 ∷ 8 ∷ rest) 1 (cut-body last y 7 0 8 rest costsRule (unfold ruleOf in refl) (costs-after-type last .1 e) refl short);
         seventh-type = λ u1 u2 u3 u4 s1 s2 s3 s4 n1 n2 rest six.
             stops 2 (0 ∷ 10 ∷ u1 ∷ u2 ∷ u3 ∷ u4 ∷ s1 ∷ s2 ∷ s3 ∷ s4 ∷ n1 ∷ n2 ∷ rest) 7
             (type-field last y u1 u2 u3 u4 s1 s2 s3 s4 n1 n2 rest (here .type-may) ∙ rw (le-leb 6 (y .typecount) (omega (arith, here .types))));
+        second-number = λ n u1 u2 u3 u4 s1 s2 s3 s4 rest e bad.
+            stops 6 (0 ∷ 9 ∷ n ∷ u1 ∷ u2 ∷ u3 ∷ u4 ∷ s1 ∷ s2 ∷ s3 ∷ s4 ∷ rest) 5
+            (second-field last y n u1 u2 u3 u4 s1 s2 s3 s4 rest (second-after-platform last .1 e) ∙ rw (number-over n bad));
         type-size = λ u1 u2 u3 u4 s1 s2 s3 s4 n1 n2 rest room large.
             stops 2 (0 ∷ 10 ∷ u1 ∷ u2 ∷ u3 ∷ u4 ∷ s1 ∷ s2 ∷ s3 ∷ s4 ∷ n1 ∷ n2 ∷ rest) 8
             (type-field last y u1 u2 u3 u4 s1 s2 s3 s4 n1 n2 rest (here .type-may)
             ∙ rw (
               lt-leb 6 (y .typecount) (omega (arith, here .types)),
-              over (leb (fourBytes u1 u2 u3 u4) 1000000) (leb (fourBytes s1 s2 s3 s4) 1000000)
-                  (⊎-elim (λ e. inl (lt-leb (fourBytes u1 u2 u3 u4) 1000000 e)) (λ e. inr (lt-leb (fourBytes s1 s2 s3 s4) 1000000 e)) large),
+              over (leb (fourBytes u1 u2 u3 u4) 1000000) (leb (fourBytes s1 s2 s3 s4) 1000000) (too-large (fourBytes u1 u2 u3 u4) (fourBytes s1 s2 s3 s4) large),
             ));
         data-size = λ d1 d2 d3 d4 rest e large.
             stops 3 (0 ∷ 4 ∷ d1 ∷ d2 ∷ d3 ∷ d4 ∷ rest) 8
             (data-field last y d1 d2 d3 d4 rest (data-after-type last .1 e)
             ∙ rw (lt-leb (fourBytes d1 d2 d3 d4) 1000000 large, third-over (leb (lastType y .time) 1000000) (leb (lastType y .memory) 1000000)));
+        second-size = λ n u1 u2 u3 u4 s1 s2 s3 s4 rest e low high large.
+            stops 6 (0 ∷ 9 ∷ n ∷ u1 ∷ u2 ∷ u3 ∷ u4 ∷ s1 ∷ s2 ∷ s3 ∷ s4 ∷ rest) 8
+            (second-field last y n u1 u2 u3 u4 s1 s2 s3 s4 rest (second-after-platform last .1 e)
+            ∙ rw (
+              second-within (y .engines) n (fourBytes u1 u2 u3 u4) (fourBytes s1 s2 s3 s4) low (omega (arith, here .engines)),
+              over-two (leb (fourBytes u1 u2 u3 u4) 1000000) (leb (fourBytes s1 s2 s3 s4) 1000000) (too-large (fourBytes u1 u2 u3 u4) (fourBytes s1 s2 s3 s4) large),
+            ));
+        costs-size = λ u1 u2 u3 u4 s1 s2 s3 s4 rest e large.
+            stops 7 (0 ∷ 8 ∷ u1 ∷ u2 ∷ u3 ∷ u4 ∷ s1 ∷ s2 ∷ s3 ∷ s4 ∷ rest) 8
+            (costs-field last y u1 u2 u3 u4 s1 s2 s3 s4 rest (costs-after-type last .1 e)
+            ∙ rw (over-two (leb (fourBytes u1 u2 u3 u4) 1000000) (leb (fourBytes s1 s2 s3 s4) 1000000) (too-large (fourBytes u1 u2 u3 u4) (fourBytes s1 s2 s3 s4) large)));
         most-none = λ q1 q2 rest e none. stops 4 (0 ∷ 2 ∷ q1 ∷ q2 ∷ rest) 31 (most-field last y q1 q2 rest (most-after-type last .1 e) ∙ rw (eq-eqb (twoBytes q1 q2) 0 none));
       }
 
-  ends : (x : Reading) → endOf last (here .so-far) ≡ x → readFile p ≡ x
-  ends x e = let g = here .goes [] in ap readFile (sym (append-nil p)) ∙ g .same ∙ fieldsFrom-nil (g .steps) last (here .so-far) ∙ e
+  ends : (x : Reading) → endOf last (here .so-far) ≡ x → readCard p ≡ x
+  ends x e = let g = here .goes [] in ap readCard (sym (append-nil p)) ∙ g .same ∙ fieldsFrom-nil (g .steps) last (here .so-far) ∙ e
 
-  at-end : FileEnd p k c
+  -- all or none, as `kindsAgree` says it
+  agree : (b : Bool) → kindsAgree (isOneKind (here .so-far .second)) (here .so-far .typecount) (here .so-far .types) ≡ b → (b ≡ true → AllOrNone k kinds w) × (b ≡ false → AllOrNone k kinds w → ⊥)
+  agree b e = judged kinds (here .so-far .second) (here .second) e
+    where
+      z : System
+      z = here .so-far
+
+      judged : (n : ℕ) (x : Second) → KindsAre n x → kindsAgree (isOneKind x) (z .typecount) (z .types) ≡ b → (b ≡ true → AllOrNone k n w) × (b ≡ false → AllOrNone k n w → ⊥)
+      judged n x only-one e =
+          let is = sym (agree-none (z .typecount) (z .types) (here .sound .past)) ∙ e in (
+            λ yes. record { one = λ n. omega (arith, here .costs, eqb-true (givenIn (z .types)) 0 (is ∙ yes)); two = λ n. absurd (omega arith) },
+            λ no all. eqb-false (givenIn (z .types)) 0 (is ∙ no) (here .costs ∙ all .one refl),
+          )
+      judged n x (one-more x1) e =
+          let is = sym (agree-all (z .typecount) (z .types) (here .sound .past) (omega (arith, here .sound .six, here .sound .typecount))) ∙ e in (
+            λ yes. record { one = λ n. absurd (omega arith); two = λ n. omega (arith, here .costs, here .types, eqb-true (givenIn (z .types)) (z .typecount) (is ∙ yes)) },
+            λ no all. eqb-false (givenIn (z .types)) (z .typecount) (is ∙ no) (here .costs ∙ all .two refl ∙ sym (here .types)),
+          )
+
+  at-end : FileEnd p k c kinds w
   unfolding endOf
-  at-end =
-      let y = here .so-far in
-      let some : 1 ≤ k → eqb (y .typecount) 0 ≡ false = λ h. ne-eqb (y .typecount) 0 (λ e. omega (arith, here .types)) in
-      record {
-        no-type = λ e. ends (unread 9) (rw (here .not-first, here .types, e));
-        columns-over = λ h large. ends (unread 10) (rw (here .not-first, some h, here .columns, lt-leb c 4096 large));
-        opens = λ h small. (y, ends (opened y) (rw (here .not-first, some h, here .columns, le-leb c 4096 small)));
-      }
+  at-end = judged (kindsAgree (isOneKind (here .so-far .second)) (here .so-far .typecount) (here .so-far .types)) refl
+    where
+      y : System
+      y = here .so-far
+
+      some : 1 ≤ k → eqb (y .typecount) 0 ≡ false
+      some h = ne-eqb (y .typecount) 0 (λ e. omega (arith, here .types))
+
+      none : k ≡ 0 → readCard p ≡ unread 9
+      none e = ends (unread 9) (rw (here .not-first, here .types, e))
+
+      one-wanted : (n : ℕ) (x : Second) → KindsAre n x → y .second ≡ x → readCard p ≡ opened y → (n ≡ 1 → readFile p ≡ opened y) × (n ≡ 2 → readFile p ≡ unread 42)
+      one-wanted n x only-one is e = (λ h. card-file p y e is, λ h. absurd (omega arith))
+      one-wanted n x (one-more x1) is e = (λ h. absurd (omega arith), λ h. card-mixed p y x1 e is)
+
+      judged : (b : Bool) → kindsAgree (isOneKind (y .second)) (y .typecount) (y .types) ≡ b → FileEnd p k c kinds w
+      judged true e =
+          record {
+            no-type = none;
+            some-kinds = λ h not-all. absurd (not-all (agree true e .0 refl));
+            columns-over = λ h all large. ends (unread 10) (rw (here .not-first, some h, e, here .columns, lt-leb c 4096 large));
+            opens = λ h all small.
+                let read = ends (opened y) (rw (here .not-first, some h, e, here .columns, le-leb c 4096 small)) in
+                let wanted = one-wanted kinds (y .second) (here .second) refl read in
+                (y, read, wanted .0, wanted .1);
+          }
+      judged false e =
+          record {
+            no-type = none;
+            some-kinds = λ h not-all. ends (unread 41) (rw (here .not-first, some h, e));
+            columns-over = λ h all large. absurd (agree false e .1 refl all);
+            opens = λ h all small. absurd (agree false e .1 refl all);
+          }
 
 pub later-fields : LaterFields
 later-fields =
     record {
-      empty-file = unfold readFile fieldsFrom endOf in refl;
-      next-field = λ p last k c before. next-field p last k c (reached before);
-      file-end = λ p last k c before. at-end p last k c (reached before);
+      empty-file = unfold readCard fieldsFrom endOf in refl;
+      next-field = λ p last k c m kinds w before. next-field p last k c m kinds w (reached before);
+      file-end = λ p last k c m kinds w before. at-end p last k c m kinds w (reached before);
+      refused-alike = card-refused;
     }

@@ -1,4 +1,4 @@
--- Laws of the definitions of crate `system`: the limits of a system as plain facts, and that every file that is read keeps them.
+-- Laws of the definitions of crate `system`: the limits of a card, of one kind of engine or two, and those of a system of one kind, as plain facts; that every file that is read keeps them; and that a file reads as one of one kind exactly where it reads as a card and has no second kind.
 use Prim.Native.Nat.{ℕ, zero, suc, _+_, _-_, _≤_, _<_, min, zero-le}
 use native.Mathlib.Omega.{arith}
 use native.Mathlib.Nat.{mul-pos, mul-le-mul-left, mul-le-mul-right, min-eq-left, min-eq-right}
@@ -12,6 +12,12 @@ use lib.Seq.{getD-set-other, drop-drop}
 use lib.Dec.{leb, eqb}
 use Rattle.system.specs.declared.Most.{Most}
 use Rattle.system.specs.declared.Most.the-variants.{NotGiven, AtMost}
+use Rattle.system.specs.declared.Costs.{Costs}
+use Rattle.system.specs.declared.There.{There}
+use Rattle.system.specs.declared.There.the-variants.{Absent, Takes}
+use Rattle.system.specs.declared.Kind.{Kind}
+use Rattle.system.specs.declared.Second.{Second}
+use Rattle.system.specs.declared.Second.the-variants.{OneKind, TwoKinds}
 use Rattle.system.specs.declared.TaskType.{TaskType}
 use Rattle.system.specs.declared.System.{System}
 use Rattle.system.specs.declared.rules.FieldRule.{FieldRule}
@@ -24,14 +30,15 @@ use Rattle.system.specs.declared.Answer.{Answer}
 use Rattle.system.specs.declared.Answer.the-variants.{Accepted, Number, Refused}
 use Rattle.system.specs.declared.Refusal.{Refusal}
 use Rattle.system.specs.declared.Refusal.the-variants.{Input, State}
-use Rattle.system.specs.Inner.{partOf}
-use Rattle.system.specs.Values.{taskOf, withData, withMost, noTask, blank, withPlatform, withType, lastType, withLast, ceilingsOf}
+use Rattle.system.specs.Inner.{partOf, PastTypes}
+use Rattle.system.specs.Values.{taskOf, withData, withMost, withCosts, noTask, blank, withPlatform, withSecond, withType, lastType, withLast, ceilingsOf}
 use Rattle.system.specs.Limits.{engineLimit, typeLimit, sizeLimit, columnLimit, columnsOf, columns}
-use Rattle.system.specs.Limits.{sizeFault, platformFault, typeFault, mostFault, columnsFault, notGiven, zeroTask, soundTask, typesKeep, keepsLimits}
+use Rattle.system.specs.Limits.{orElse, sizeFault, platformFault, kindFault, secondFault, typeFault, mostFault, costsFault, columnsFault}
+use Rattle.system.specs.Limits.{notGiven, given, isOneKind, kindsAgree, kindsFault, zeroTask, soundTask, typesKeep, keepsCard, keepsLimits}
 use Rattle.system.specs.Layout.{Reading, opened, unread, byteAt, word2, word4, headSize, fieldSize, headedField, wholeField, bodyPart, fieldAt, bodyAt}
-use Rattle.system.specs.Layout.{platformRule, typeRule, dataRule, mostRule, fieldRules, ruleOf, follows, mayFollow, unlessFault}
-use Rattle.system.specs.Layout.{platformFrom, platformOf, typeFrom, typeOf, dataFrom, dataOf, mostFrom, mostOf}
-use Rattle.system.specs.Layout.{ruledHead, headFrom, headOf, bodyOf, ruledField, fieldOf, endOf, afterField, fieldsFrom, readFile, readOutcome, Reads}
+use Rattle.system.specs.Layout.{platformRule, typeRule, dataRule, mostRule, secondRule, costsRule, fieldRules, ruleOf, follows, mayFollow, unlessFault}
+use Rattle.system.specs.Layout.{platformFrom, platformOf, typeFrom, typeOf, dataFrom, dataOf, mostFrom, mostOf, secondFrom, secondOf, costsFrom, costsOf}
+use Rattle.system.specs.Layout.{ruledHead, headFrom, headOf, bodyOf, ruledField, fieldOf, endOf, afterField, fieldsFrom, readCard, ofOneKind, readFile, readOutcome, Reads}
 use Rattle.system.specs.Outcome.{accepted, refused, fromInput, refusalOf, outcomeOf}
 
 -- a test of two parts
@@ -73,10 +80,15 @@ not-given : (m : Most) → notGiven m ≡ true → m ≡ NotGiven
 not-given NotGiven e = refl
 not-given (AtMost q) e = absurd (false≢true e)
 
+not-there : (x : There) → not (given x) ≡ true → x ≡ Absent
+not-there Absent e = refl
+not-there (Takes c) e = absurd (false≢true e)
+
 zero-task : (t : TaskType) → zeroTask t ≡ true → t ≡ noTask
 zero-task t e =
     let numbers = eqb (t .time) 0 && eqb (t .memory) 0 && eqb (t .ceiling) 0 && eqb (t .data) 0 in
-    let none = and-parts numbers (notGiven (t .most)) e in
+    let here = and-parts (numbers && notGiven (t .most)) (not (given (t .there))) e in
+    let none = and-parts numbers (notGiven (t .most)) (here .0) in
     let last = and-parts (eqb (t .time) 0 && eqb (t .memory) 0 && eqb (t .ceiling) 0) (eqb (t .data) 0) (none .0) in
     let p = and-three (eqb (t .time) 0) (eqb (t .memory) 0) (eqb (t .ceiling) 0) (last .0) in
     let time = eqb-true (t .time) 0 (p .0) in
@@ -84,9 +96,10 @@ zero-task t e =
     let ceiling = eqb-true (t .ceiling) 0 (p .2) in
     let extra = eqb-true (t .data) 0 (last .1) in
     let most = not-given (t .most) (none .1) in
-    λ i. record { time = time i; memory = memory i; ceiling = ceiling i; «data» = extra i; most = most i }
+    let there = not-there (t .there) (here .1) in
+    λ i. record { time = time i; memory = memory i; ceiling = ceiling i; «data» = extra i; most = most i; there = there i }
 
--- past k a task is 0, and has no q
+-- past k a task is 0, and has nothing given
 types-past : (k : ℕ) (ts : List TaskType) → typesKeep k ts ≡ true → (i : ℕ) → k ≤ i → getD ts i noTask ≡ noTask
 unfolding typesKeep
 types-past k [] e i h = refl
@@ -138,11 +151,19 @@ pub replicas-keep : (m : Most) → ((q : ℕ) → m ≡ AtMost q → 1 ≤ q) �
 replicas-keep NotGiven some = refl
 replicas-keep (AtMost q) some = rw (ne-eqb q 0 (λ none. omega (arith, some q refl)))
 
--- the two tests of an entry
-sound-task : (t : TaskType) → soundTask t ≡ true → Sized t × Limited t
+-- u and s of a task on the second kind: not given, or within the limits
+abbrev Costed : TaskType → Type 0
+Costed t = costsFault (t .there) ≡ 0
+
+-- the same in plain words
+pub costs-sized : (x : There) (c : Costs) → costsFault x ≡ 0 → x ≡ Takes c → (c .time ≤ sizeLimit) × (c .memory ≤ sizeLimit)
+costs-sized x c e is = sizes-kept (c .time) (c .memory) (ap costsFault (sym is) ∙ e)
+
+-- the three tests of an entry
+sound-task : (t : TaskType) → soundTask t ≡ true → Sized t × Limited t × Costed t
 sound-task t e =
-    let p = and-parts (eqb (typeFault t) 0) (eqb (mostFault (t .most)) 0) e in
-    (sized-task t (eqb-true (typeFault t) 0 (p .0)), eqb-true (mostFault (t .most)) 0 (p .1))
+    let p = and-three (eqb (typeFault t) 0) (eqb (mostFault (t .most)) 0) (eqb (costsFault (t .there)) 0) e in
+    (sized-task t (eqb-true (typeFault t) 0 (p .0)), eqb-true (mostFault (t .most)) 0 (p .1), eqb-true (costsFault (t .there)) 0 (p .2))
 
 -- what every sound task has, and one past k, every entry has
 types-have : (P : TaskType → Type 0) → P noTask → ((t : TaskType) → soundTask t ≡ true → P t) → (k : ℕ) (ts : List TaskType) → typesKeep k ts ≡ true → (i : ℕ) → P (getD ts i noTask)
@@ -153,7 +174,86 @@ types-have P none sound zero (t ∷ ts) e (suc i) = types-have P none sound zero
 types-have P none sound (suc k) (t ∷ ts) e zero = sound t (and-parts (soundTask t) (typesKeep k ts) e .0)
 types-have P none sound (suc k) (t ∷ ts) e (suc i) = types-have P none sound k ts (and-parts (soundTask t) (typesKeep k ts) e .1) i
 
--- Every limit of document 01 as a plain fact
+-- One kind of engine or two
+
+pub one-kind : (s : Second) → isOneKind s ≡ true → s ≡ OneKind
+one-kind OneKind e = refl
+one-kind (TwoKinds k) e = absurd (false≢true e)
+
+pub two-kinds : (s : Second) → isOneKind s ≡ false → (k : Kind) × (s ≡ TwoKinds k)
+two-kinds OneKind e = absurd (false≢true (sym e))
+two-kinds (TwoKinds k) e = (k, refl)
+
+-- a second kind's numbers within the limits, where there are m engines of the first
+pub record KindLimits (m : ℕ) (k : Kind) : Type 0 where
+  pub some-engine : 1 ≤ k .number
+  pub engines : m + k .number ≤ engineLimit
+  pub time : k .timecap ≤ sizeLimit
+  pub memory : k .memorycap ≤ sizeLimit
+
+pub second-limits : (m : ℕ) (x : Second) (k : Kind) → secondFault m x ≡ 0 → x ≡ TwoKinds k → KindLimits m k
+second-limits m x k e is =
+    let a = faultless (leb 1 (k .number) && leb (m + k .number) engineLimit) 5 (sizeFault (k .timecap) (k .memorycap)) (omega arith) (ap (secondFault m) (sym is) ∙ e) in
+    let n = and-parts (leb 1 (k .number)) (leb (m + k .number) engineLimit) (a .0) in
+    let sizes = sizes-kept (k .timecap) (k .memorycap) (a .1) in
+    record { some-engine = leb-true 1 (k .number) (n .0); engines = leb-true (m + k .number) engineLimit (n .1); time = sizes .0; memory = sizes .1 }
+
+-- what is given has numbers
+pub given-takes : (x : There) → given x ≡ true → (c : Costs) × (x ≡ Takes c)
+given-takes Absent e = absurd (false≢true e)
+given-takes (Takes c) e = (c, refl)
+
+-- with one kind nothing of a second is given, with two u and s there are given of each type
+pub kinds-absent : (k : ℕ) (ts : List TaskType) → kindsAgree true k ts ≡ true → (i : ℕ) → i < k → getD ts i noTask .there ≡ Absent
+unfolding kindsAgree
+kinds-absent k [] e i h = refl
+kinds-absent zero (t ∷ ts) e i h = absurd (omega arith)
+kinds-absent (suc k) (t ∷ ts) e zero h = not-there (t .there) (and-parts (not (given (t .there))) (kindsAgree true k ts) e .0)
+kinds-absent (suc k) (t ∷ ts) e (suc i) h = kinds-absent k ts (and-parts (not (given (t .there))) (kindsAgree true k ts) e .1) i (omega arith)
+
+pub kinds-given : (k : ℕ) (ts : List TaskType) → kindsAgree false k ts ≡ true → (i : ℕ) → i < k → i < length ts → given (getD ts i noTask .there) ≡ true
+unfolding kindsAgree
+kinds-given k [] e i h inside = absurd (omega arith)
+kinds-given zero (t ∷ ts) e i h inside = absurd (omega arith)
+kinds-given (suc k) (t ∷ ts) e zero h inside = and-parts (given (t .there)) (kindsAgree false k ts) e .0
+kinds-given (suc k) (t ∷ ts) e (suc i) h inside = kinds-given k ts (and-parts (given (t .there)) (kindsAgree false k ts) e .1) i (omega arith) (omega arith)
+
+pub absent-kinds : (k : ℕ) (ts : List TaskType) → ((i : ℕ) → getD ts i noTask .there ≡ Absent) → kindsAgree true k ts ≡ true
+unfolding kindsAgree
+absent-kinds k [] none = refl
+absent-kinds zero (t ∷ ts) none = refl
+absent-kinds (suc k) (t ∷ ts) none =
+    and-both (not (given (t .there))) (kindsAgree true k ts) (ap (λ (x : There). not (given x)) (none zero)) (absent-kinds k ts (λ i. none (suc i)))
+
+pub given-kinds : (k : ℕ) (ts : List TaskType) → ((i : ℕ) → i < k → given (getD ts i noTask .there) ≡ true) → kindsAgree false k ts ≡ true
+unfolding kindsAgree
+given-kinds k [] all = refl
+given-kinds zero (t ∷ ts) all = refl
+given-kinds (suc k) (t ∷ ts) all =
+    and-both (given (t .there)) (kindsAgree false k ts) (all zero (omega arith)) (given-kinds k ts (λ i h. all (suc i) (omega arith)))
+
+-- Every limit of a card, of one kind of engine or two, as a plain fact
+pub record CardLimits (y : System) : Type 0 where
+  pub some-engine : 1 ≤ y .engines
+  pub engines : y .engines ≤ engineLimit
+  pub rule : y .rule ≤ 1
+  pub time : y .timecap ≤ sizeLimit
+  pub memory : y .memorycap ≤ sizeLimit
+  pub some-type : 1 ≤ y .typecount
+  pub typecount : y .typecount ≤ typeLimit
+  pub six : length (y .types) ≡ typeLimit
+  pub columns : columnsOf (ceilingsOf y) ≤ columnLimit
+  -- entries past k are 0, with nothing given
+  pub past : (i : ℕ) → y .typecount ≤ i → getD (y .types) i noTask ≡ noTask
+  -- u, s and d of every entry, its q, and its u and s on the second kind
+  pub sized : (i : ℕ) → Sized (getD (y .types) i noTask)
+  pub replicas : (i : ℕ) → mostFault (getD (y .types) i noTask .most) ≡ 0
+  pub costs : (i : ℕ) → costsFault (getD (y .types) i noTask .there) ≡ 0
+  -- the second kind's number, U and S, and that all of it is given or nothing
+  pub second : secondFault (y .engines) (y .second) ≡ 0
+  pub kinds : kindsAgree (isOneKind (y .second)) (y .typecount) (y .types) ≡ true
+
+-- Every limit of document 01 as a plain fact, of a system of one kind of engine
 pub record Limits (y : System) : Type 0 where
   pub some-engine : 1 ≤ y .engines
   pub engines : y .engines ≤ engineLimit
@@ -164,11 +264,14 @@ pub record Limits (y : System) : Type 0 where
   pub typecount : y .typecount ≤ typeLimit
   pub six : length (y .types) ≡ typeLimit
   pub columns : columnsOf (ceilingsOf y) ≤ columnLimit
-  -- entries past k are 0, and have no q
+  -- entries past k are 0, with nothing given
   pub past : (i : ℕ) → y .typecount ≤ i → getD (y .types) i noTask ≡ noTask
   -- u, s and d of every entry, and its q
   pub sized : (i : ℕ) → Sized (getD (y .types) i noTask)
   pub replicas : (i : ℕ) → mostFault (getD (y .types) i noTask .most) ≡ 0
+  -- nothing of a second kind is given
+  pub oneKind : y .second ≡ OneKind
+  pub absent : (i : ℕ) → getD (y .types) i noTask .there ≡ Absent
 
 -- a platform's numbers within the limits
 record Platform (m r u s : ℕ) : Type 0 where
@@ -189,7 +292,7 @@ platform-kept m rule u s e =
 columns-kept : (y : System) → columnsFault (y .types) ≡ 0 → columns y ≤ columnLimit
 columns-kept y e = leb-true (columns y) columnLimit (faultless (leb (columns y) columnLimit) 10 0 (omega arith) e .0)
 
--- six tests, joined as `keepsLimits` joins them
+-- six tests, joined as `keepsCard` joins them
 six-true : (a b c d e f : Bool) → a && b && c && d && e && f ≡ true → (a ≡ true) × (b ≡ true) × (c ≡ true) × (d ≡ true) × (e ≡ true) × (f ≡ true)
 six-true true true true true e f q = (refl, refl, refl, refl, and-parts e f q .0, and-parts e f q .1)
 six-true false b c d e f q = absurd (false≢true q)
@@ -197,13 +300,18 @@ six-true true false c d e f q = absurd (false≢true q)
 six-true true true false d e f q = absurd (false≢true q)
 six-true true true true false e f q = absurd (false≢true q)
 
-pub limits-of : (y : System) → keepsLimits y ≡ true → Limits y
-unfolding keepsLimits
-limits-of y q =
+kinds-kept : (y : System) → kindsFault y ≡ 0 → kindsAgree (isOneKind (y .second)) (y .typecount) (y .types) ≡ true
+kinds-kept y e = faultless (kindsAgree (isOneKind (y .second)) (y .typecount) (y .types)) 41 0 (omega arith) e .0
+
+pub card-of : (y : System) → keepsCard y ≡ true → CardLimits y
+unfolding keepsCard
+card-of y q =
     let fault = platformFault (y .engines) (y .rule) (y .timecap) (y .memorycap) in
+    let one = eqb fault 0 && leb 1 (y .typecount) && leb (y .typecount) typeLimit && eqb (length (y .types)) typeLimit && typesKeep (y .typecount) (y .types) && eqb (columnsFault (y .types)) 0 in
+    let kinds = and-three one (eqb (secondFault (y .engines) (y .second)) 0) (eqb (kindsFault y) 0) q in
     let p =
     six-true (eqb fault 0) (leb 1 (y .typecount)) (leb (y .typecount) typeLimit) (eqb (length (y .types)) typeLimit) (typesKeep (y .typecount) (y .types))
-    (eqb (columnsFault (y .types)) 0) q in
+    (eqb (columnsFault (y .types)) 0) (kinds .0) in
     let platform = platform-kept (y .engines) (y .rule) (y .timecap) (y .memorycap) (eqb-true fault 0 (p .0)) in
     record {
       some-engine = platform .some-engine;
@@ -218,30 +326,100 @@ limits-of y q =
       past = types-past (y .typecount) (y .types) (p .4);
       sized = types-have Sized sized-none (λ t h. sound-task t h .0) (y .typecount) (y .types) (p .4);
       replicas = types-have Limited refl (λ t h. sound-task t h .1) (y .typecount) (y .types) (p .4);
+      costs = types-have Costed refl (λ t h. sound-task t h .2) (y .typecount) (y .types) (p .4);
+      second = eqb-true (secondFault (y .engines) (y .second)) 0 (kinds .1);
+      kinds = kinds-kept y (eqb-true (kindsFault y) 0 (kinds .2));
     }
+
+-- a card without a second kind is a system of one kind, and nothing of a second is given
+all-absent : (y : System) → CardLimits y → y .second ≡ OneKind → (i : ℕ) → getD (y .types) i noTask .there ≡ Absent
+all-absent y l one i = go (leb (y .typecount) i) refl
+  where
+    go : (b : Bool) → leb (y .typecount) i ≡ b → getD (y .types) i noTask .there ≡ Absent
+    go true p = ap (λ (t : TaskType). t .there) (l .past i (leb-true (y .typecount) i p))
+    go false p = kinds-absent (y .typecount) (y .types) (ap (λ (x : Second). kindsAgree (isOneKind x) (y .typecount) (y .types)) (sym one) ∙ l .kinds) i (leb-false (y .typecount) i p)
+
+pub card-limits : (y : System) → CardLimits y → y .second ≡ OneKind → Limits y
+card-limits y l one =
+    record {
+      some-engine = l .some-engine;
+      engines = l .engines;
+      rule = l .rule;
+      time = l .time;
+      memory = l .memory;
+      some-type = l .some-type;
+      typecount = l .typecount;
+      six = l .six;
+      columns = l .columns;
+      past = l .past;
+      sized = l .sized;
+      replicas = l .replicas;
+      oneKind = one;
+      absent = all-absent y l one;
+    }
+
+pub limits-card : (y : System) → Limits y → CardLimits y
+limits-card y l =
+    record {
+      some-engine = l .some-engine;
+      engines = l .engines;
+      rule = l .rule;
+      time = l .time;
+      memory = l .memory;
+      some-type = l .some-type;
+      typecount = l .typecount;
+      six = l .six;
+      columns = l .columns;
+      past = l .past;
+      sized = l .sized;
+      replicas = l .replicas;
+      costs = λ i. ap costsFault (l .absent i);
+      second = ap (secondFault (y .engines)) (l .oneKind);
+      kinds = ap (λ (x : Second). kindsAgree (isOneKind x) (y .typecount) (y .types)) (l .oneKind) ∙ absent-kinds (y .typecount) (y .types) (l .absent);
+    }
+
+pub limits-of : (y : System) → keepsLimits y ≡ true → Limits y
+unfolding keepsLimits
+limits-of y q = let p = and-parts (keepsCard y) (isOneKind (y .second)) q in card-limits y (card-of y (p .0)) (one-kind (y .second) (p .1))
 
 -- the other way
 
 pub sizes-keep : (u s : ℕ) → u ≤ sizeLimit → s ≤ sizeLimit → sizeFault u s ≡ 0
 sizes-keep u s p q = rw (le-leb u sizeLimit p, le-leb s sizeLimit q)
 
+pub costs-keep : (x : There) → ((c : Costs) → x ≡ Takes c → (c .time ≤ sizeLimit) × (c .memory ≤ sizeLimit)) → costsFault x ≡ 0
+costs-keep Absent all = refl
+costs-keep (Takes c) all = let p = all c refl in sizes-keep (c .time) (c .memory) (p .0) (p .1)
+
+-- a second kind's number that passes leaves its sizes
+pub second-within : (m n u s : ℕ) → 1 ≤ n → m + n ≤ engineLimit → kindFault m n u s ≡ sizeFault u s
+second-within m n u s low high = rw (le-leb 1 n low, le-leb (m + n) engineLimit (omega arith))
+
+pub second-keep : (m : ℕ) (x : Second) → ((k : Kind) → x ≡ TwoKinds k → KindLimits m k) → secondFault m x ≡ 0
+second-keep m OneKind all = refl
+second-keep m (TwoKinds k) all =
+    let l = all k refl in
+    second-within m (k .number) (k .timecap) (k .memorycap) (l .some-engine) (l .engines) ∙ sizes-keep (k .timecap) (k .memorycap) (l .time) (l .memory)
+
 pub sized-test : (t : TaskType) → Sized t → eqb (typeFault t) 0 ≡ true
 sized-test t h = rw (le-leb (t .time) sizeLimit (h .time), le-leb (t .memory) sizeLimit (h .memory), le-leb (t .data) sizeLimit (h .data))
 
-types-keep : (k : ℕ) (ts : List TaskType) → ((i : ℕ) → k ≤ i → getD ts i noTask ≡ noTask) → ((i : ℕ) → Sized (getD ts i noTask)) → ((i : ℕ) → Limited (getD ts i noTask)) → typesKeep k ts ≡ true
+types-keep : (k : ℕ) (ts : List TaskType) → ((i : ℕ) → k ≤ i → getD ts i noTask ≡ noTask) → ((i : ℕ) → Sized (getD ts i noTask)) → ((i : ℕ) → Limited (getD ts i noTask)) → ((i : ℕ) → Costed (getD ts i noTask)) → typesKeep k ts ≡ true
 unfolding typesKeep
-types-keep k [] past sized limited = refl
-types-keep zero (t ∷ ts) past sized limited =
+types-keep k [] past sized limited costed = refl
+types-keep zero (t ∷ ts) past sized limited costed =
     and-both (zeroTask t) (typesKeep zero ts) (ap zeroTask (past zero zero-le))
-    (types-keep zero ts (λ i h. past (suc i) zero-le) (λ i. sized (suc i)) (λ i. limited (suc i)))
-types-keep (suc k) (t ∷ ts) past sized limited =
+    (types-keep zero ts (λ i h. past (suc i) zero-le) (λ i. sized (suc i)) (λ i. limited (suc i)) (λ i. costed (suc i)))
+types-keep (suc k) (t ∷ ts) past sized limited costed =
     and-both (soundTask t) (typesKeep k ts)
+    (and-both (eqb (typeFault t) 0 && eqb (mostFault (t .most)) 0) (eqb (costsFault (t .there)) 0)
     (and-both (eqb (typeFault t) 0) (eqb (mostFault (t .most)) 0) (sized-test t (sized zero)) (eq-eqb (mostFault (t .most)) 0 (limited zero)))
-    (types-keep k ts (λ i h. past (suc i) (omega arith)) (λ i. sized (suc i)) (λ i. limited (suc i)))
+    (eq-eqb (costsFault (t .there)) 0 (costed zero)))
+    (types-keep k ts (λ i h. past (suc i) (omega arith)) (λ i. sized (suc i)) (λ i. limited (suc i)) (λ i. costed (suc i)))
 
-pub limits-keep : (y : System) → Limits y → keepsLimits y ≡ true
-unfolding keepsLimits
-limits-keep y l =
+pub card-keep : (y : System) → CardLimits y → keepsCard y ≡ true
+unfolding keepsCard
+card-keep y l =
     simp (
       le-leb 1 (y .engines) (l .some-engine),
       le-leb (y .engines) engineLimit (l .engines),
@@ -251,9 +429,15 @@ limits-keep y l =
       le-leb 1 (y .typecount) (l .some-type),
       le-leb (y .typecount) typeLimit (l .typecount),
       eq-eqb (length (y .types)) typeLimit (l .six),
-      types-keep (y .typecount) (y .types) (l .past) (l .sized) (l .replicas),
+      types-keep (y .typecount) (y .types) (l .past) (l .sized) (l .replicas) (l .costs),
       le-leb (columns y) columnLimit (l .columns),
+      l .second,
+      l .kinds,
     )
+
+pub limits-keep : (y : System) → Limits y → keepsLimits y ≡ true
+unfolding keepsLimits
+limits-keep y l = and-both (keepsCard y) (isOneKind (y .second)) (card-keep y (limits-card y l)) (ap isOneKind (l .oneKind))
 
 -- Every file that is read keeps the limits
 
@@ -272,12 +456,16 @@ no-fault n y z e = go (eqb n 0) refl e
 -- what is known of the system after some fields, the last of tag `last` (0 for none)
 pub record Sound (last : ℕ) (y : System) : Type 0 where
   pub typecount : y .typecount ≤ typeLimit
-  -- after a field that is no platform there is a type
-  pub some-type : 1 < last → 0 < y .typecount
+  -- at or after a type there is one
+  pub some-type : PastTypes last → 0 < y .typecount
   pub six : length (y .types) ≡ typeLimit
   pub past : (i : ℕ) → y .typecount ≤ i → getD (y .types) i noTask ≡ noTask
   pub sized : (i : ℕ) → Sized (getD (y .types) i noTask)
   pub replicas : (i : ℕ) → mostFault (getD (y .types) i noTask .most) ≡ 0
+  pub costs : (i : ℕ) → costsFault (getD (y .types) i noTask .there) ≡ 0
+  -- a second kind comes after the platform, and was judged with its number of engines
+  pub one-first : last ≡ 0 → y .second ≡ OneKind
+  pub second : (last ≡ 0 → ⊥) → secondFault (y .engines) (y .second) ≡ 0
   platform : (last ≡ 0 → ⊥) → Platform (y .engines) (y .rule) (y .timecap) (y .memorycap)
 
 pub getD-blank : (n i : ℕ) → getD (replicate n noTask) i noTask ≡ noTask
@@ -294,6 +482,9 @@ sound-blank =
       past = λ i h. getD-blank typeLimit i;
       sized = λ i. subst Sized (sym (getD-blank typeLimit i)) sized-none;
       replicas = λ i. ap (λ (t : TaskType). mostFault (t .most)) (getD-blank typeLimit i);
+      costs = λ i. ap (λ (t : TaskType). costsFault (t .there)) (getD-blank typeLimit i);
+      one-first = λ e. refl;
+      second = λ n. refl;
       platform = λ n. absurd (n refl);
     }
 
@@ -301,15 +492,24 @@ pub either-false : (a b : Bool) → a || b ≡ false → (a ≡ false) × (b ≡
 either-false false b e = (refl, e)
 either-false true b e = absurd (false≢true (sym e))
 
-sound-end : (last : ℕ) (y z : System) → Sound last y → endOf last y ≡ opened z → keepsLimits z ≡ true
+-- of two tests neither finds a fault
+pub neither : (a b : ℕ) → orElse a b ≡ 0 → (a ≡ 0) × (b ≡ 0)
+neither a b e = go (eqb a 0) refl e
+  where
+    go : (c : Bool) → eqb a 0 ≡ c → cond c b a ≡ 0 → (a ≡ 0) × (b ≡ 0)
+    go true q e = (eqb-true a 0 q, e)
+    go false q e = absurd (eqb-false a 0 q e)
+
+sound-end : (last : ℕ) (y z : System) → Sound last y → endOf last y ≡ opened z → keepsCard z ≡ true
 unfolding endOf
 sound-end last y z s e =
     let a = passes (eqb last 0 || eqb (y .typecount) 0) 9 _ z e in
     let some = either-false (eqb last 0) (eqb (y .typecount) 0) (a .0) in
-    let c = no-fault (columnsFault (y .types)) y z (a .1) in
+    let c = no-fault (orElse (kindsFault y) (columnsFault (y .types))) y z (a .1) in
+    let both = neither (kindsFault y) (columnsFault (y .types)) (c .0) in
     let p = s .platform (eqb-false last 0 (some .0)) in
-    subst (λ (x : System). keepsLimits x ≡ true) (c .1)
-    (limits-keep y
+    subst (λ (x : System). keepsCard x ≡ true) (c .1)
+    (card-keep y
     (record {
       some-engine = p .some-engine;
       engines = p .engines;
@@ -319,16 +519,19 @@ sound-end last y z s e =
       some-type = omega (arith, eqb-false (y .typecount) 0 (some .1));
       typecount = s .typecount;
       six = s .six;
-      columns = columns-kept y (c .0);
+      columns = columns-kept y (both .1);
       past = s .past;
       sized = s .sized;
       replicas = s .replicas;
+      costs = s .costs;
+      second = s .second (eqb-false last 0 (some .0));
+      kinds = kinds-kept y (both .0);
     }))
 
--- a platform's body
-sound-platform : (b : List ℕ) (last : ℕ) (y z : System) → Sound last y → platformOf b y ≡ opened z → Sound (platformRule .tag) z
+-- a platform's body, which comes first: there is no second kind yet
+sound-platform : (b : List ℕ) (last : ℕ) (y z : System) → Sound last y → last ≡ 0 → platformOf b y ≡ opened z → Sound (platformRule .tag) z
 unfolding platformFrom
-sound-platform b last y z s e =
+sound-platform b last y z s first e =
     let p = no-fault (platformFault (byteAt b 0) (byteAt b 1) (word4 b 2) (word4 b 6)) (withPlatform (byteAt b 0) (byteAt b 1) (word4 b 2) (word4 b 6) y) z e in
     subst (Sound (platformRule .tag)) (p .1)
     (record {
@@ -338,7 +541,29 @@ sound-platform b last y z s e =
       past = s .past;
       sized = s .sized;
       replicas = s .replicas;
+      costs = s .costs;
+      one-first = λ e. absurd (omega arith);
+      second = λ n. ap (secondFault (byteAt b 0)) (s .one-first first);
       platform = λ n. platform-kept (byteAt b 0) (byteAt b 1) (word4 b 2) (word4 b 6) (p .0);
+    })
+
+-- that of a second kind of engine, where there is a platform
+sound-second : (b : List ℕ) (last : ℕ) (y z : System) → Sound last y → (last ≡ 0 → ⊥) → secondOf b y ≡ opened z → Sound (secondRule .tag) z
+unfolding secondFrom
+sound-second b last y z s first e =
+    let q = no-fault (kindFault (y .engines) (byteAt b 0) (word4 b 1) (word4 b 5)) (withSecond (byteAt b 0) (word4 b 1) (word4 b 5) y) z e in
+    subst (Sound (secondRule .tag)) (q .1)
+    (record {
+      typecount = s .typecount;
+      some-type = λ h. absurd (h .1 refl);
+      six = s .six;
+      past = s .past;
+      sized = s .sized;
+      replicas = s .replicas;
+      costs = s .costs;
+      one-first = λ e. absurd (omega arith);
+      second = λ n. q .0;
+      platform = λ n. s .platform first;
     })
 
 -- one entry more
@@ -363,12 +588,15 @@ sound-type b last y z s first room e =
       past = λ i h. getD-set-other (y .types) (y .typecount) i t noTask (λ (p : i ≡ y .typecount). omega arith) ∙ s .past i (omega arith);
       sized = set-has Sized t (y .types) (y .typecount) (sized-task t (q .0)) (s .sized);
       replicas = set-has Limited t (y .types) (y .typecount) refl (s .replicas);
+      costs = set-has Costed t (y .types) (y .typecount) refl (s .costs);
+      one-first = λ e. absurd (omega arith);
+      second = λ n. s .second first;
       platform = λ n. s .platform first;
     })
 
--- another type in the last one's place, after a field that is no platform
-sound-last : (t : TaskType) (tag last : ℕ) (y : System) → Sound last y → 1 < last → Sized t → Limited t → Sound tag (withLast t y)
-sound-last t tag last y s after sized limited =
+-- another type in the last one's place, at or after a type
+sound-last : (t : TaskType) (tag last : ℕ) (y : System) → Sound last y → (tag ≡ 0 → ⊥) → PastTypes last → Sized t → Limited t → Costed t → Sound tag (withLast t y)
+sound-last t tag last y s later after sized limited costed =
     let some = s .some-type after in
     record {
       typecount = s .typecount;
@@ -377,33 +605,49 @@ sound-last t tag last y s after sized limited =
       past = λ i h. getD-set-other (y .types) (y .typecount - 1) i t noTask (λ (p : i ≡ y .typecount - 1). omega arith) ∙ s .past i h;
       sized = set-has Sized t (y .types) (y .typecount - 1) sized (s .sized);
       replicas = set-has Limited t (y .types) (y .typecount - 1) limited (s .replicas);
+      costs = set-has Costed t (y .types) (y .typecount - 1) costed (s .costs);
+      one-first = λ e. absurd (later e);
+      second = λ n. s .second (λ none. omega arith);
       platform = λ n. s .platform (λ none. omega arith);
     }
 
 -- d of the last type
-sound-data : (b : List ℕ) (last : ℕ) (y z : System) → Sound last y → 1 < last → dataOf b y ≡ opened z → Sound (dataRule .tag) z
+sound-data : (b : List ℕ) (last : ℕ) (y z : System) → Sound last y → PastTypes last → dataOf b y ≡ opened z → Sound (dataRule .tag) z
 unfolding dataFrom
 sound-data b last y z s after e =
     let t = withData (word4 b 0) (lastType y) in
     let q = no-fault (typeFault t) (withLast t y) z e in
-    subst (Sound (dataRule .tag)) (q .1) (sound-last t (dataRule .tag) last y s after (sized-task t (q .0)) (s .replicas (y .typecount - 1)))
+    subst (Sound (dataRule .tag)) (q .1)
+    (sound-last t (dataRule .tag) last y s (λ e. omega arith) after (sized-task t (q .0)) (s .replicas (y .typecount - 1)) (s .costs (y .typecount - 1)))
 
 -- its q
-sound-most : (b : List ℕ) (last : ℕ) (y z : System) → Sound last y → 1 < last → mostOf b y ≡ opened z → Sound (mostRule .tag) z
+sound-most : (b : List ℕ) (last : ℕ) (y z : System) → Sound last y → PastTypes last → mostOf b y ≡ opened z → Sound (mostRule .tag) z
 unfolding mostFrom
 sound-most b last y z s after e =
     let t = withMost (word2 b 0) (lastType y) in
     let q = no-fault (mostFault (t .most)) (withLast t y) z e in
     let sized = s .sized (y .typecount - 1) in
     subst (Sound (mostRule .tag)) (q .1)
-    (sound-last t (mostRule .tag) last y s after (record { time = sized .time; memory = sized .memory; «data» = sized .data }) (q .0))
+    (sound-last t (mostRule .tag) last y s (λ e. omega arith) after (record { time = sized .time; memory = sized .memory; «data» = sized .data }) (q .0) (s .costs (y .typecount - 1)))
 
--- the table has the rules of a platform, of a type, of d and of q
+-- its u and s on the second kind
+sound-costs : (b : List ℕ) (last : ℕ) (y z : System) → Sound last y → PastTypes last → costsOf b y ≡ opened z → Sound (costsRule .tag) z
+unfolding costsFrom
+sound-costs b last y z s after e =
+    let t = withCosts (word4 b 0) (word4 b 4) (lastType y) in
+    let q = no-fault (costsFault (t .there)) (withLast t y) z e in
+    let sized = s .sized (y .typecount - 1) in
+    subst (Sound (costsRule .tag)) (q .1)
+    (sound-last t (costsRule .tag) last y s (λ e. omega arith) after (record { time = sized .time; memory = sized .memory; «data» = sized .data }) (s .replicas (y .typecount - 1)) (q .0))
+
+-- the table has the rules of a platform, of a type, of d and of q, of a second kind, and of u and s there
 pub data OneOf (r : FieldRule) : Type 0 where
   a-platform : r ≡ platformRule → OneOf r
   a-type : r ≡ typeRule → OneOf r
   a-data : r ≡ dataRule → OneOf r
   a-most : r ≡ mostRule → OneOf r
+  a-second : r ≡ secondRule → OneOf r
+  a-costs : r ≡ costsRule → OneOf r
 
 pub record IsRule (r : FieldRule) (tag : ℕ) : Type 0 where
   pub same-tag : r .tag ≡ tag
@@ -425,7 +669,7 @@ rule-found P (t ∷ ts) tag r all e = go (eqb (t .tag) tag) refl (rule-found P t
 
 pub ruleOf-known : (tag : ℕ) (r : FieldRule) → ruleOf fieldRules tag ≡ Known r → IsRule r tag
 ruleOf-known tag r e =
-    let p = rule-found OneOf fieldRules tag r (a-platform refl, (a-type refl, (a-data refl, (a-most refl, tt)))) e in
+    let p = rule-found OneOf fieldRules tag r (a-platform refl, (a-type refl, (a-data refl, (a-most refl, (a-second refl, (a-costs refl, tt)))))) e in
     record { same-tag = p .0; which = p .1 }
 
 -- a platform is first, and a type is not
@@ -456,12 +700,35 @@ most-after-type last = (λ e. go (eqb 2 last) (eqb 3 last) refl refl e, ⊎-elim
     go false true p q e = inr (sym (eqb-true 3 last q))
     go false false p q e = absurd (false≢true e)
 
--- so both come after a field that is no platform
-pub part-later : (r : FieldRule) (last : ℕ) → OneOf r → typeRule .tag < r .tag → mayFollow follows last (r .tag) ≡ true → 1 < last
-part-later r last (a-platform w) h p = absurd (omega (arith, ap (λ (x : FieldRule). x .tag) w))
-part-later r last (a-type w) h p = absurd (omega (arith, ap (λ (x : FieldRule). x .tag) w))
-part-later r last (a-data w) h p = omega (arith, data-after-type last .0 (rw w at p))
-part-later r last (a-most w) h p = ⊎-elim (λ e. omega arith) (λ e. omega arith) (most-after-type last .0 (rw w at p))
+-- a second kind comes directly after the platform, and nowhere else
+pub second-after-platform : (last : ℕ) → (mayFollow follows last (secondRule .tag) ≡ true) ↔ (last ≡ platformRule .tag)
+second-after-platform last = (λ e. go (eqb 1 last) refl e, λ e. rw e)
+  where
+    go : (b : Bool) → eqb 1 last ≡ b → cond b true false ≡ true → last ≡ platformRule .tag
+    go true q e = sym (eqb-true 1 last q)
+    go false q e = absurd (false≢true e)
+
+-- u and s there come after a type, its d and its q, and nowhere else: not after others
+pub costs-after-type : (last : ℕ) → (mayFollow follows last (costsRule .tag) ≡ true) ↔ ((last ≡ typeRule .tag) ⊎ ((last ≡ dataRule .tag) ⊎ (last ≡ mostRule .tag)))
+costs-after-type last = (λ e. go (eqb 2 last) (eqb 3 last) (eqb 4 last) refl refl refl e, ⊎-elim (λ e. rw e) (⊎-elim (λ e. rw e) (λ e. rw e)))
+  where
+    go : (b c d : Bool) → eqb 2 last ≡ b → eqb 3 last ≡ c → eqb 4 last ≡ d → cond b true (cond c true (cond d true false)) ≡ true
+        → (last ≡ typeRule .tag) ⊎ ((last ≡ dataRule .tag) ⊎ (last ≡ mostRule .tag))
+    go true c d p q r e = inl (sym (eqb-true 2 last p))
+    go false true d p q r e = inr (inl (sym (eqb-true 3 last q)))
+    go false false true p q r e = inr (inr (sym (eqb-true 4 last r)))
+    go false false false p q r e = absurd (false≢true e)
+
+-- so what belongs to a type comes at or after one
+pub part-later : (r : FieldRule) (last : ℕ) → OneOf r → typeRule .tag < r .tag → (r .tag ≡ secondRule .tag → ⊥) → mayFollow follows last (r .tag) ≡ true → PastTypes last
+part-later r last (a-platform w) h n p = absurd (omega (arith, ap (λ (x : FieldRule). x .tag) w))
+part-later r last (a-type w) h n p = absurd (omega (arith, ap (λ (x : FieldRule). x .tag) w))
+part-later r last (a-second w) h n p = absurd (n (ap (λ (x : FieldRule). x .tag) w))
+part-later r last (a-data w) h n p = let e = data-after-type last .0 (rw w at p) in (omega arith, λ z. omega arith)
+part-later r last (a-most w) h n p = ⊎-elim (λ e. (omega arith, λ z. omega arith)) (λ e. (omega arith, λ z. omega arith)) (most-after-type last .0 (rw w at p))
+part-later r last (a-costs w) h n p =
+    ⊎-elim (λ e. (omega arith, λ z. omega arith)) (⊎-elim (λ e. (omega arith, λ z. omega arith)) (λ e. (omega arith, λ z. omega arith)))
+    (costs-after-type last .0 (rw w at p))
 
 -- a head that passes has a rule, stands in its place, gives the rule's length, and its body stands there
 pub record Passed (tag size : ℕ) (all : Bool) (last : ℕ) (r : FieldRule) : Type 0 where
@@ -501,14 +768,22 @@ headOf-ruled s last r e = headFrom-ruled (headedField s) (byteAt s 0) (word2 s 1
 sound-body : (r : FieldRule) (b : List ℕ) (last : ℕ) (y z : System) → Sound last y → OneOf r → mayFollow follows last (r .tag) ≡ true
     → bodyOf r b y ≡ opened z → Sound (r .tag) z
 unfolding bodyOf
-sound-body r b last y z s (a-platform w) p e = rw w (sound-platform b last y z s (rw w at e))
+sound-body r b last y z s (a-platform w) p e = rw w (sound-platform b last y z s (platform-first last (rw w at p)) (rw w at e))
 sound-body r b last y z s (a-type w) p e =
     let q = passes (leb typeLimit (y .typecount)) 7 (typeOf b y) z (rw w at e) in
     rw w (sound-type b last y z s (type-later last (rw w at p)) (leb-false typeLimit (y .typecount) (q .0)) (q .1))
 sound-body r b last y z s (a-data w) p e =
-    rw w (sound-data b last y z s (part-later r last (a-data w) (omega (arith, ap (λ (x : FieldRule). x .tag) w)) p) (rw w at e))
+    let tag = ap (λ (x : FieldRule). x .tag) w in
+    rw w (sound-data b last y z s (part-later r last (a-data w) (omega arith) (λ n. omega arith) p) (rw w at e))
 sound-body r b last y z s (a-most w) p e =
-    rw w (sound-most b last y z s (part-later r last (a-most w) (omega (arith, ap (λ (x : FieldRule). x .tag) w)) p) (rw w at e))
+    let tag = ap (λ (x : FieldRule). x .tag) w in
+    rw w (sound-most b last y z s (part-later r last (a-most w) (omega arith) (λ n. omega arith) p) (rw w at e))
+sound-body r b last y z s (a-second w) p e =
+    let after = second-after-platform last .0 (rw w at p) in
+    rw w (sound-second b last y z s (λ n. omega arith) (rw w at e))
+sound-body r b last y z s (a-costs w) p e =
+    let tag = ap (λ (x : FieldRule). x .tag) w in
+    rw w (sound-costs b last y z s (part-later r last (a-costs w) (omega arith) (λ n. omega arith) p) (rw w at e))
 
 -- a field that is accepted has a head that passes, and its body is accepted
 pub record Accepts (s : List ℕ) (last : ℕ) (y z : System) : Type 0 where
@@ -534,7 +809,7 @@ unfolding fieldsFrom
 fieldsFrom-nil zero last y = refl
 fieldsFrom-nil (suc f) last y = refl
 
-sound-fields : (f : ℕ) (s : List ℕ) (last : ℕ) (y z : System) → Sound last y → fieldsFrom f s last y ≡ opened z → keepsLimits z ≡ true
+sound-fields : (f : ℕ) (s : List ℕ) (last : ℕ) (y z : System) → Sound last y → fieldsFrom f s last y ≡ opened z → keepsCard z ≡ true
 unfolding fieldsFrom
 sound-fields zero s last y z h e = sound-end last y z h e
 sound-fields (suc f) [] last y z h e = sound-end last y z h e
@@ -542,19 +817,77 @@ sound-fields (suc f) (b ∷ s) last y z h e =
     after (fieldOf (b ∷ s) last y) refl (λ next n q. sound-fields f _ b next z n q) e
   where
     after : (x : Reading) → fieldOf (b ∷ s) last y ≡ x
-        → ((next : System) → Sound b next → fieldsFrom f (drop (fieldSize (b ∷ s)) (b ∷ s)) b next ≡ opened z → keepsLimits z ≡ true)
+        → ((next : System) → Sound b next → fieldsFrom f (drop (fieldSize (b ∷ s)) (b ∷ s)) b next ≡ opened z → keepsCard z ≡ true)
         → afterField x (λ (next : System). fieldsFrom f (drop (fieldSize (b ∷ s)) (b ∷ s)) b next) ≡ opened z
-        → keepsLimits z ≡ true
+        → keepsCard z ≡ true
     after (unread n) q rest e = let z : _≡_ {A = ℕ} 0 1 = cc in absurd (omega arith)
     after (opened next) q rest e = rest next (sound-field (b ∷ s) last y next h q) e
 
--- every system that is read keeps the limits
-pub read-keeps-limits : (file : List ℕ) (y : System) → readFile file ≡ opened y → keepsLimits y ≡ true
-unfolding readFile
-read-keeps-limits file y e = sound-fields (length file) file 0 blank y sound-blank e
+-- every card that is read keeps the limits
+pub read-keeps-card : (file : List ℕ) (y : System) → readCard file ≡ opened y → keepsCard y ≡ true
+unfolding readCard
+read-keeps-card file y e = sound-fields (length file) file 0 blank y sound-blank e
 
+pub read-card-limits : (file : List ℕ) (y : System) → readCard file ≡ opened y → CardLimits y
+read-card-limits file y e = card-of y (read-keeps-card file y e)
+
+-- A file reads as a system of one kind where it reads as a card of one kind; of two kinds it is refused 42, and any other refusal is that of the card
+
+one-opened : (x : Reading) (y : System) → ofOneKind x ≡ opened y → (x ≡ opened y) × (y .second ≡ OneKind)
+unfolding ofOneKind
+one-opened (unread n) y e = let z : _≡_ {A = ℕ} 0 1 = cc in absurd (omega arith)
+one-opened (opened x) y e = go (isOneKind (x .second)) refl e
+  where
+    go : (b : Bool) → isOneKind (x .second) ≡ b → cond b (opened x) (unread 42) ≡ opened y → (opened x ≡ opened y) × (y .second ≡ OneKind)
+    go true q e = let same : x ≡ y = cc in (e, subst (λ (z : System). z .second ≡ OneKind) same (one-kind (x .second) q))
+    go false q e = let z : _≡_ {A = ℕ} 0 1 = cc in absurd (omega arith)
+
+-- what is refused where one kind is wanted, and not as a card, is a card of two kinds, and the number is 42
+pub record Mixed (x : Reading) (n : ℕ) : Type 0 where
+  pub number : n ≡ 42
+  pub system : System
+  pub kind : Kind
+  pub card : x ≡ opened system
+  pub second : system .second ≡ TwoKinds kind
+
+one-unread : (x : Reading) (n : ℕ) → ofOneKind x ≡ unread n → (x ≡ unread n) ⊎ Mixed x n
+unfolding ofOneKind
+one-unread (unread m) n e = inl e
+one-unread (opened x) n e = go (isOneKind (x .second)) refl e
+  where
+    go : (b : Bool) → isOneKind (x .second) ≡ b → cond b (opened x) (unread 42) ≡ unread n → (opened x ≡ unread n) ⊎ Mixed (opened x) n
+    go true q e = inl e
+    go false q e =
+        let same : n ≡ 42 = cc in
+        let k = two-kinds (x .second) q in
+        inr (record { number = same; system = x; kind = k .0; card = refl; second = k .1 })
+
+pub file-card : (file : List ℕ) (y : System) → readFile file ≡ opened y → (readCard file ≡ opened y) × (y .second ≡ OneKind)
+unfolding readFile
+file-card file y e = one-opened (readCard file) y e
+
+pub card-file : (file : List ℕ) (y : System) → readCard file ≡ opened y → y .second ≡ OneKind → readFile file ≡ opened y
+unfolding readFile ofOneKind
+card-file file y e one = ap ofOneKind e ∙ ap (λ (s : Second). cond (isOneKind s) (opened y) (unread 42)) one
+
+pub card-mixed : (file : List ℕ) (y : System) (k : Kind) → readCard file ≡ opened y → y .second ≡ TwoKinds k → readFile file ≡ unread 42
+unfolding readFile ofOneKind
+card-mixed file y k e two = ap ofOneKind e ∙ ap (λ (s : Second). cond (isOneKind s) (opened y) (unread 42)) two
+
+pub card-refused : (file : List ℕ) (n : ℕ) → readCard file ≡ unread n → readFile file ≡ unread n
+unfolding readFile ofOneKind
+card-refused file n e = ap ofOneKind e
+
+pub file-refused : (file : List ℕ) (n : ℕ) → readFile file ≡ unread n → (readCard file ≡ unread n) ⊎ Mixed (readCard file) n
+unfolding readFile
+file-refused file n e = one-unread (readCard file) n e
+
+-- every system that is read where one kind is wanted keeps the limits
 pub read-limits : (file : List ℕ) (y : System) → readFile file ≡ opened y → Limits y
-read-limits file y e = limits-of y (read-keeps-limits file y e)
+read-limits file y e = let p = file-card file y e in card-limits y (read-card-limits file y (p .0)) (p .1)
+
+pub read-keeps-limits : (file : List ℕ) (y : System) → readFile file ≡ opened y → keepsLimits y ≡ true
+read-keeps-limits file y e = limits-keep y (read-limits file y e)
 
 -- What the field step gives: a whole field is within the file, and the part from its start to the next field is its body
 

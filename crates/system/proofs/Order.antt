@@ -1,10 +1,12 @@
--- "Fields are judged in file order": what a beginning of a file is refused with stands, whatever follows, but for a cut (1) and the end (9, 10); and a platform's 5, 6, 8, byte by byte.
+-- "Fields are judged in file order": what a beginning of a file is refused with stands, whatever follows, but for a cut (1) and the end (9, 41, 10; 42 where one kind of engine is wanted); and the first field, byte by byte.
+-- All is said of a card, of one kind or two: where one kind is wanted the refusals are the same (`card-refused` of `Laws`).
 use Prim.Native.Nat.{ℕ, zero, suc, _+_, _-_, _*_, _≤_, _<_}
 use native.Mathlib.Omega.{arith}
 use native.Mathlib.Nat.{le-refl}
 use mathlib.Core.List.{List, [], _∷_}
 use mathlib.Core.Bool.{Bool, true, false, not, cond, _||_}
 use mathlib.Core.Path.{_≡_, refl, sym, ap, _∙_}
+use mathlib.Core.Logic.{⊎-elim}
 use borrow.Author.Tests.{leb-true, le-leb, lt-leb, ne-eqb}
 use lib.ListN.{length, take, drop, length-take, length-drop}
 use lib.Seq.{take-nil}
@@ -15,25 +17,27 @@ use Rattle.system.specs.declared.rules.RuleFound.the-variants.{Known, Un
 use Rattle.system.specs.declared.reader.Head.{Head}
 use Rattle.system.specs.declared.reader.Head.the-variants.{Ruled, Stops}
 use Rattle.system.specs.Values.{blank, withPlatform, ceilingsOf}
-use Rattle.system.specs.Limits.{columnLimit, columnsOf, platformFault, columnsFault}
+use Rattle.system.specs.Limits.{orElse, columnLimit, columnsOf, isOneKind, kindsAgree, kindsFault, platformFault, columnsFault}
 use Rattle.system.specs.Rules.{platformRule, fieldRules, ruleOf, follows, mayFollow, headSize}
 use Rattle.system.specs.Layout.{Reading, opened, unread, byteAt, word2, fieldSize, headedField, wholeField, bodyPart, platformFrom}
-use Rattle.system.specs.Layout.{unlessFault, ruledHead, headOf, bodyOf, ruledField, fieldOf, endOf, afterField, fieldsFrom, readFile}
-use Rattle.system.proofs.Laws.{headOf-ruled, fieldsFrom-nil}
+use Rattle.system.specs.Layout.{unlessFault, ruledHead, headOf, bodyOf, ruledField, fieldOf, endOf, afterField, fieldsFrom, readCard, readFile}
+use Rattle.system.proofs.Laws.{headOf-ruled, fieldsFrom-nil, card-refused, Mixed, file-refused}
 use Rattle.system.proofs.Prefix.{Goes, field-goes, drop-take, byte-take, word-take, part-take}
 
--- the end is refused 9 or 10 alone
-end-only : (last : ℕ) (y : System) (k : ℕ) → endOf last y ≡ unread k → (k ≡ 9 → ⊥) → (k ≡ 10 → ⊥) → ⊥
+-- the end is refused 9, 41 or 10 alone
+end-only : (last : ℕ) (y : System) (k : ℕ) → endOf last y ≡ unread k → (k ≡ 9 → ⊥) → (k ≡ 41 → ⊥) → (k ≡ 10 → ⊥) → ⊥
 unfolding endOf
-end-only last y k e not9 not10 = ended (eqb last 0 || eqb (y .typecount) 0) e
+end-only last y k e not9 not41 not10 = ended (eqb last 0 || eqb (y .typecount) 0) e
   where
-    counted : (f : ℕ) (c : Bool) → f ≡ cond (not c) 10 0 → unlessFault f y ≡ unread k → ⊥
-    counted f true is e = let z : _≡_ {A = ℕ} 0 1 = let e0 : unlessFault 0 y ≡ unread k = rw is at e in cc in absurd (omega arith)
-    counted f false is e = let same : k ≡ 10 = let e0 : unlessFault 10 y ≡ unread k = rw is at e in cc in not10 same
+    judged : (f : ℕ) (b c : Bool) → f ≡ orElse (cond (not b) 41 0) (cond (not c) 10 0) → unlessFault f y ≡ unread k → ⊥
+    judged f true true is e = let z : _≡_ {A = ℕ} 0 1 = let e0 : unlessFault 0 y ≡ unread k = rw is at e in cc in absurd (omega arith)
+    judged f true false is e = let same : k ≡ 10 = let e0 : unlessFault 10 y ≡ unread k = rw is at e in cc in not10 same
+    judged f false c is e = let same : k ≡ 41 = let e0 : unlessFault 41 y ≡ unread k = rw is at e in cc in not41 same
 
-    ended : (b : Bool) → cond b (unread 9) (unlessFault (columnsFault (y .types)) y) ≡ unread k → ⊥
+    ended : (b : Bool) → cond b (unread 9) (unlessFault (orElse (kindsFault y) (columnsFault (y .types))) y) ≡ unread k → ⊥
     ended true e = let same : k ≡ 9 = cc in not9 same
-    ended false e = counted (columnsFault (y .types)) (leb (columnsOf (ceilingsOf y)) columnLimit) refl e
+    ended false e =
+        judged (orElse (kindsFault y) (columnsFault (y .types))) (kindsAgree (isOneKind (y .second)) (y .typecount) (y .types)) (leb (columnsOf (ceilingsOf y)) columnLimit) refl e
 
 -- a head that is not cut is judged alike with more bytes after it
 whole-more : (x : RuleFound) (size : ℕ) (a c : Bool) (last : ℕ) (h : Head) → (a ≡ true → c ≡ true) → ruledHead x size a last ≡ h → (h ≡ Stops 1 → ⊥) → ruledHead x size c last ≡ h
@@ -88,9 +92,9 @@ module _ (n : ℕ) (s : List ℕ) where
           ∙ e
 
 -- the number stands
-module _ (k : ℕ) (not1 : k ≡ 1 → ⊥) (not9 : k ≡ 9 → ⊥) (not10 : k ≡ 10 → ⊥) where
+module _ (k : ℕ) (not1 : k ≡ 1 → ⊥) (not9 : k ≡ 9 → ⊥) (not41 : k ≡ 41 → ⊥) (not10 : k ≡ 10 → ⊥) where
   none-left : (f : ℕ) (s : List ℕ) (last : ℕ) (y : System) → s ≡ [] → fieldsFrom f s last y ≡ unread k → ⊥
-  none-left f s last y none e = end-only last y k (sym (ap (λ (l : List ℕ). fieldsFrom f l last y) none ∙ fieldsFrom-nil f last y) ∙ e) not9 not10
+  none-left f s last y none e = end-only last y k (sym (ap (λ (l : List ℕ). fieldsFrom f l last y) none ∙ fieldsFrom-nil f last y) ∙ e) not9 not41 not10
 
   fields-more : (f g n : ℕ) (s : List ℕ) (last : ℕ) (y : System) → length (take n s) ≤ f → length s ≤ g → fieldsFrom f (take n s) last y ≡ unread k → fieldsFrom g s last y ≡ unread k
   unfolding fieldsFrom
@@ -130,15 +134,20 @@ module _ (k : ℕ) (not1 : k ≡ 1 → ⊥) (not9 : k ≡ 9 → ⊥) (not10 : k 
           ap (λ (x : Reading). afterField x on) (field-more (suc n) (b ∷ s) last y (opened next) q (λ is. let z : _≡_ {A = ℕ} 0 1 = cc in absurd (omega arith)))
           ∙ rest next fewer-cut fewer (sym (ap (λ (l : List ℕ). fieldsFrom f l b next) place) ∙ e)
 
-pub file-order : (n : ℕ) (file : List ℕ) (k : ℕ) → readFile (take n file) ≡ unread k → (k ≡ 1 → ⊥) → (k ≡ 9 → ⊥) → (k ≡ 10 → ⊥) → readFile file ≡ unread k
-unfolding readFile
-file-order n file k e not1 not9 not10 =
-    fields-more k not1 not9 not10 (length (take n file)) (length file) n file 0 blank (le-refl (length (take n file))) (le-refl (length file)) e
+pub file-order-card : (n : ℕ) (file : List ℕ) (k : ℕ) → readCard (take n file) ≡ unread k → (k ≡ 1 → ⊥) → (k ≡ 9 → ⊥) → (k ≡ 41 → ⊥) → (k ≡ 10 → ⊥) → readCard file ≡ unread k
+unfolding readCard
+file-order-card n file k e not1 not9 not41 not10 =
+    fields-more k not1 not9 not41 not10 (length (take n file)) (length file) n file 0 blank (le-refl (length (take n file))) (le-refl (length file)) e
+
+pub file-order : (n : ℕ) (file : List ℕ) (k : ℕ) → readFile (take n file) ≡ unread k → (k ≡ 1 → ⊥) → (k ≡ 9 → ⊥) → (k ≡ 41 → ⊥) → (k ≡ 10 → ⊥) → (k ≡ 42 → ⊥) → readFile file ≡ unread k
+file-order n file k e not1 not9 not41 not10 not42 =
+    ⊎-elim (λ (card : readCard (take n file) ≡ unread k). card-refused file k (file-order-card n file k card not1 not9 not41 not10))
+    (λ (m : Mixed (readCard (take n file)) k). absurd (not42 (m .number))) (file-refused (take n file) k e)
 
 -- "in one field: .. then 5, 6, 8": a platform at the file's start, byte by byte, whatever follows it
 
-first-stops : (b : ℕ) (s : List ℕ) (k : ℕ) → fieldOf (b ∷ s) 0 blank ≡ unread k → readFile (b ∷ s) ≡ unread k
-unfolding readFile fieldsFrom
+first-stops : (b : ℕ) (s : List ℕ) (k : ℕ) → fieldOf (b ∷ s) 0 blank ≡ unread k → readCard (b ∷ s) ≡ unread k
+unfolding readCard fieldsFrom
 first-stops b s k e = ap (λ (x : Reading). afterField x (λ (next : System). fieldsFrom (length s) (drop (fieldSize (b ∷ s)) (b ∷ s)) b next)) e
 
 module _ (m r u1 u2 u3 u4 s1 s2 s3 s4 : ℕ) (rest : List ℕ) where
@@ -163,66 +172,77 @@ module _ (m r u1 u2 u3 u4 s1 s2 s3 s4 : ℕ) (rest : List ℕ) where
   unfolding fieldOf ruledField
   first-field = ap (λ (h : Head). ruledField h (bodyPart platformFile) blank) first-head ∙ first-body
 
-  first-fault : (k : ℕ) → eqb k 0 ≡ false → platformFault m r sizeU sizeS ≡ k → readFile platformFile ≡ unread k
+  first-fault : (k : ℕ) → eqb k 0 ≡ false → platformFault m r sizeU sizeS ≡ k → readCard platformFile ≡ unread k
   first-fault k some e =
       first-stops 1 (0 ∷ 10 ∷ m ∷ r ∷ u1 ∷ u2 ∷ u3 ∷ u4 ∷ s1 ∷ s2 ∷ s3 ∷ s4 ∷ rest) k
       (first-field ∙ ap (λ (n : ℕ). unlessFault n (withPlatform m r sizeU sizeS blank)) e ∙ rw some)
 
-  pub five-none : m ≡ 0 → readFile platformFile ≡ unread 5
+  pub five-none : m ≡ 0 → readCard platformFile ≡ unread 5
   five-none none = first-fault 5 refl (rw (lt-leb 1 m (omega arith)))
 
-  pub five-many : 16 < m → readFile platformFile ≡ unread 5
+  pub five-many : 16 < m → readCard platformFile ≡ unread 5
   five-many many = first-fault 5 refl (rw (le-leb 1 m (omega arith), lt-leb m 16 many))
 
-  pub then-six : 1 ≤ m → m ≤ 16 → 1 < r → readFile platformFile ≡ unread 6
+  pub then-six : 1 ≤ m → m ≤ 16 → 1 < r → readCard platformFile ≡ unread 6
   then-six low high over = first-fault 6 refl (rw (le-leb 1 m low, le-leb m 16 high, lt-leb r 1 over))
 
-  pub then-eight-time : 1 ≤ m → m ≤ 16 → r ≤ 1 → 1000000 < sizeU → readFile platformFile ≡ unread 8
+  pub then-eight-time : 1 ≤ m → m ≤ 16 → r ≤ 1 → 1000000 < sizeU → readCard platformFile ≡ unread 8
   then-eight-time low high one over = first-fault 8 refl (rw (le-leb 1 m low, le-leb m 16 high, le-leb r 1 one, lt-leb sizeU 1000000 over))
 
-  pub then-eight-memory : 1 ≤ m → m ≤ 16 → r ≤ 1 → sizeU ≤ 1000000 → 1000000 < sizeS → readFile platformFile ≡ unread 8
+  pub then-eight-memory : 1 ≤ m → m ≤ 16 → r ≤ 1 → sizeU ≤ 1000000 → 1000000 < sizeS → readCard platformFile ≡ unread 8
   then-eight-memory low high one small over =
       first-fault 8 refl (rw (le-leb 1 m low, le-leb m 16 high, le-leb r 1 one, le-leb sizeU 1000000 small, lt-leb sizeS 1000000 over))
 
 -- "start cut (1), 2, 3, 4, body cut (1)": the head of the first field, whatever follows it
 
-pub first-one-byte : (a : ℕ) → readFile (a ∷ []) ≡ unread 1
+pub first-one-byte : (a : ℕ) → readCard (a ∷ []) ≡ unread 1
 first-one-byte a = first-stops a [] 1 (unfold fieldOf ruledField headOf in refl)
 
-pub first-two-bytes : (a b : ℕ) → readFile (a ∷ b ∷ []) ≡ unread 1
+pub first-two-bytes : (a b : ℕ) → readCard (a ∷ b ∷ []) ≡ unread 1
 first-two-bytes a b = first-stops a (b ∷ []) 1 (unfold fieldOf ruledField headOf in refl)
 
 module _ (h l : ℕ) (rest : List ℕ) where
   pub starts : (t : ℕ) → leb headSize (length (t ∷ h ∷ l ∷ rest)) ≡ true
   starts t = le-leb headSize (length (t ∷ h ∷ l ∷ rest)) (omega arith)
 
-  no-tag-field : (t : ℕ) → (t ≡ 1 → ⊥) → (t ≡ 2 → ⊥) → (t ≡ 3 → ⊥) → (t ≡ 4 → ⊥) → fieldOf (t ∷ h ∷ l ∷ rest) 0 blank ≡ unread 2
+  no-tag-field : (t : ℕ) → (t ≡ 1 → ⊥) → (t ≡ 2 → ⊥) → (t ≡ 3 → ⊥) → (t ≡ 4 → ⊥) → (t ≡ 6 → ⊥) → (t ≡ 7 → ⊥) → fieldOf (t ∷ h ∷ l ∷ rest) 0 blank ≡ unread 2
   unfolding fieldOf ruledField headOf ruledHead ruleOf
-  no-tag-field t a b c d =
-      rw (starts t, ne-eqb 1 t (λ e. a (sym e)), ne-eqb 2 t (λ e. b (sym e)), ne-eqb 3 t (λ e. c (sym e)), ne-eqb 4 t (λ e. d (sym e)))
+  no-tag-field t a b c d f g =
+      rw (
+        starts t,
+        ne-eqb 1 t (λ e. a (sym e)),
+        ne-eqb 2 t (λ e. b (sym e)),
+        ne-eqb 3 t (λ e. c (sym e)),
+        ne-eqb 4 t (λ e. d (sym e)),
+        ne-eqb 6 t (λ e. f (sym e)),
+        ne-eqb 7 t (λ e. g (sym e)),
+      )
 
-  pub first-no-tag : (t : ℕ) → (t ≡ 1 → ⊥) → (t ≡ 2 → ⊥) → (t ≡ 3 → ⊥) → (t ≡ 4 → ⊥) → readFile (t ∷ h ∷ l ∷ rest) ≡ unread 2
-  first-no-tag t a b c d = first-stops t (h ∷ l ∷ rest) 2 (no-tag-field t a b c d)
+  pub first-no-tag : (t : ℕ) → (t ≡ 1 → ⊥) → (t ≡ 2 → ⊥) → (t ≡ 3 → ⊥) → (t ≡ 4 → ⊥) → (t ≡ 6 → ⊥) → (t ≡ 7 → ⊥) → readCard (t ∷ h ∷ l ∷ rest) ≡ unread 2
+  first-no-tag t a b c d f g = first-stops t (h ∷ l ∷ rest) 2 (no-tag-field t a b c d f g)
 
   later-field : (fieldOf (2 ∷ h ∷ l ∷ rest) 0 blank ≡ unread 3) × (fieldOf (3 ∷ h ∷ l ∷ rest) 0 blank ≡ unread 3) × (fieldOf (4 ∷ h ∷ l ∷ rest) 0 blank ≡ unread 3)
+      × (fieldOf (6 ∷ h ∷ l ∷ rest) 0 blank ≡ unread 3) × (fieldOf (7 ∷ h ∷ l ∷ rest) 0 blank ≡ unread 3)
   unfolding fieldOf ruledField headOf ruledHead ruleOf
-  later-field = (rw (starts 2), rw (starts 3), rw (starts 4))
+  later-field = (rw (starts 2), rw (starts 3), rw (starts 4), rw (starts 6), rw (starts 7))
 
-  pub first-no-platform : (readFile (2 ∷ h ∷ l ∷ rest) ≡ unread 3) × (readFile (3 ∷ h ∷ l ∷ rest) ≡ unread 3) × (readFile (4 ∷ h ∷ l ∷ rest) ≡ unread 3)
+  pub first-no-platform : (readCard (2 ∷ h ∷ l ∷ rest) ≡ unread 3) × (readCard (3 ∷ h ∷ l ∷ rest) ≡ unread 3) × (readCard (4 ∷ h ∷ l ∷ rest) ≡ unread 3)
+      × (readCard (6 ∷ h ∷ l ∷ rest) ≡ unread 3) × (readCard (7 ∷ h ∷ l ∷ rest) ≡ unread 3)
   first-no-platform =
       let p = later-field in
-      (first-stops 2 (h ∷ l ∷ rest) 3 (p .0), first-stops 3 (h ∷ l ∷ rest) 3 (p .1), first-stops 4 (h ∷ l ∷ rest) 3 (p .2))
+      let on : List ℕ = h ∷ l ∷ rest in
+      (first-stops 2 on 3 (p .0), first-stops 3 on 3 (p .1), first-stops 4 on 3 (p .2), first-stops 6 on 3 (p .3), first-stops 7 on 3 (p .4))
 
   length-field : (h * 256 + l ≡ 10 → ⊥) → fieldOf (1 ∷ h ∷ l ∷ rest) 0 blank ≡ unread 4
   unfolding fieldOf ruledField headOf ruledHead ruleOf
   length-field n = rw (starts 1, ne-eqb (h * 256 + l) 10 n)
 
-  pub first-length : (h * 256 + l ≡ 10 → ⊥) → readFile (1 ∷ h ∷ l ∷ rest) ≡ unread 4
+  pub first-length : (h * 256 + l ≡ 10 → ⊥) → readCard (1 ∷ h ∷ l ∷ rest) ≡ unread 4
   first-length n = first-stops 1 (h ∷ l ∷ rest) 4 (length-field n)
 
 cut-field : (rest : List ℕ) → length rest < 10 → fieldOf (1 ∷ 0 ∷ 10 ∷ rest) 0 blank ≡ unread 1
 unfolding fieldOf ruledField headOf ruledHead ruleOf
 cut-field rest short = rw (starts 0 10 rest 1, lt-leb 13 (length (1 ∷ 0 ∷ 10 ∷ rest)) (omega arith))
 
-pub first-body-cut : (rest : List ℕ) → length rest < 10 → readFile (1 ∷ 0 ∷ 10 ∷ rest) ≡ unread 1
+pub first-body-cut : (rest : List ℕ) → length rest < 10 → readCard (1 ∷ 0 ∷ 10 ∷ rest) ≡ unread 1
 first-body-cut rest short = first-stops 1 (0 ∷ 10 ∷ rest) 1 (cut-field rest short)

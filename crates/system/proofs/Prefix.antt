@@ -6,6 +6,7 @@ use native.Mathlib.Numerals.{unary-clauses}
 use mathlib.Core.List.{List, [], _∷_}
 use mathlib.Core.Bool.{Bool, true, false, not, cond, _||_}
 use mathlib.Core.Path.{_≡_, refl, sym, ap, _∙_}
+use mathlib.Core.Logic.{⊎-elim}
 use borrow.Author.Tests.{leb-true, leb-false, eqb-true, le-leb, lt-leb}
 use lib.ListN.{length, take, drop, length-take, length-drop}
 use lib.Seq.{getD-take, take-take, take-nil}
@@ -17,13 +18,13 @@ use Rattle.system.specs.declared.rules.RuleFound.the-variants.{Known, Un
 use Rattle.system.specs.declared.reader.Head.{Head}
 use Rattle.system.specs.declared.reader.Head.the-variants.{Ruled, Stops}
 use Rattle.system.specs.Numbers.{typeLimit, fileBytes}
-use Rattle.system.specs.Values.{taskOf, withData, withMost, blank, withPlatform, withType, lastType, withLast}
-use Rattle.system.specs.Limits.{platformFault, typeFault, mostFault}
+use Rattle.system.specs.Values.{taskOf, withData, withMost, withCosts, blank, withPlatform, withSecond, withType, lastType, withLast}
+use Rattle.system.specs.Limits.{platformFault, kindFault, typeFault, mostFault, costsFault}
 use Rattle.system.specs.Rules.{fieldRules, ruleOf, follows, mayFollow, headSize, ruledSize, longestField, longestFile}
-use Rattle.system.specs.Layout.{Reading, opened, unread, byteAt, word2, word4, fieldSize, headedField, wholeField, bodyPart, isType, isData, isMost}
-use Rattle.system.specs.Layout.{platformFrom, platformOf, typeFrom, typeOf, dataFrom, dataOf, mostFrom, mostOf}
-use Rattle.system.specs.Layout.{ruledHead, headOf, bodyOf, ruledField, fieldOf, afterField, fieldsFrom, readFile}
-use Rattle.system.proofs.Laws.{passes, no-fault, OneOf, a-platform, a-type, a-data, a-most, data-after-type, IsRule, ruleOf-known, headOf-ruled, fieldOf-opened, fieldsFrom-nil}
+use Rattle.system.specs.Layout.{Reading, opened, unread, byteAt, word2, word4, fieldSize, headedField, wholeField, bodyPart, isType, isData, isMost, isSecond, isCosts}
+use Rattle.system.specs.Layout.{platformFrom, platformOf, typeFrom, typeOf, dataFrom, dataOf, mostFrom, mostOf, secondFrom, secondOf, costsFrom, costsOf}
+use Rattle.system.specs.Layout.{ruledHead, headOf, bodyOf, ruledField, fieldOf, afterField, fieldsFrom, readCard, ofOneKind, readFile}
+use Rattle.system.proofs.Laws.{passes, no-fault, OneOf, a-platform, a-type, a-data, a-most, a-second, a-costs, platform-first, data-after-type, most-after-type, second-after-platform, costs-after-type, card-refused, IsRule, ruleOf-known, headOf-ruled, fieldOf-opened, fieldsFrom-nil}
 
 -- The bytes that the fields still allowed can have, after a field of tag `last` and with the system y so far
 
@@ -31,12 +32,14 @@ use Rattle.system.proofs.Laws.{passes, no-fault, OneOf, a-platform, a-t
 abbrev next : ℕ → ℕ → ℕ
 next tag last = cond (mayFollow follows last tag) 1 0
 
--- how many fields of a rule may still come: the types up to the limit, d and q for each of them and for the last one where it may stand next, the platform where it may
+-- how many fields of a rule may still come: the types up to the limit, d, q, and u and s on the second kind for each of them and for the last one where it may stand next,
+-- a second kind up to the platform, and the platform where it may
 abbrev still : FieldRule → ℕ → System → ℕ
 still r last y =
     cond (isType (r .tag)) (r .allowed - y .typecount)
-    (cond (isData (r .tag) || isMost (r .tag)) (r .allowed - y .typecount + next (r .tag) last)
-    (next (r .tag) last))
+    (cond (isData (r .tag) || isMost (r .tag) || isCosts (r .tag)) (r .allowed - y .typecount + next (r .tag) last)
+    (cond (isSecond (r .tag)) (cond (leb last 1) 1 0)
+    (next (r .tag) last)))
 
 abbrev roomFor : List FieldRule → ℕ → System → ℕ
 roomFor [] last y = 0
@@ -69,17 +72,36 @@ most-types b y z e =
     let t = withMost (word2 b 0) (lastType y) in
     ap (λ (x : System). x .typecount) (sym (no-fault (mostFault (t .most)) (withLast t y) z e .1))
 
+second-types : (b : List ℕ) (y z : System) → secondOf b y ≡ opened z → z .typecount ≡ y .typecount
+unfolding secondFrom
+second-types b y z e =
+    let p = no-fault (kindFault (y .engines) (byteAt b 0) (word4 b 1) (word4 b 5)) (withSecond (byteAt b 0) (word4 b 1) (word4 b 5) y) z e in
+    ap (λ (x : System). x .typecount) (sym (p .1))
+
+costs-types : (b : List ℕ) (y z : System) → costsOf b y ≡ opened z → z .typecount ≡ y .typecount
+unfolding costsFrom
+costs-types b y z e =
+    let t = withCosts (word4 b 0) (word4 b 4) (lastType y) in
+    ap (λ (x : System). x .typecount) (sym (no-fault (costsFault (t .there)) (withLast t y) z e .1))
+
 -- an accepted field takes its bytes from the room
 body-room : (r : FieldRule) (b : List ℕ) (last : ℕ) (y z : System) → OneOf r → mayFollow follows last (r .tag) ≡ true
     → bodyOf r b y ≡ opened z → ruledSize r + room (r .tag) z ≤ room last y
 unfolding bodyOf
-body-room r b last y z (a-platform w) p e = rw (w, rw w at p, platform-types b y z (rw w at e)) (omega arith)
+body-room r b last y z (a-platform w) p e = rw (w, platform-first last (rw w at p), platform-types b y z (rw w at e)) (omega arith)
 body-room r b last y z (a-type w) p e =
     let q = passes (leb typeLimit (y .typecount)) 7 (typeOf b y) z (rw w at e) in
     let few = leb-false typeLimit (y .typecount) (q .0) in
     rw (w, type-types b y z (q .1)) (omega arith)
 body-room r b last y z (a-data w) p e = rw (w, data-after-type last .0 (rw w at p), data-types b y z (rw w at e)) (omega arith)
-body-room r b last y z (a-most w) p e = rw (w, rw w at p, most-types b y z (rw w at e)) (omega arith)
+body-room r b last y z (a-most w) p e =
+    let types = most-types b y z (rw w at e) in
+    ⊎-elim (λ (last2 : last ≡ 2). rw (w, last2, types) (omega arith)) (λ (last3 : last ≡ 3). rw (w, last3, types) (omega arith)) (most-after-type last .0 (rw w at p))
+body-room r b last y z (a-second w) p e = rw (w, second-after-platform last .0 (rw w at p), second-types b y z (rw w at e)) (omega arith)
+body-room r b last y z (a-costs w) p e =
+    let types = costs-types b y z (rw w at e) in
+    ⊎-elim (λ (last2 : last ≡ 2). rw (w, last2, types) (omega arith)) (⊎-elim (λ (last3 : last ≡ 3). rw (w, last3, types) (omega arith)) (λ (last4 : last ≡ 4). rw (w, last4, types) (omega arith)))
+    (costs-after-type last .0 (rw w at p))
 
 -- so the reading goes on with less room, by the field's size
 pub record Goes (s : List ℕ) (last : ℕ) (y z : System) : Type 0 where
@@ -116,13 +138,16 @@ fields-refused (suc f) (b ∷ s) last y enough long =
         let left = length-drop (fieldSize (b ∷ s)) (b ∷ s) in
         rest next (omega arith) (omega arith)
 
--- no file that opens is longer than all fields that the rules allow: a platform, six types, their d and their q, 163 bytes
-pub longest-is : longestFile ≡ 163
+-- no file that opens is longer than all fields that the rules allow: a platform, a second kind, six types, their d, their q, and their u and s there, 241 bytes
+pub longest-is : longestFile ≡ 241
 longest-is = refl
 
+pub long-file-refused-card : (file : List ℕ) → longestFile < length file → (n : ℕ) × (readCard file ≡ unread n)
+unfolding readCard
+long-file-refused-card file long = fields-refused (length file) file 0 blank (le-refl (length file)) long
+
 pub long-file-refused : (file : List ℕ) → longestFile < length file → (n : ℕ) × (readFile file ≡ unread n)
-unfolding readFile
-long-file-refused file long = fields-refused (length file) file 0 blank (le-refl (length file)) long
+long-file-refused file long = let (n, e) = long-file-refused-card file long in (n, card-refused file n e)
 
 -- A field in a cut
 
@@ -165,6 +190,8 @@ module _ (n : ℕ) (s : List ℕ) where
         longest (a-type w) = rw w (lit≤ tt)
         longest (a-data w) = rw w (lit≤ tt)
         longest (a-most w) = rw w (lit≤ tt)
+        longest (a-second w) = rw w (lit≤ tt)
+        longest (a-costs w) = rw w (lit≤ tt)
 
     head-take : (last : ℕ) → headOf (take n s) last ≡ headOf s last
     unfolding headOf ruledHead
@@ -238,13 +265,23 @@ fields-take (suc f) (suc g) (suc n) (b ∷ s) last y enough more wide =
         ap (λ (l : List ℕ). fieldsFrom f l b next) place ∙ rest next fewer-cut fewer (omega arith)
 
 -- a cut that leaves the longest file and one field more reads as the whole file
+pub read-take-card : (n : ℕ) (file : List ℕ) → longestFile + longestField ≤ n → readCard (take n file) ≡ readCard file
+unfolding readCard
+read-take-card n file wide = fields-take (length (take n file)) (length file) n file 0 blank (le-refl (length (take n file))) (le-refl (length file)) wide
+
 pub read-take : (n : ℕ) (file : List ℕ) → longestFile + longestField ≤ n → readFile (take n file) ≡ readFile file
 unfolding readFile
-read-take n file wide = fields-take (length (take n file)) (length file) n file 0 blank (le-refl (length (take n file))) (le-refl (length file)) wide
+read-take n file wide = ap ofOneKind (read-take-card n file wide)
 
 -- document 01, with request 2026-03's 256 bytes: program `plan` "reads the first .. bytes of standard input (a longer file is refused by then)"
+pub read-prefix-card : (file : List ℕ) → readCard (take fileBytes file) ≡ readCard file
+read-prefix-card file = read-take-card fileBytes file (lit≤ tt)
+
 pub read-prefix : (file : List ℕ) → readFile (take fileBytes file) ≡ readFile file
 read-prefix file = read-take fileBytes file (lit≤ tt)
+
+pub refused-by-then-card : (file : List ℕ) → fileBytes < length file → (n : ℕ) × (readCard (take fileBytes file) ≡ unread n)
+refused-by-then-card file long = rw read-prefix-card (long-file-refused-card file (omega arith))
 
 pub refused-by-then : (file : List ℕ) → fileBytes < length file → (n : ℕ) × (readFile (take fileBytes file) ≡ unread n)
 refused-by-then file long = rw read-prefix (long-file-refused file (omega arith))

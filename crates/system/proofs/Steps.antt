@@ -3,18 +3,18 @@ use Prim.Native.Nat.{ℕ, zero, suc, _+_, _-_, _*_, _≤_, _<_, min}
 use native.Mathlib.Omega.{arith}
 use native.Mathlib.Numerals.{add-one}
 use native.Mathlib.Nat.{mul-assoc, mul-one, le-mul-of-pos-right, min-eq-left, min-eq-right}
-use mathlib.Core.List.{List, _∷_, _++_, append-assoc, append-nil, map}
-use mathlib.Core.Bool.{Bool, true, false, cond, _&&_}
+use mathlib.Core.List.{List, [], _∷_, _++_, append-assoc, append-nil, map}
+use mathlib.Core.Bool.{Bool, true, false, not, cond, _&&_, _||_, Bool·beq, false≢true}
 use mathlib.Core.Path.{_≡_, refl, sym, ap, _∙_, subst}
-use borrow.Author.Tests.{lt-ltb, le-ltb}
+use borrow.Author.Tests.{ltb-true, ltb-false, lt-ltb, le-ltb, lt-leb}
 use lib.ListN.{length, getD, take, drop, set, replicate, length-append, length-replicate, take-append-drop, drop-of-length-le, replicate-append-replicate}
 use lib.Seq.{drop-cons, length-take-le, set-at}
-use lib.Dec.{ltb}
+use lib.Dec.{leb, ltb}
 use Rattle.system.specs.declared.TaskType.{TaskType}
 use Rattle.system.specs.Values.{noTask, clearedTypes}
-use Rattle.system.specs.Limits.{typeLimit, columnLimit, columnsOf, zeroTask, soundTask, typesKeep}
+use Rattle.system.specs.Limits.{engineLimit, typeLimit, columnLimit, kindCounted, columnsOf, given, kindsAgree, zeroTask, soundTask, typesKeep}
 use Rattle.system.specs.Rules.{firstOf}
-use Rattle.system.proofs.Laws.{columnsOf-pos}
+use Rattle.system.proofs.Laws.{columnsOf-pos, either-false}
 
 -- Columns: `left ts` is the product that the types ts have a part in
 
@@ -67,6 +67,66 @@ module _ (k i : ℕ) (ts : List TaskType) where
   unfolding typesKeep
   types-end h inv = rw (drop-of-length-le ts h) at inv
 
+-- The second kind's number: where one of the two numbers is over the limit their sum is, and where none is it is small
+
+pub kind-many : (m n : ℕ) → ltb engineLimit m || ltb engineLimit n ≡ true → false ≡ kindCounted m n
+kind-many m n e = sym (over (leb 1 n) (lt-leb (m + n) engineLimit (more (ltb engineLimit m) refl e)))
+  where
+    over : (b : Bool) {c : Bool} → c ≡ false → b && c ≡ false
+    over true e = e
+    over false e = refl
+
+    more : (b : Bool) → ltb engineLimit m ≡ b → b || ltb engineLimit n ≡ true → engineLimit < m + n
+    more true q e = omega (arith, ltb-true engineLimit m q)
+    more false q e = omega (arith, ltb-true engineLimit n e)
+
+pub kind-few : (m n : ℕ) → ltb engineLimit m || ltb engineLimit n ≡ false → (m ≤ engineLimit) × (n ≤ engineLimit)
+kind-few m n e = let p = either-false (ltb engineLimit m) (ltb engineLimit n) e in (ltb-false engineLimit m (p .0), ltb-false engineLimit n (p .1))
+
+-- The second kind is given of all types or of none: one entry, then the others
+
+kinds-step : (one : Bool) (k i : ℕ) (ts : List TaskType) (d : TaskType) → i < length ts → i < k
+    → kindsAgree one (k - i) (drop i ts) ≡ cond one (not (given (getD ts i d .there))) (given (getD ts i d .there)) && kindsAgree one (k - (i + 1)) (drop (i + 1) ts)
+unfolding kindsAgree
+kinds-step one k i ts d h more =
+    let p : k - i ≡ suc (k - suc i) = omega arith in
+    rw (add-one i, drop-cons ts i d h, p)
+
+-- the code asks whether the entry's costs are given and there is one kind, or neither: then it disagrees
+pub kind-disagrees : (g one : Bool) → Bool·beq g one ≡ true → cond one (not g) g ≡ false
+kind-disagrees true true e = refl
+kind-disagrees false false e = refl
+kind-disagrees true false e = absurd (false≢true e)
+kind-disagrees false true e = absurd (false≢true e)
+
+pub kind-agrees : (g one : Bool) → Bool·beq g one ≡ false → cond one (not g) g ≡ true
+kind-agrees true false e = refl
+kind-agrees false true e = refl
+kind-agrees true true e = absurd (false≢true (sym e))
+kind-agrees false false e = absurd (false≢true (sym e))
+
+module _ (one : Bool) (k i : ℕ) (ts : List TaskType) where
+  -- the entry disagrees, so the test fails; it agrees, so the others decide; no type is left
+  pub kinds-fail : (d : TaskType) → i < length ts → i < k → cond one (not (given (getD ts i d .there))) (given (getD ts i d .there)) ≡ false
+      → kindsAgree one (k - i) (drop i ts) ≡ kindsAgree one k ts → false ≡ kindsAgree one k ts
+  kinds-fail d h more e inv = ap (λ (x : Bool). x && kindsAgree one (k - (i + 1)) (drop (i + 1) ts)) (sym e) ∙ sym (kinds-step one k i ts d h more) ∙ inv
+
+  pub kinds-more : (d : TaskType) → i < length ts → i < k → cond one (not (given (getD ts i d .there))) (given (getD ts i d .there)) ≡ true
+      → kindsAgree one (k - i) (drop i ts) ≡ kindsAgree one k ts → kindsAgree one (k - (i + 1)) (drop (i + 1) ts) ≡ kindsAgree one k ts
+  kinds-more d h more e inv = ap (λ (x : Bool). x && kindsAgree one (k - (i + 1)) (drop (i + 1) ts)) (sym e) ∙ sym (kinds-step one k i ts d h more) ∙ inv
+
+  pub kinds-past : k ≤ i → kindsAgree one (k - i) (drop i ts) ≡ kindsAgree one k ts → true ≡ kindsAgree one k ts
+  unfolding kindsAgree
+  kinds-past h inv = let none : k - i ≡ 0 = omega arith in sym (ap (λ (n : ℕ). kindsAgree one n (drop i ts)) none ∙ nothing (drop i ts)) ∙ inv
+    where
+      nothing : (l : List TaskType) → kindsAgree one zero l ≡ true
+      nothing [] = refl
+      nothing (t ∷ l) = refl
+
+  pub kinds-end : length ts ≤ i → kindsAgree one (k - i) (drop i ts) ≡ kindsAgree one k ts → true ≡ kindsAgree one k ts
+  unfolding kindsAgree
+  kinds-end h inv = rw (drop-of-length-le ts h) at inv
+
 -- Clearing: the entries from k up to i are cleared already, the others are as they were
 
 abbrev pub clearedTo : ℕ → ℕ → List TaskType → List TaskType
@@ -86,6 +146,28 @@ cleared-more k i ts from h =
 
 pub cleared-all : (k i : ℕ) (ts : List TaskType) → length ts ≡ typeLimit → typeLimit ≤ i → i - k ≡ typeLimit - k → clearedTo k i ts ≡ clearedTypes k ts
 cleared-all k i ts six h e = let past : length ts ≤ i = omega arith in rw (drop-of-length-le ts past, e) (simp append-nil)
+
+-- Request 2026-13: a list of which f has taken the place of the first i entries already, the others as they were
+
+abbrev pub mappedTo : {A : Type 0} → (A → A) → ℕ → List A → List A
+mappedTo f i l = map f (take i l) ++ drop i l
+
+pub mapped-none : {A : Type 0} (f : A → A) (l : List A) → l ≡ mappedTo f 0 l
+mapped-none f l = refl
+
+mapped-next : {A : Type 0} (f : A → A) (l : List A) (i : ℕ) (d : A) → i < length l → set (mappedTo f i l) i (f (getD l i d)) ≡ mappedTo f (suc i) l
+mapped-next f [] i d h = absurd (omega arith)
+mapped-next f (x ∷ l) zero d h = refl
+mapped-next {A} f (x ∷ l) (suc i) d h = ap (λ (rest : List A). f x ∷ rest) (mapped-next f l i d (omega arith))
+
+pub mapped-more : {A : Type 0} (f : A → A) (l : List A) (i : ℕ) (d : A) → i < length l → set (mappedTo f i l) i (f (getD l i d)) ≡ mappedTo f (i + 1) l
+mapped-more f l i d h = rw (add-one i) (mapped-next f l i d h)
+
+pub mapped-all : {A : Type 0} (f : A → A) (l : List A) (i : ℕ) → length l ≤ i → mappedTo f i l ≡ map f l
+mapped-all f [] zero h = refl
+mapped-all f [] (suc i) h = refl
+mapped-all f (x ∷ l) zero h = absurd (omega arith)
+mapped-all {A} f (x ∷ l) (suc i) h = ap (λ (rest : List A). f x ∷ rest) (mapped-all f l i (omega arith))
 
 -- A table: its first row that passes the test stands here, or further on, or nowhere
 

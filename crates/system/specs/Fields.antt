@@ -1,11 +1,11 @@
--- "Fields are judged in file order; in one field: start cut (1), 2, 3, 4, body cut (1), 7, then 5, 6, 8. At the end 9, 10", and 31 "after 8" (request 2026-04): of each field after the first, byte by byte, and of the file's end.
+-- "Fields are judged in file order; in one field: start cut (1), 2, 3, 4, body cut (1), 7, then 5, 6, 8. At the end 9, 10", 31 "after 8" (request 2026-04), and 41 "after 9" (2026-13): of each field after the first, byte by byte, and of the file's end.
 use Prim.Native.Nat.{ℕ, suc, _+_, _*_, _≤_, _<_}
 use mathlib.Core.List.{List, [], _∷_, _++_}
 use mathlib.Core.Path.{_≡_}
 use mathlib.Core.Logic.{_⊎_}
 use lib.ListN.{length}
 use Rattle.system.specs.declared.System.{System}
-use Rattle.system.specs.Layout.{opened, unread, readFile}
+use Rattle.system.specs.Layout.{opened, unread, readCard, readFile}
 
 -- two and four bytes as a number, most significant first
 abbrev pub twoBytes : ℕ → ℕ → ℕ
@@ -27,45 +27,85 @@ dataField d1 d2 d3 d4 = 3 ∷ 0 ∷ 4 ∷ d1 ∷ d2 ∷ d3 ∷ d4 ∷ []
 abbrev pub mostField : (q1 q2 : ℕ) → List ℕ
 mostField q1 q2 = 4 ∷ 0 ∷ 2 ∷ q1 ∷ q2 ∷ []
 
--- the bytes of fields that pass, from the file's start on; the tag of the last one, the number of types, and the product of all n + 1
-pub data Beginning : List ℕ → ℕ → ℕ → ℕ → Type 0 where
+-- request 2026-13: the second kind's number, U and S, and u and s of a type there
+abbrev pub secondField : (n u1 u2 u3 u4 s1 s2 s3 s4 : ℕ) → List ℕ
+secondField n u1 u2 u3 u4 s1 s2 s3 s4 = 6 ∷ 0 ∷ 9 ∷ n ∷ u1 ∷ u2 ∷ u3 ∷ u4 ∷ s1 ∷ s2 ∷ s3 ∷ s4 ∷ []
+
+abbrev pub costsField : (u1 u2 u3 u4 s1 s2 s3 s4 : ℕ) → List ℕ
+costsField u1 u2 u3 u4 s1 s2 s3 s4 = 7 ∷ 0 ∷ 8 ∷ u1 ∷ u2 ∷ u3 ∷ u4 ∷ s1 ∷ s2 ∷ s3 ∷ s4 ∷ []
+
+-- where d, q, and u and s on the second kind may stand, by the tag of the field before
+abbrev pub MayData : ℕ → Type 0
+MayData last = last ≡ 2
+
+abbrev pub MayMost : ℕ → Type 0
+MayMost last = (last ≡ 2) ⊎ (last ≡ 3)
+
+abbrev pub MayCosts : ℕ → Type 0
+MayCosts last = (last ≡ 2) ⊎ ((last ≡ 3) ⊎ (last ≡ 4))
+
+-- the bytes of fields that pass, from the file's start on; the tag of the last one, the number of types, the product of all n + 1, m, the kinds of engine, and the number of types with a tag 7
+pub data Beginning : List ℕ → ℕ → ℕ → ℕ → ℕ → ℕ → ℕ → Type 0 where
   a-platform : (m r u1 u2 u3 u4 s1 s2 s3 s4 : ℕ) → 1 ≤ m → m ≤ 16 → r ≤ 1 → fourBytes u1 u2 u3 u4 ≤ 1000000 → fourBytes s1 s2 s3 s4 ≤ 1000000
-      → Beginning (platformField m r u1 u2 u3 u4 s1 s2 s3 s4) 1 0 1
-  then-type : (p : List ℕ) (last k c u1 u2 u3 u4 s1 s2 s3 s4 n1 n2 : ℕ) → Beginning p last k c → k < 6 → fourBytes u1 u2 u3 u4 ≤ 1000000 → fourBytes s1 s2 s3 s4 ≤ 1000000
-      → Beginning (p ++ typeField u1 u2 u3 u4 s1 s2 s3 s4 n1 n2) 2 (suc k) (c * (twoBytes n1 n2 + 1))
-  then-data : (p : List ℕ) (last k c d1 d2 d3 d4 : ℕ) → Beginning p last k c → last ≡ 2 → fourBytes d1 d2 d3 d4 ≤ 1000000
-      → Beginning (p ++ dataField d1 d2 d3 d4) 3 k c
-  then-most : (p : List ℕ) (last k c q1 q2 : ℕ) → Beginning p last k c → (last ≡ 2) ⊎ (last ≡ 3) → (twoBytes q1 q2 ≡ 0 → ⊥)
-      → Beginning (p ++ mostField q1 q2) 4 k c
+      → Beginning (platformField m r u1 u2 u3 u4 s1 s2 s3 s4) 1 0 1 m 1 0
+  then-second : (p : List ℕ) (last k c m kinds w n u1 u2 u3 u4 s1 s2 s3 s4 : ℕ) → Beginning p last k c m kinds w → last ≡ 1 → 1 ≤ n → m + n ≤ 16
+      → fourBytes u1 u2 u3 u4 ≤ 1000000 → fourBytes s1 s2 s3 s4 ≤ 1000000 → Beginning (p ++ secondField n u1 u2 u3 u4 s1 s2 s3 s4) 6 k c m 2 w
+  then-type : (p : List ℕ) (last k c m kinds w u1 u2 u3 u4 s1 s2 s3 s4 n1 n2 : ℕ) → Beginning p last k c m kinds w → k < 6 → fourBytes u1 u2 u3 u4 ≤ 1000000 → fourBytes s1 s2 s3 s4 ≤ 1000000
+      → Beginning (p ++ typeField u1 u2 u3 u4 s1 s2 s3 s4 n1 n2) 2 (suc k) (c * (twoBytes n1 n2 + 1)) m kinds w
+  then-data : (p : List ℕ) (last k c m kinds w d1 d2 d3 d4 : ℕ) → Beginning p last k c m kinds w → MayData last → fourBytes d1 d2 d3 d4 ≤ 1000000
+      → Beginning (p ++ dataField d1 d2 d3 d4) 3 k c m kinds w
+  then-most : (p : List ℕ) (last k c m kinds w q1 q2 : ℕ) → Beginning p last k c m kinds w → MayMost last → (twoBytes q1 q2 ≡ 0 → ⊥)
+      → Beginning (p ++ mostField q1 q2) 4 k c m kinds w
+  then-costs : (p : List ℕ) (last k c m kinds w u1 u2 u3 u4 s1 s2 s3 s4 : ℕ) → Beginning p last k c m kinds w → MayCosts last → fourBytes u1 u2 u3 u4 ≤ 1000000 → fourBytes s1 s2 s3 s4 ≤ 1000000
+      → Beginning (p ++ costsField u1 u2 u3 u4 s1 s2 s3 s4) 7 k c m kinds (suc w)
 
 -- what comes next and does not pass is refused, whatever follows it. The order is that of the lines: each has as premises what the lines before it let through
-pub record NextField (p : List ℕ) (last k : ℕ) : Type 0 where
-  pub one-byte : (a : ℕ) → readFile (p ++ a ∷ []) ≡ unread 1
-  pub two-bytes : (a b : ℕ) → readFile (p ++ a ∷ b ∷ []) ≡ unread 1
-  pub no-tag : (t h l : ℕ) (rest : List ℕ) → (t ≡ 1 → ⊥) → (t ≡ 2 → ⊥) → (t ≡ 3 → ⊥) → (t ≡ 4 → ⊥) → readFile (p ++ t ∷ h ∷ l ∷ rest) ≡ unread 2
-  pub platform-again : (h l : ℕ) (rest : List ℕ) → readFile (p ++ 1 ∷ h ∷ l ∷ rest) ≡ unread 3
-  pub data-place : (h l : ℕ) (rest : List ℕ) → (last ≡ 2 → ⊥) → readFile (p ++ 3 ∷ h ∷ l ∷ rest) ≡ unread 3
-  pub most-place : (h l : ℕ) (rest : List ℕ) → (last ≡ 2 → ⊥) → (last ≡ 3 → ⊥) → readFile (p ++ 4 ∷ h ∷ l ∷ rest) ≡ unread 3
-  pub type-length : (h l : ℕ) (rest : List ℕ) → (twoBytes h l ≡ 10 → ⊥) → readFile (p ++ 2 ∷ h ∷ l ∷ rest) ≡ unread 4
-  pub data-length : (h l : ℕ) (rest : List ℕ) → last ≡ 2 → (twoBytes h l ≡ 4 → ⊥) → readFile (p ++ 3 ∷ h ∷ l ∷ rest) ≡ unread 4
-  pub most-length : (h l : ℕ) (rest : List ℕ) → (last ≡ 2) ⊎ (last ≡ 3) → (twoBytes h l ≡ 2 → ⊥) → readFile (p ++ 4 ∷ h ∷ l ∷ rest) ≡ unread 4
-  pub type-cut : (rest : List ℕ) → length rest < 10 → readFile (p ++ 2 ∷ 0 ∷ 10 ∷ rest) ≡ unread 1
-  pub data-cut : (rest : List ℕ) → last ≡ 2 → length rest < 4 → readFile (p ++ 3 ∷ 0 ∷ 4 ∷ rest) ≡ unread 1
-  pub most-cut : (rest : List ℕ) → (last ≡ 2) ⊎ (last ≡ 3) → length rest < 2 → readFile (p ++ 4 ∷ 0 ∷ 2 ∷ rest) ≡ unread 1
-  pub seventh-type : (u1 u2 u3 u4 s1 s2 s3 s4 n1 n2 : ℕ) (rest : List ℕ) → 6 ≤ k → readFile (p ++ (typeField u1 u2 u3 u4 s1 s2 s3 s4 n1 n2 ++ rest)) ≡ unread 7
+pub record NextField (p : List ℕ) (last k m : ℕ) : Type 0 where
+  pub one-byte : (a : ℕ) → readCard (p ++ a ∷ []) ≡ unread 1
+  pub two-bytes : (a b : ℕ) → readCard (p ++ a ∷ b ∷ []) ≡ unread 1
+  pub no-tag : (t h l : ℕ) (rest : List ℕ) → (t ≡ 1 → ⊥) → (t ≡ 2 → ⊥) → (t ≡ 3 → ⊥) → (t ≡ 4 → ⊥) → (t ≡ 6 → ⊥) → (t ≡ 7 → ⊥) → readCard (p ++ t ∷ h ∷ l ∷ rest) ≡ unread 2
+  pub platform-again : (h l : ℕ) (rest : List ℕ) → readCard (p ++ 1 ∷ h ∷ l ∷ rest) ≡ unread 3
+  pub data-place : (h l : ℕ) (rest : List ℕ) → (MayData last → ⊥) → readCard (p ++ 3 ∷ h ∷ l ∷ rest) ≡ unread 3
+  pub most-place : (h l : ℕ) (rest : List ℕ) → (MayMost last → ⊥) → readCard (p ++ 4 ∷ h ∷ l ∷ rest) ≡ unread 3
+  pub second-place : (h l : ℕ) (rest : List ℕ) → (last ≡ 1 → ⊥) → readCard (p ++ 6 ∷ h ∷ l ∷ rest) ≡ unread 3
+  pub costs-place : (h l : ℕ) (rest : List ℕ) → (MayCosts last → ⊥) → readCard (p ++ 7 ∷ h ∷ l ∷ rest) ≡ unread 3
+  pub type-length : (h l : ℕ) (rest : List ℕ) → (twoBytes h l ≡ 10 → ⊥) → readCard (p ++ 2 ∷ h ∷ l ∷ rest) ≡ unread 4
+  pub data-length : (h l : ℕ) (rest : List ℕ) → MayData last → (twoBytes h l ≡ 4 → ⊥) → readCard (p ++ 3 ∷ h ∷ l ∷ rest) ≡ unread 4
+  pub most-length : (h l : ℕ) (rest : List ℕ) → MayMost last → (twoBytes h l ≡ 2 → ⊥) → readCard (p ++ 4 ∷ h ∷ l ∷ rest) ≡ unread 4
+  pub second-length : (h l : ℕ) (rest : List ℕ) → last ≡ 1 → (twoBytes h l ≡ 9 → ⊥) → readCard (p ++ 6 ∷ h ∷ l ∷ rest) ≡ unread 4
+  pub costs-length : (h l : ℕ) (rest : List ℕ) → MayCosts last → (twoBytes h l ≡ 8 → ⊥) → readCard (p ++ 7 ∷ h ∷ l ∷ rest) ≡ unread 4
+  pub type-cut : (rest : List ℕ) → length rest < 10 → readCard (p ++ 2 ∷ 0 ∷ 10 ∷ rest) ≡ unread 1
+  pub data-cut : (rest : List ℕ) → MayData last → length rest < 4 → readCard (p ++ 3 ∷ 0 ∷ 4 ∷ rest) ≡ unread 1
+  pub most-cut : (rest : List ℕ) → MayMost last → length rest < 2 → readCard (p ++ 4 ∷ 0 ∷ 2 ∷ rest) ≡ unread 1
+  pub second-cut : (rest : List ℕ) → last ≡ 1 → length rest < 9 → readCard (p ++ 6 ∷ 0 ∷ 9 ∷ rest) ≡ unread 1
+  pub costs-cut : (rest : List ℕ) → MayCosts last → length rest < 8 → readCard (p ++ 7 ∷ 0 ∷ 8 ∷ rest) ≡ unread 1
+  pub seventh-type : (u1 u2 u3 u4 s1 s2 s3 s4 n1 n2 : ℕ) (rest : List ℕ) → 6 ≤ k → readCard (p ++ (typeField u1 u2 u3 u4 s1 s2 s3 s4 n1 n2 ++ rest)) ≡ unread 7
+  pub second-number : (n u1 u2 u3 u4 s1 s2 s3 s4 : ℕ) (rest : List ℕ) → last ≡ 1 → (n ≡ 0) ⊎ (16 < m + n) → readCard (p ++ (secondField n u1 u2 u3 u4 s1 s2 s3 s4 ++ rest)) ≡ unread 5
   pub type-size : (u1 u2 u3 u4 s1 s2 s3 s4 n1 n2 : ℕ) (rest : List ℕ) → k < 6 → (1000000 < fourBytes u1 u2 u3 u4) ⊎ (1000000 < fourBytes s1 s2 s3 s4)
-      → readFile (p ++ (typeField u1 u2 u3 u4 s1 s2 s3 s4 n1 n2 ++ rest)) ≡ unread 8
-  pub data-size : (d1 d2 d3 d4 : ℕ) (rest : List ℕ) → last ≡ 2 → 1000000 < fourBytes d1 d2 d3 d4 → readFile (p ++ (dataField d1 d2 d3 d4 ++ rest)) ≡ unread 8
-  pub most-none : (q1 q2 : ℕ) (rest : List ℕ) → (last ≡ 2) ⊎ (last ≡ 3) → twoBytes q1 q2 ≡ 0 → readFile (p ++ (mostField q1 q2 ++ rest)) ≡ unread 31
+      → readCard (p ++ (typeField u1 u2 u3 u4 s1 s2 s3 s4 n1 n2 ++ rest)) ≡ unread 8
+  pub data-size : (d1 d2 d3 d4 : ℕ) (rest : List ℕ) → MayData last → 1000000 < fourBytes d1 d2 d3 d4 → readCard (p ++ (dataField d1 d2 d3 d4 ++ rest)) ≡ unread 8
+  pub second-size : (n u1 u2 u3 u4 s1 s2 s3 s4 : ℕ) (rest : List ℕ) → last ≡ 1 → 1 ≤ n → m + n ≤ 16 → (1000000 < fourBytes u1 u2 u3 u4) ⊎ (1000000 < fourBytes s1 s2 s3 s4)
+      → readCard (p ++ (secondField n u1 u2 u3 u4 s1 s2 s3 s4 ++ rest)) ≡ unread 8
+  pub costs-size : (u1 u2 u3 u4 s1 s2 s3 s4 : ℕ) (rest : List ℕ) → MayCosts last → (1000000 < fourBytes u1 u2 u3 u4) ⊎ (1000000 < fourBytes s1 s2 s3 s4)
+      → readCard (p ++ (costsField u1 u2 u3 u4 s1 s2 s3 s4 ++ rest)) ≡ unread 8
+  pub most-none : (q1 q2 : ℕ) (rest : List ℕ) → MayMost last → twoBytes q1 q2 ≡ 0 → readCard (p ++ (mostField q1 q2 ++ rest)) ≡ unread 31
 
--- where nothing comes next: no type, then too many columns; any other file opens
-pub record FileEnd (p : List ℕ) (k c : ℕ) : Type 0 where
-  pub no-type : k ≡ 0 → readFile p ≡ unread 9
-  pub columns-over : 1 ≤ k → 4096 < c → readFile p ≡ unread 10
-  pub opens : 1 ≤ k → c ≤ 4096 → (y : System) × (readFile p ≡ opened y)
+-- "Either all are present or none": with one kind no type has a tag 7, with two each has one
+pub record AllOrNone (k kinds w : ℕ) : Type 0 where
+  pub one : kinds ≡ 1 → w ≡ 0
+  pub two : kinds ≡ 2 → w ≡ k
 
--- with the laws of the first field (`Order`) every file's refusal is told: it is empty, or its first field is refused, or it has such a beginning
+-- where nothing comes next: no type, then a tag 7 that is missing or too many, then too many columns; any other file opens. One of two kinds is refused 42 where one kind is wanted
+pub record FileEnd (p : List ℕ) (k c kinds w : ℕ) : Type 0 where
+  pub no-type : k ≡ 0 → readCard p ≡ unread 9
+  pub some-kinds : 1 ≤ k → (AllOrNone k kinds w → ⊥) → readCard p ≡ unread 41
+  pub columns-over : 1 ≤ k → AllOrNone k kinds w → 4096 < c → readCard p ≡ unread 10
+  pub opens : 1 ≤ k → AllOrNone k kinds w → c ≤ 4096 → (y : System) × (readCard p ≡ opened y) × (kinds ≡ 1 → readFile p ≡ opened y) × (kinds ≡ 2 → readFile p ≡ unread 42)
+
+-- with the laws of the first field (`Order`) every file's refusal is told: it is empty, or its first field is refused, or it has such a beginning.
+-- A refusal is the same whether two kinds of engine are wanted or one
 pub record LaterFields : Type 0 where
-  pub empty-file : readFile [] ≡ unread 9
-  pub next-field : (p : List ℕ) (last k c : ℕ) → Beginning p last k c → NextField p last k
-  pub file-end : (p : List ℕ) (last k c : ℕ) → Beginning p last k c → FileEnd p k c
+  pub empty-file : readCard [] ≡ unread 9
+  pub next-field : (p : List ℕ) (last k c m kinds w : ℕ) → Beginning p last k c m kinds w → NextField p last k m
+  pub file-end : (p : List ℕ) (last k c m kinds w : ℕ) → Beginning p last k c m kinds w → FileEnd p k c kinds w
+  pub refused-alike : (file : List ℕ) (n : ℕ) → readCard file ≡ unread n → readFile file ≡ unread n

@@ -1,4 +1,4 @@
--- Document 01's "System file": what a list of bytes reads as, with refusals 1 to 10 and 31 in the order under "From the input".
+-- Document 01's "System file": what a list of bytes reads as, with refusals 1 to 10, 31 and 41 in the order under "From the input", and 42 where one kind of engine is wanted.
 use Prim.Native.Nat.{ℕ, zero, suc, _+_, _*_}
 use mathlib.Core.List.{List, [], _∷_}
 use mathlib.Core.Bool.{Bool, not, cond, _||_}
@@ -6,6 +6,7 @@ use mathlib.Core.Path.{_≡_}
 use lib.ListN.{length, getD, take, drop}
 use lib.Dec.{leb, eqb}
 use Rattle.system.specs.declared.Most.the-variants.{AtMost}
+use Rattle.system.specs.declared.There.the-variants.{Takes}
 use Rattle.system.specs.declared.TaskType.{TaskType}
 use Rattle.system.specs.declared.System.{System}
 use Rattle.system.specs.declared.rules.FieldRule.{FieldRule}
@@ -15,10 +16,10 @@ use Rattle.system.specs.declared.reader.Head.{Head}
 use Rattle.system.specs.declared.reader.Head.the-variants.{Ruled, Stops}
 use Rattle.system.specs.declared.reader.Field.{Field}
 use Rattle.system.specs.declared.Opened.{Opened}
-use Rattle.system.specs.Values.{taskOf, withData, withMost, blank, withPlatform, withType, lastType, withLast}
-use Rattle.system.specs.Limits.{platformFault, typeFault, mostFault, columnsFault}
+use Rattle.system.specs.Values.{taskOf, withData, withMost, withCosts, blank, withPlatform, withSecond, withType, lastType, withLast}
+use Rattle.system.specs.Limits.{platformFault, kindFault, typeFault, mostFault, costsFault, orElse, kindsFault, columnsFault, isOneKind}
 use Rattle.system.specs.Outcome.{Outcome, accepted, refused, fromInput, outcomeOf}
-pub use Rattle.system.specs.Rules.{platformRule, typeRule, dataRule, mostRule, fieldRules, follows, mayFollow, headSize, longestField, longestFile}
+pub use Rattle.system.specs.Rules.{platformRule, typeRule, dataRule, mostRule, secondRule, costsRule, fieldRules, follows, mayFollow, headSize, longestField, longestFile}
 unfoldable pub use Rattle.system.specs.Rules.{ruleOf}
 
 -- what a file, or a part of one, reads as: a system, or the number of a refusal from the input
@@ -66,7 +67,7 @@ fieldAt file at =
 unfoldable pub bodyAt : List ℕ → ℕ → List ℕ
 bodyAt file at = bodyPart (drop at file)
 
--- the tag of a type, that of its d, and that of its q
+-- the tag of a type, of its d and its q, that of a second kind of engine, and that of a type's u and s there
 abbrev pub isType : ℕ → Bool
 isType tag = eqb tag (typeRule .tag)
 
@@ -76,7 +77,13 @@ isData tag = eqb tag (dataRule .tag)
 abbrev pub isMost : ℕ → Bool
 isMost tag = eqb tag (mostRule .tag)
 
--- how many fields of this tag were read before, where their number decides: that of types. Any other field comes only where it may follow: a platform once, d and q once for each type
+abbrev pub isSecond : ℕ → Bool
+isSecond tag = eqb tag (secondRule .tag)
+
+abbrev pub isCosts : ℕ → Bool
+isCosts tag = eqb tag (costsRule .tag)
+
+-- how many fields of this tag were read before, where their number decides: that of types. Any other field comes only where it may follow: a platform and a second kind once, all others once for each type
 abbrev pub seenOf : ℕ → System → ℕ
 seenOf tag y = cond (isType tag) (y .typecount) 0
 
@@ -116,6 +123,22 @@ mostFrom q y = unlessFault (mostFault (AtMost q)) (withLast (withMost q (lastTyp
 abbrev pub mostOf : List ℕ → System → Reading
 mostOf b y = mostFrom (word2 b 0) y
 
+-- a second kind of engine with these numbers: 5, 8
+unfoldable pub secondFrom : ℕ → ℕ → ℕ → System → Reading
+secondFrom n u s y = unlessFault (kindFault (y .engines) n u s) (withSecond n u s y)
+
+-- its body: its number (1), U (4), S (4)
+abbrev pub secondOf : List ℕ → System → Reading
+secondOf b y = secondFrom (byteAt b 0) (word4 b 1) (word4 b 5) y
+
+-- u and s of the last type there: 8
+unfoldable pub costsFrom : ℕ → ℕ → System → Reading
+costsFrom u s y = unlessFault (costsFault (Takes (record { time = u; memory = s }))) (withLast (withCosts u s (lastType y)) y)
+
+-- its body: u (4), s (4)
+abbrev pub costsOf : List ℕ → System → Reading
+costsOf b y = costsFrom (word4 b 0) (word4 b 4) y
+
 -- "in one field: start cut (1), 2, 3, 4, body cut (1), 7, then 5, 6, 8", and 31 "after 8" (request 2026-04). First the head: its tag and length, whether they stand there, and whether the body does
 unfoldable pub ruledHead : RuleFound → ℕ → Bool → ℕ → Head
 ruledHead Unknown size whole last = Stops 2
@@ -138,7 +161,9 @@ bodyOf r b y =
     (cond (isType (r .tag)) (typeOf b y)
     (cond (isData (r .tag)) (dataOf b y)
     (cond (isMost (r .tag)) (mostOf b y)
-    (platformOf b y))))
+    (cond (isSecond (r .tag)) (secondOf b y)
+    (cond (isCosts (r .tag)) (costsOf b y)
+    (platformOf b y))))))
 
 unfoldable pub ruledField : Head → List ℕ → System → Reading
 ruledField (Stops n) b y = unread n
@@ -148,9 +173,9 @@ ruledField (Ruled r) b y = bodyOf r b y
 unfoldable pub fieldOf : List ℕ → ℕ → System → Reading
 fieldOf s last y = ruledField (headOf s last) (bodyPart s) y
 
--- "At the end 9, 10"
+-- "At the end 9, 10", and 41 "after 9" (request 2026-13)
 unfoldable pub endOf : ℕ → System → Reading
-endOf last y = cond (eqb last 0 || eqb (y .typecount) 0) (unread 9) (unlessFault (columnsFault (y .types)) y)
+endOf last y = cond (eqb last 0 || eqb (y .typecount) 0) (unread 9) (unlessFault (orElse (kindsFault y) (columnsFault (y .types))) y)
 
 -- a refused field ends the reading; after any other one it goes on with the system so far
 abbrev pub afterField : Reading → (System → Reading) → Reading
@@ -164,9 +189,18 @@ fieldsFrom (suc f) [] last y = endOf last y
 fieldsFrom (suc f) (b ∷ s) last y =
     afterField (fieldOf (b ∷ s) last y) (λ (next : System). fieldsFrom f (drop (fieldSize (b ∷ s)) (b ∷ s)) b next)
 
--- what a file reads as
+-- what a file reads as, of one kind of engine or two
+unfoldable pub readCard : List ℕ → Reading
+readCard file = fieldsFrom (length file) file 0 blank
+
+-- request 2026-13: "42, when one of those four is wanted of such a file, directly after 10"
+unfoldable pub ofOneKind : Reading → Reading
+ofOneKind (opened y) = cond (isOneKind (y .second)) (opened y) (unread 42)
+ofOneKind (unread n) = unread n
+
+-- what a file reads as where one kind of engine is wanted
 unfoldable pub readFile : List ℕ → Reading
-readFile file = fieldsFrom (length file) file 0 blank
+readFile file = ofOneKind (readCard file)
 
 -- the answer and the system that a reading stands for: the blank system where the file is refused
 abbrev pub readOutcome : Reading → Outcome

@@ -5,5 +5,6 @@ pub mod Outcome
 pub mod Limits
 pub mod Rules
 pub mod Layout
+pub mod Card
 pub mod Fields
 pub mod Inner

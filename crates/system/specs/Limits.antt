@@ -6,18 +6,37 @@ use lib.ListN.{length}
 use lib.Dec.{leb, eqb}
 use Rattle.system.specs.declared.Most.{Most}
 use Rattle.system.specs.declared.Most.the-variants.{NotGiven, AtMost}
+use Rattle.system.specs.declared.There.{There}
+use Rattle.system.specs.declared.There.the-variants.{Absent, Takes}
+use Rattle.system.specs.declared.Second.{Second}
+use Rattle.system.specs.declared.Second.the-variants.{OneKind, TwoKinds}
 use Rattle.system.specs.declared.TaskType.{TaskType}
 use Rattle.system.specs.declared.System.{System}
 pub use Rattle.system.specs.Numbers.{engineLimit, typeLimit, sizeLimit, columnLimit}
 use Rattle.system.specs.Values.{ceilingsOf}
 
--- U and S
+-- of two tests one after the other, the first that calls for a refusal
+abbrev pub orElse : ℕ → ℕ → ℕ
+orElse fault later = cond (eqb fault 0) later fault
+
+-- U and S of a kind of engine, or u and s there
 abbrev pub sizeFault : ℕ → ℕ → ℕ
 sizeFault u s = cond (not (leb u sizeLimit && leb s sizeLimit)) 8 0
 
 -- a platform's m, rule, U and S
 abbrev pub platformFault : ℕ → ℕ → ℕ → ℕ → ℕ
 platformFault m rule u s = cond (not (leb 1 m && leb m engineLimit)) 5 (cond (not (leb rule 1)) 6 (sizeFault u s))
+
+-- request 2026-13: the second kind's number, "at least 1, total still at most 16", m being the number of the first; its U and S
+abbrev pub kindCounted : ℕ → ℕ → Bool
+kindCounted m n = leb 1 n && leb (m + n) engineLimit
+
+abbrev pub kindFault : ℕ → ℕ → ℕ → ℕ → ℕ
+kindFault m n u s = cond (not (kindCounted m n)) 5 (sizeFault u s)
+
+abbrev pub secondFault : ℕ → Second → ℕ
+secondFault m OneKind = 0
+secondFault m (TwoKinds k) = kindFault m (k .number) (k .timecap) (k .memorycap)
 
 -- a type's u, s and d
 abbrev pub typeFault : TaskType → ℕ
@@ -27,6 +46,11 @@ typeFault t = cond (not (leb (t .time) sizeLimit && leb (t .memory) sizeLimit &&
 abbrev pub mostFault : Most → ℕ
 mostFault NotGiven = 0
 mostFault (AtMost q) = cond (eqb q 0) 31 0
+
+-- u and s on the second kind, where they are given
+abbrev pub costsFault : There → ℕ
+costsFault Absent = 0
+costsFault (Takes c) = sizeFault (c .time) (c .memory)
 
 -- "the product of all n(t)+1, called the columns"
 unfoldable pub columnsOf : List ℕ → ℕ
@@ -44,26 +68,52 @@ abbrev pub notGiven : Most → Bool
 notGiven NotGiven = true
 notGiven (AtMost q) = false
 
+-- u and s on the second kind are given
+abbrev pub given : There → Bool
+given Absent = false
+given (Takes c) = true
+
+-- there is no second kind
+abbrev pub isOneKind : Second → Bool
+isOneKind OneKind = true
+isOneKind (TwoKinds k) = false
+
+-- "Either all are present or none": of each of the first k types u and s on the second kind are given exactly where there is one
+unfoldable pub kindsAgree : Bool → ℕ → List TaskType → Bool
+kindsAgree one k [] = true
+kindsAgree one zero (t ∷ ts) = true
+kindsAgree one (suc k) (t ∷ ts) = cond one (not (given (t .there))) (given (t .there)) && kindsAgree one k ts
+
+-- "41, when tag 7 is missing though tag 6 stands, or the reverse"
+abbrev pub kindsFault : System → ℕ
+kindsFault y = cond (not (kindsAgree (isOneKind (y .second)) (y .typecount) (y .types))) 41 0
+
 -- an entry past k
 abbrev pub zeroTask : TaskType → Bool
-zeroTask t = eqb (t .time) 0 && eqb (t .memory) 0 && eqb (t .ceiling) 0 && eqb (t .data) 0 && notGiven (t .most)
+zeroTask t = eqb (t .time) 0 && eqb (t .memory) 0 && eqb (t .ceiling) 0 && eqb (t .data) 0 && notGiven (t .most) && not (given (t .there))
 
 -- an entry of a type
 abbrev pub soundTask : TaskType → Bool
-soundTask t = eqb (typeFault t) 0 && eqb (mostFault (t .most)) 0
+soundTask t = eqb (typeFault t) 0 && eqb (mostFault (t .most)) 0 && eqb (costsFault (t .there)) 0
 
--- the first k are within the limits, the others 0 and without q
+-- the first k are within the limits, the others 0 and with nothing given
 unfoldable pub typesKeep : ℕ → List TaskType → Bool
 typesKeep k [] = true
 typesKeep zero (t ∷ ts) = zeroTask t && typesKeep zero ts
 typesKeep (suc k) (t ∷ ts) = soundTask t && typesKeep k ts
 
--- every limit of document 01, and zero entries past k; six entries is what an array of the code always has
-unfoldable pub keepsLimits : System → Bool
-keepsLimits y =
+-- every limit of a card, of one kind of engine or two, and zero entries past k; six entries is what an array of the code always has
+unfoldable pub keepsCard : System → Bool
+keepsCard y =
     eqb (platformFault (y .engines) (y .rule) (y .timecap) (y .memorycap)) 0
     && leb 1 (y .typecount)
     && leb (y .typecount) typeLimit
     && eqb (length (y .types)) typeLimit
     && typesKeep (y .typecount) (y .types)
     && eqb (columnsFault (y .types)) 0
+    && eqb (secondFault (y .engines) (y .second)) 0
+    && eqb (kindsFault y) 0
+
+-- and of a system of one kind, which document 01 and all that knows one kind only speak of
+unfoldable pub keepsLimits : System → Bool
+keepsLimits y = keepsCard y && isOneKind (y .second)

@@ -24,11 +24,19 @@ dataRule = record { tag = 3; body = 4; allowed = typeLimit }
 abbrev pub mostRule : FieldRule
 mostRule = record { tag = 4; body = 2; allowed = typeLimit }
 
+-- the second kind's number, U and S; and u and s of the type before it there (request 2026-13)
+abbrev pub secondRule : FieldRule
+secondRule = record { tag = 6; body = 9; allowed = 1 }
+
+abbrev pub costsRule : FieldRule
+costsRule = record { tag = 7; body = 8; allowed = typeLimit }
+
 abbrev pub fieldRules : List FieldRule
-fieldRules = platformRule ∷ typeRule ∷ dataRule ∷ mostRule ∷ []
+fieldRules = platformRule ∷ typeRule ∷ dataRule ∷ mostRule ∷ secondRule ∷ costsRule ∷ []
 
 -- a tag, and that of the field before it, 0 at the file's start: refusal 3 is decided from it alone. A platform is first, types come after it,
--- d "follows its type directly, at most once" (request 2026-03), and q comes "after the type and any tag 3, at most one" (2026-04)
+-- d "follows its type directly, at most once" (request 2026-03), and q comes "after the type and any tag 3, at most one" (2026-04).
+-- Request 2026-13: tag 6 stands "directly after the platform", and tag 7 "once, last after each type"
 abbrev pub follows : List Follow
 follows =
     record { tag = 1; last = 0 }
@@ -39,6 +47,12 @@ follows =
     ∷ record { tag = 4; last = 2 }
     ∷ record { tag = 4; last = 3 }
     ∷ record { tag = 2; last = 4 }
+    ∷ record { tag = 6; last = 1 }
+    ∷ record { tag = 2; last = 6 }
+    ∷ record { tag = 7; last = 2 }
+    ∷ record { tag = 7; last = 3 }
+    ∷ record { tag = 7; last = 4 }
+    ∷ record { tag = 2; last = 7 }
     ∷ []
 
 -- what the first row that passes a test gives
@@ -61,7 +75,7 @@ headSize = 3
 abbrev pub ruledSize : FieldRule → ℕ
 ruledSize r = headSize + r .body
 
--- of the longest one, 13; and of all fields that the rules allow, 13 + 6 × 13 + 6 × 7 + 6 × 5 = 163: no longer file opens
+-- of the longest one, 13; and of all fields that the rules allow, 13 + 6 × 13 + 6 × 7 + 6 × 5 + 12 + 6 × 11 = 241: no longer file opens
 abbrev pub longestOf : List FieldRule → ℕ
 longestOf [] = 0
 longestOf (r ∷ rs) = max (ruledSize r) (longestOf rs)

@@ -1,10 +1,13 @@
 // The system of a placement problem, what a call answers, and the reader of system files.
 // These types stand here, and not in a module, so that other crates name them in definitions by the crate alone.
+mod card;
 mod limits;
 mod reader;
 mod rules;
 mod values;
 
+pub use card::first_kind;
+pub use card::second_kind;
 pub use limits::COLUMN_LIMIT;
 pub use limits::ENGINE_LIMIT;
 pub use limits::FILE_BYTES;
@@ -13,9 +16,12 @@ pub use limits::SIZE_LIMIT;
 pub use limits::TYPE_LIMIT;
 pub use limits::columns_fault;
 pub use limits::columns_within;
+pub use limits::costs_fault;
 pub use limits::keeps_limits;
+pub use limits::kinds_fault;
 pub use limits::most_fault;
 pub use limits::platform_fault;
+pub use limits::second_fault;
 pub use limits::type_fault;
 pub use reader::Cursor;
 pub use reader::Field;
@@ -24,14 +30,17 @@ pub use reader::body_part;
 pub use reader::byte_at;
 pub use reader::field_at;
 pub use reader::four_bytes;
+pub use reader::read_card;
 pub use reader::read_system;
 pub use reader::rest_at;
 pub use reader::two_bytes;
+pub use rules::COSTS;
 pub use rules::DATA;
 pub use rules::FieldRule;
 pub use rules::MOST;
 pub use rules::PLATFORM;
 pub use rules::RuleFound;
+pub use rules::SECOND;
 pub use rules::TYPE;
 pub use rules::rule_of;
 pub use values::blank_system;
@@ -44,16 +53,42 @@ pub enum Most {
     AtMost(u16),
 }
 
-// A type of packet function: document 01's u, s and n, request 2026-03's d, the data memory of one instance, and 2026-04's q.
+// What an instance takes on an engine of the second kind: request 2026-13's u and s there.
+pub struct Costs {
+    pub time: u32,
+    pub memory: u32,
+}
+
+// A type's costs there, where they were given. Not given is not a u and s of 0.
+pub enum There {
+    Absent,
+    Takes(Costs),
+}
+
+// A type of packet function: document 01's u, s and n, request 2026-03's d, the data memory of one instance, 2026-04's q, and 2026-13's u and s on the second kind.
 pub struct TaskType {
     pub time: u32,
     pub memory: u32,
     pub ceiling: u16,
     pub data: u32,
     pub most: Most,
+    pub there: There,
 }
 
-// Document 01's m, rule, U, S and k, with the types in order of their number, all 0 and no q given past k.
+// The engines of a second kind: their number, U and S. They are numbered after those of the first.
+pub struct Kind {
+    pub number: usize,
+    pub timecap: u32,
+    pub memorycap: u32,
+}
+
+// Whether a card has a second kind of engine (request 2026-13). One without it has one kind, and not a second of 0 engines.
+pub enum Second {
+    OneKind,
+    TwoKinds(Kind),
+}
+
+// Document 01's m, rule, U, S and k, with the types in order of their number, all 0, no q and nothing of a second kind given past k; and any second kind of engine.
 pub struct System {
     pub engines: usize,
     pub rule: u8,
@@ -61,6 +96,7 @@ pub struct System {
     pub memorycap: u32,
     pub typecount: usize,
     pub types: [TaskType; TYPE_LIMIT],
+    pub second: Second,
 }
 
 // Which of document 01's two lists a refusal is from, and its number there.

@@ -4,10 +4,13 @@ ghost use mathlib.Core.Bool.{cond, _&&_};
 ghost use lib.ListN.{length};
 ghost use lib.Dec.{ltb, eqb};
 ghost use Rattle.system.specs.Inner.{columnsWithin};
-ghost use Rattle.system.specs.Limits.{typeLimit, sizeFault, platformFault, typeFault, mostFault, columnsFault, notGiven, zeroTask, soundTask, typesKeep, keepsLimits};
+ghost use Rattle.system.specs.Limits.{typeLimit, sizeFault, platformFault, kindCounted, kindFault, secondFault, typeFault, mostFault, costsFault, columnsFault};
+ghost use Rattle.system.specs.Limits.{notGiven, given, isOneKind, kindsAgree, kindsFault, zeroTask, soundTask, typesKeep, keepsCard, keepsLimits};
 use crate::Most;
+use crate::Second;
 use crate::System;
 use crate::TaskType;
+use crate::There;
 
 // The largest m.
 pub const ENGINE_LIMIT: usize = 16;
@@ -27,7 +30,7 @@ pub const NO_COLUMN: u16 = 65535;
 // The bytes that program `plan` reads.
 pub const FILE_BYTES: usize = 256;
 
-// A platform's U and S: 8.
+// U and S of a kind of engine, or u and s there: 8.
 fn size_fault(time: u32, memory: u32) -> u8
     ensures { λ r. ⌜ r ≡ sizeFault time memory ⌝ }
 {
@@ -42,12 +45,42 @@ pub fn platform_fault(m: usize, rule: u8, time: u32, memory: u32) -> u8
     ensures { λ r. ⌜ r ≡ platformFault m rule time memory ⌝ }
 {
     if !((1 <= m) & (m <= ENGINE_LIMIT)) {
-        return 5;
+        return 5; // of one kind
     }
     if !(rule <= 1) {
         return 6;
     }
     size_fault(time, memory)
+}
+
+// As many engines of a second kind, where there are m of the first: at least 1, and at most 16 in all.
+fn kind_counted(m: usize, n: usize) -> bool
+    ensures { λ r. ⌜ r ≡ kindCounted m n ⌝ }
+{
+    if (ENGINE_LIMIT < m) | (ENGINE_LIMIT < n) {
+        return false;
+    }
+    (1 <= n) & (m + n <= ENGINE_LIMIT)
+}
+
+// A second kind's number, U and S: 5, 8.
+pub(crate) fn kind_fault(m: usize, n: usize, time: u32, memory: u32) -> u8
+    ensures { λ r. ⌜ r ≡ kindFault m n time memory ⌝ }
+{
+    if !kind_counted(m, n) {
+        return 5; // of the second
+    }
+    size_fault(time, memory)
+}
+
+// The same where a second kind is given.
+pub fn second_fault(m: usize, second: Second) -> u8
+    ensures { λ r. ⌜ r ≡ secondFault m second ⌝ }
+{
+    let Second::TwoKinds(k) = second else {
+        return 0;
+    };
+    kind_fault(m, k.number, k.timecap, k.memorycap)
 }
 
 // A type's u, s and d: 8.
@@ -71,6 +104,16 @@ pub fn most_fault(most: Most) -> u8
         return 31;
     }
     0
+}
+
+// A type's u and s on the second kind, where they are given: 8.
+pub fn costs_fault(there: There) -> u8
+    ensures { λ r. ⌜ r ≡ costsFault there ⌝ }
+{
+    let There::Takes(c) = there else {
+        return 0;
+    };
+    size_fault(c.time, c.memory)
 }
 
 // The columns of six types, or one more than their limit where they pass it: the true product may pass 64 bits.
@@ -108,12 +151,63 @@ fn not_given(most: Most) -> bool
     }
 }
 
+// A type's u and s on the second kind are given.
+fn given(there: There) -> bool
+    ensures { λ r. ⌜ r ≡ given there ⌝ }
+{
+    match there {
+        There::Absent => false,
+        There::Takes(c) => true,
+    }
+}
+
+// There is one kind of engine.
+pub(crate) fn is_one_kind(second: Second) -> bool
+    ensures { λ r. ⌜ r ≡ isOneKind second ⌝ }
+{
+    match second {
+        Second::OneKind => true,
+        Second::TwoKinds(k) => false,
+    }
+}
+
+// Each of the first k types has its u and s on the second kind exactly where there is one.
+fn kinds_agree(one: bool, k: usize, types: [TaskType; TYPE_LIMIT]) -> bool
+    ensures { λ r. ⌜ r ≡ kindsAgree one k types ⌝ }
+{
+    for i in 0..TYPE_LIMIT {
+        if k <= i {
+            return true;
+        }
+        let t = types[i];
+        let there = t.there;
+        if given(there) == one {
+            return false;
+        }
+    }
+    true
+}
+
+// All of the second kind is given, or nothing: 41.
+pub fn kinds_fault(y: System) -> u8
+    ensures { λ r. ⌜ r ≡ kindsFault y ⌝ }
+{
+    let second = y.second;
+    let types = y.types;
+    if !kinds_agree(is_one_kind(second), y.typecount, types) {
+        return 41;
+    }
+    0
+}
+
 // The entry is one past k.
 fn zero_task(t: TaskType) -> bool
     ensures { λ r. ⌜ r ≡ zeroTask t ⌝ }
 {
     let most = t.most;
-    (t.time == 0) & (t.memory == 0) & (t.ceiling == 0) & (t.data == 0) & not_given(most)
+    let there = t.there;
+    let none = (t.time == 0) & (t.memory == 0) & (t.ceiling == 0) & (t.data == 0);
+    none & not_given(most) & !given(there)
 }
 
 // The entry is a type within the limits.
@@ -121,7 +215,8 @@ fn sound_task(t: TaskType) -> bool
     ensures { λ r. ⌜ r ≡ soundTask t ⌝ }
 {
     let most = t.most;
-    (type_fault(t) == 0) & (most_fault(most) == 0)
+    let there = t.there;
+    (type_fault(t) == 0) & (most_fault(most) == 0) & (costs_fault(there) == 0)
 }
 
 // The entry at i, where the first k are types.
@@ -134,7 +229,7 @@ fn task_keeps(i: usize, k: usize, t: TaskType) -> bool
     zero_task(t)
 }
 
-// Six entries, the first k within the limits and the others 0 and without q.
+// Six entries, the first k within the limits and the others 0, with nothing given.
 fn types_keep(k: usize, types: [TaskType; TYPE_LIMIT]) -> bool
     ensures { λ r. ⌜ r ≡ eqb (length types) typeLimit && typesKeep k types ⌝ }
 {
@@ -147,14 +242,23 @@ fn types_keep(k: usize, types: [TaskType; TYPE_LIMIT]) -> bool
     true
 }
 
-// Every limit of document 01, and zero entries past k.
-pub fn keeps_limits(y: System) -> bool
-    ensures { λ r. ⌜ r ≡ keepsLimits y ⌝ }
+// Every limit of a card, of one kind of engine or two, and zero entries past k.
+fn keeps_card(y: System) -> bool
+    ensures { λ r. ⌜ r ≡ keepsCard y ⌝ }
 {
     let types = y.types;
+    let second = y.second;
     let k = y.typecount;
     let platform = platform_fault(y.engines, y.rule, y.timecap, y.memorycap) == 0;
     let counted = platform & (1 <= k) & (k <= TYPE_LIMIT);
-    let keep = counted & types_keep(k, types);
-    keep & (columns_fault(types) == 0)
+    let keep = counted & types_keep(k, types) & (columns_fault(types) == 0);
+    keep & (second_fault(y.engines, second) == 0) & (kinds_fault(y) == 0)
+}
+
+// Every limit of document 01, zero entries past k, and one kind of engine: a system that a file gives of which a board is opened.
+pub fn keeps_limits(y: System) -> bool
+    ensures { λ r. ⌜ r ≡ keepsLimits y ⌝ }
+{
+    let second = y.second;
+    keeps_card(y) & is_one_kind(second)
 }

@@ -2,21 +2,25 @@
 ghost use mathlib.Core.Path.{_≡_};
 ghost use Prim.Native.Nat.{_<_};
 ghost use lib.ListN.{getD, drop};
-ghost use Rattle.system.specs.Inner.{partOf, Typed, BodyReady};
+ghost use Rattle.system.specs.Inner.{partOf, Typed, PastTypes, BodyReady};
 ghost use Rattle.system.specs.Limits.{typeLimit};
 ghost use Rattle.system.specs.Layout.{word2, word4, fieldAt, headFrom, seenOf, ruledField};
-ghost use Rattle.system.specs.Layout.{unlessFault, platformOf, typeOf, dataOf, mostOf, bodyOf, endOf, readFile, unread, Reads};
+ghost use Rattle.system.specs.Layout.{unlessFault, platformOf, typeOf, dataOf, mostOf, secondOf, costsOf, bodyOf, endOf, readCard, readFile, unread, Reads};
 use crate::Answer;
+use crate::Costs;
 use crate::Most;
 use crate::Opened;
 use crate::Refusal;
 use crate::System;
+use crate::There;
 use crate::limits;
 use crate::rules;
+use crate::rules::COSTS;
 use crate::rules::DATA;
 use crate::rules::FieldRule;
 use crate::rules::MOST;
 use crate::rules::RuleFound;
+use crate::rules::SECOND;
 use crate::rules::TYPE;
 use crate::values;
 
@@ -150,7 +154,7 @@ fn head_of(field: Field, last: u8) -> Head
 }
 
 // How many fields of this tag were read before, where their number decides: that of types. Any other field stands
-// only where `may_follow` lets it: a platform once, d and q once for each type.
+// only where `may_follow` lets it: a platform and a second kind once, all others once for each type.
 fn seen_of(tag: u8, y: System) -> usize
     ensures { λ r. ⌜ r ≡ seenOf tag y ⌝ }
 {
@@ -223,6 +227,29 @@ fn most_of(b: &[u8], y: System) -> Opened
     unless_fault(limits::most_fault(Most::AtMost(q)), values::with_last(t, y))
 }
 
+// The body of a second kind of engine: its number, U, S.
+fn second_of(b: &[u8], y: System) -> Opened
+    ensures { λ r. ⌜ Reads (secondOf (now (b .entry)) y) r ⌝ }
+{
+    let n = byte_at(b, 0) as usize;
+    let time = four_bytes(b, 1);
+    let memory = four_bytes(b, 5);
+    let fault = limits::kind_fault(y.engines, n, time, memory);
+    unless_fault(fault, values::with_second(n, time, memory, y))
+}
+
+// The body of a type's u and s on the second kind, for the last type.
+fn costs_of(b: &[u8], y: System) -> Opened
+    requires { ⌜ Typed y ⌝ }
+    ensures { λ r. ⌜ Reads (costsOf (now (b .entry)) y) r ⌝ }
+{
+    let time = four_bytes(b, 0);
+    let memory = four_bytes(b, 4);
+    let t = values::with_costs(time, memory, values::last_type(y));
+    let fault = limits::costs_fault(There::Takes(Costs { time, memory }));
+    unless_fault(fault, values::with_last(t, y))
+}
+
 // A field's body, where its head has a rule: 7, then what its tag says of it.
 fn body_of(rule: FieldRule, b: &[u8], y: System) -> Opened
     requires { ⌜ BodyReady rule y ⌝ }
@@ -241,12 +268,18 @@ fn body_of(rule: FieldRule, b: &[u8], y: System) -> Opened
     if tag == MOST {
         return most_of(b, y);
     }
+    if tag == SECOND {
+        return second_of(b, y);
+    }
+    if tag == COSTS {
+        return costs_of(b, y);
+    }
     platform_of(b, y)
 }
 
 // A field: its head, then its body.
 fn field_of(field: Field, b: &[u8], last: u8, y: System) -> Opened
-    requires { ⌜ (1 < last → Typed y) ⌝ }
+    requires { ⌜ (PastTypes last → Typed y) ⌝ }
     ensures { λ r. ⌜ Reads (ruledField (headFrom (field .headed) (field .tag) (field .size) (field .whole) last) (now (b .entry)) y) r ⌝ }
 {
     let head = head_of(field, last);
@@ -256,20 +289,24 @@ fn field_of(field: Field, b: &[u8], last: u8, y: System) -> Opened
     }
 }
 
-// The end of the file: 9, then 10.
+// The end of the file: 9, 41, 10.
 fn end_of(last: u8, y: System) -> Opened
     ensures { λ r. ⌜ Reads (endOf last y) r ⌝ }
 {
     if (last == 0) | (y.typecount == 0) {
         return refused(9);
     }
+    let fault = limits::kinds_fault(y);
+    if fault != 0 {
+        return refused(fault);
+    }
     let types = y.types;
     unless_fault(limits::columns_fault(types), y)
 }
 
-// The system of a file, or refusals 1 to 10 and 31.
-pub fn read_system(file: &[u8]) -> Opened
-    ensures { λ r. ⌜ Reads (readFile (now (file .entry))) r ⌝ }
+// The system of a file, of one kind of engine or two, or refusals 1 to 10, 31 and 41.
+pub fn read_card(file: &[u8]) -> Opened
+    ensures { λ r. ⌜ Reads (readCard (now (file .entry))) r ⌝ }
 {
     let mut c = Cursor { at: 0 };
     let mut last: u8 = 0;
@@ -287,4 +324,17 @@ pub fn read_system(file: &[u8]) -> Opened
         c = next;
     }
     end_of(last, y)
+}
+
+// The system of a file that is wanted of one kind of engine: 42 where it has two.
+pub fn read_system(file: &[u8]) -> Opened
+    ensures { λ r. ⌜ Reads (readFile (now (file .entry))) r ⌝ }
+{
+    let r = read_card(file);
+    let y = r.system;
+    let second = y.second;
+    if limits::is_one_kind(second) {
+        return r;
+    }
+    refused(42)
 }

@@ -31,8 +31,12 @@ pub const DATA: u8 = 3;
 
 pub const MOST: u8 = 4;
 
+pub const SECOND: u8 = 6;
+
+pub const COSTS: u8 = 7;
+
 // The table of fields: refusals 2, 4 and 7 are decided from it.
-const RULES: [FieldRule; 4] = [
+const RULES: [FieldRule; 6] = [
     FieldRule {
         tag: PLATFORM,
         body: 10, // m, rule, U, S
@@ -53,17 +57,27 @@ const RULES: [FieldRule; 4] = [
         body: 2, // q (request 2026-04)
         allowed: TYPE_LIMIT, // one for each type
     },
+    FieldRule {
+        tag: SECOND,
+        body: 9, // the second kind's number, U, S (request 2026-13)
+        allowed: 1,
+    },
+    FieldRule {
+        tag: COSTS,
+        body: 8, // u, s there
+        allowed: TYPE_LIMIT, // one for each type
+    },
 ];
 
 // Which field may follow which: refusal 3 is decided from it alone.
-const FOLLOWS: [Follow; 8] = [
+const FOLLOWS: [Follow; 14] = [
     Follow {
         tag: PLATFORM,
         last: 0,
     },
     Follow {
         tag: TYPE,
-        last: PLATFORM,
+        last: PLATFORM, // a card of one kind
     },
     Follow {
         tag: TYPE,
@@ -88,6 +102,30 @@ const FOLLOWS: [Follow; 8] = [
     Follow {
         tag: TYPE,
         last: MOST,
+    },
+    Follow {
+        tag: SECOND, // directly after the platform, and once
+        last: PLATFORM,
+    },
+    Follow {
+        tag: TYPE,
+        last: SECOND,
+    },
+    Follow {
+        tag: COSTS, // last after its type, and once
+        last: TYPE,
+    },
+    Follow {
+        tag: COSTS,
+        last: DATA,
+    },
+    Follow {
+        tag: COSTS,
+        last: MOST,
+    },
+    Follow {
+        tag: TYPE,
+        last: COSTS,
     },
 ];
 

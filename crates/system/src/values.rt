@@ -2,14 +2,18 @@
 ghost use mathlib.Core.Path.{_≡_};
 ghost use Prim.Native.Nat.{_<_};
 ghost use Rattle.system.specs.Limits.{typeLimit};
-ghost use Rattle.system.specs.Values.{taskOf, withData, withMost, noTask, blank, withPlatform, withType, lastType, withLast, clearedTypes, cleared};
+ghost use Rattle.system.specs.Values.{taskOf, withData, withMost, withCosts, noTask, blank, withPlatform, withSecond, withType, lastType, withLast, clearedTypes, cleared};
 ghost use Rattle.system.specs.Inner.{Typed};
+use crate::Costs;
+use crate::Kind;
 use crate::Most;
+use crate::Second;
 use crate::System;
 use crate::TYPE_LIMIT;
 use crate::TaskType;
+use crate::There;
 
-// A type of these u, s and n: without its field, d is 0, and no q is given.
+// A type of these u, s and n: without their fields, d is 0, no q is given, and nothing of a second kind.
 pub(crate) fn task_of(time: u32, memory: u32, ceiling: u16) -> TaskType
     ensures { λ r. ⌜ r ≡ taskOf time memory ceiling ⌝ }
 {
@@ -19,6 +23,7 @@ pub(crate) fn task_of(time: u32, memory: u32, ceiling: u16) -> TaskType
         ceiling,
         data: 0,
         most: Most::NotGiven,
+        there: There::Absent,
     }
 }
 
@@ -35,12 +40,29 @@ pub(crate) fn with_data(d: u32, t: TaskType) -> TaskType
 pub(crate) fn with_most(q: u16, t: TaskType) -> TaskType
     ensures { λ r. ⌜ r ≡ withMost q t ⌝ }
 {
+    let there = t.there;
     TaskType {
         time: t.time,
         memory: t.memory,
         ceiling: t.ceiling,
         data: t.data,
         most: Most::AtMost(q),
+        there,
+    }
+}
+
+// The type with its u and s on the second kind.
+pub(crate) fn with_costs(time: u32, memory: u32, t: TaskType) -> TaskType
+    ensures { λ r. ⌜ r ≡ withCosts time memory t ⌝ }
+{
+    let most = t.most;
+    TaskType {
+        time: t.time,
+        memory: t.memory,
+        ceiling: t.ceiling,
+        data: t.data,
+        most,
+        there: There::Takes(Costs { time, memory }),
     }
 }
 
@@ -62,6 +84,7 @@ pub fn blank_system() -> System
         memorycap: 0,
         typecount: 0,
         types: [no_task(); TYPE_LIMIT],
+        second: Second::OneKind,
     }
 }
 
@@ -75,6 +98,26 @@ pub(crate) fn with_platform(m: usize, rule: u8, time: u32, memory: u32, y: Syste
     z.timecap = time;
     z.memorycap = memory;
     z
+}
+
+// The system with a second kind of engine: its number, U and S.
+pub(crate) fn with_second(number: usize, time: u32, memory: u32, y: System) -> System
+    ensures { λ r. ⌜ r ≡ withSecond number time memory y ⌝ }
+{
+    let types = y.types;
+    System {
+        engines: y.engines,
+        rule: y.rule,
+        timecap: y.timecap,
+        memorycap: y.memorycap,
+        typecount: y.typecount,
+        types: types,
+        second: Second::TwoKinds(Kind {
+            number: number,
+            timecap: time,
+            memorycap: memory,
+        }),
+    }
 }
 
 // The system with one type more, at the next type number.
@@ -110,7 +153,7 @@ pub(crate) fn with_last(t: TaskType, y: System) -> System
     z
 }
 
-// Six entries with 0 and no q from k on, whatever stood there.
+// Six entries with 0 and nothing given from k on, whatever stood there.
 fn cleared_types(k: usize, types: [TaskType; TYPE_LIMIT]) -> [TaskType; TYPE_LIMIT]
     ensures { λ r. ⌜ r ≡ clearedTypes k types ⌝ }
 {
@@ -121,7 +164,7 @@ fn cleared_types(k: usize, types: [TaskType; TYPE_LIMIT]) -> [TaskType; TYPE_LIM
     left
 }
 
-// The system with 0 and no q past k, whatever stood there.
+// The system with 0 and nothing given past k, whatever stood there.
 pub fn cleared(y: System) -> System
     ensures { λ r. ⌜ r ≡ cleared y ⌝ }
 {

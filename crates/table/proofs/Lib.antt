@@ -20,6 +20,7 @@ pub mod Recovered
 pub mod Chained
 pub mod Spread
 pub mod Placed
+pub mod Cards
 pub mod Room
 pub mod Reading
 pub mod Meaning

@@ -12,11 +12,14 @@ use lib.ListN.{length, getD, length-map}
 use lib.Dec.{leb, ltb, eqb}
 use Rattle.system.specs.declared.System.{System}
 use Rattle.system.specs.declared.Answer.{Answer}
+use Rattle.system.specs.declared.Kind.{Kind}
 use Rattle.system.specs.Values.{ceilingsOf}
-use Rattle.system.specs.Limits.{columns, keepsLimits}
-use Rattle.system.specs.Layout.{Reading, readFile, opened, unread}
+use Rattle.system.specs.Limits.{typeLimit, columns, keepsLimits}
+use Rattle.system.specs.Layout.{Reading, readCard, opened, unread}
+use Rattle.system.specs.Card.{Card, mixed, firstOf, cardOf}
 use Rattle.system.specs.Outcome.{Outcome, Source, accepted, refused, fromInput, outcomeOf}
-use Rattle.system.proofs.Laws.{Limits, limits-keep, columnsOf-pos, read-limits}
+use Rattle.system.proofs.Laws.{Limits, limits-keep, columnsOf-pos, read-card-limits}
+use Rattle.system.proofs.CardLaws.{first-columns}
 use Rattle.loads.specs.Load.{fitsEngine, within, less}
 use Rattle.loads.specs.Column.{columnFrom, columnOf, loadOf}
 use Rattle.loads.proofs.Order.{Below, none, more}
@@ -33,8 +36,8 @@ use Rattle.partition.proofs.Plain.{columns-out, ceiling-out, impossible-out}
 use Rattle.partition.specs.Lent.{Lent}
 use Rattle.table.specs.Parts.{lowestFor, rowAt, predecessorAt}
 use Rattle.table.specs.Pairs.{triedAt, Pair, cellPairs, rowCounted, pairsCounted, countedOf}
-use Rattle.table.specs.Table.{longEnough, filledTo, fillOutcome, fillTable, columnsNeeded}
-use Rattle.table.specs.Meaning.{countIn, strideAfter, columnNo, noGreater, rowOf, predecessorOf, MayPrecede, FilledMeans, sumBelow, triedOut, pairsOut, FillPromises, NeedPromises}
+use Rattle.table.specs.Table.{longEnough, filledTo, fillOutcome, fillTable, fillCardOutcome, fillCardTable, columnsNeeded}
+use Rattle.table.specs.Meaning.{countIn, strideAfter, columnNo, noGreater, rowOf, predecessorOf, MayPrecede, FilledMeans, sumBelow, triedOut, pairsOut, FillPromises, KeptPast, FillMixed, FillCall, NeedPromises}
 use Rattle.table.proofs.Filled.{length-partOf, getD-partOf, past-partOf}
 use Rattle.table.proofs.Sums.{sum-same, sum-constant}
 use Rattle.table.proofs.Pairs.{length-forEach, EndsAt, tried-counted, cell-ends}
@@ -42,7 +45,8 @@ use Rattle.table.proofs.Preceding.{cell-one}
 use Rattle.table.proofs.LowestRows.{row-yes, row-zero, row-pos, row-at}
 use Rattle.table.proofs.Counted.{forEach-those}
 use Rattle.table.proofs.CountedBound.{counted-bound, counted-met}
-use Rattle.table.proofs.Room.{long-enough-out, too-short-out}
+use Rattle.table.proofs.Cards.{plain-known, mixed-known}
+use Rattle.table.proofs.Room.{long-six, short-six, long-enough-out, too-short-out}
 
 -- intermediate: a cell that says no
 
@@ -465,14 +469,15 @@ as-lent (opened y) a {table = table} {after = after} left told s n o = go (longE
     go true q = let yes : a ≡ accepted (countedOf y (y .engines) ∷ []) = told ∙ rw q in clash a yes o
     go false q = left ∙ rw q
 
-module _ (x : Reading) (known : (y : System) → x ≡ opened y → Limits y) (answer : Answer) where
-  pub need-promises : outcomeOf answer ≡ columnsNeeded x → NeedPromises x answer
-  need-promises e = record {
-    answers = e;
-    refuses = λ n is. e ∙ ap columnsNeeded is;
-    needs = λ y is. e ∙ ap columnsNeeded is ∙ ap (λ (c : ℕ). accepted (c ∷ [])) (sym (columns-out y (known y is .six)));
-  }
+-- the shortest parts that 11 passes, of six types
+need-promises : (x : Reading) → ((y : System) → x ≡ opened y → length (y .types) ≡ typeLimit) → (answer : Answer) → outcomeOf answer ≡ columnsNeeded x → NeedPromises x answer
+need-promises x six answer e = record {
+  answers = e;
+  refuses = λ n is. e ∙ ap columnsNeeded is;
+  needs = λ y is. e ∙ ap columnsNeeded is ∙ ap (λ (c : ℕ). accepted (c ∷ [])) (sym (columns-out y (six y is)));
+}
 
+module _ (x : Reading) (known : (y : System) → x ≡ opened y → Limits y) (answer : Answer) where
   module _ (table after : Lent) (told : outcomeOf answer ≡ fillOutcome x table) (left : after ≡ fillTable x table) where
     long-is : (y : System) → x ≡ opened y → LongEnough y table → longEnough y table ≡ true
     long-is y is h = long-enough-out y table (limits-keep y (known y is)) .1 h
@@ -515,10 +520,60 @@ module _ (x : Reading) (known : (y : System) → x ≡ opened y → Limits y) (a
       asLent = λ s n o. as-lent x (outcomeOf answer) left told s n o;
     }
 
+-- of two kinds: what a fill for the first leaves past the columns
+
+module _ (y : System) (six : length (y .types) ≡ typeLimit) (table : Lent) where
+  past-columns : (c : ℕ) → columnsOut y ≤ c → columns (firstOf y) ≤ c
+  past-columns c h = omega (arith, h, columns-out y six, first-columns y)
+
+  pub kept-past : (r : ℕ) → longEnough y table ≡ true → KeptPast y table (filledTo (firstOf y) r table)
+  kept-past r long =
+      let room = long-six y table six .0 long in
+      record {
+        past = λ c h. (past-partOf (firstOf y) (rowAt (firstOf y) r) (table .rows) c (past-columns c h), past-partOf (firstOf y) (predecessorAt (firstOf y) r) (table .predecessors) c (past-columns c h));
+        asLong = (
+          length-partOf (firstOf y) (rowAt (firstOf y) r) (table .rows) (past-columns (length (table .rows)) (room .0)),
+          length-partOf (firstOf y) (predecessorAt (firstOf y) r) (table .predecessors) (past-columns (length (table .predecessors)) (room .1)),
+        );
+      }
+
+  pub kept-same : KeptPast y table table
+  kept-same = record { past = λ c h. (refl, refl); asLong = (refl, refl) }
+
+  fill-mixed : (k : Kind) (answer : Answer) (after : Lent) → outcomeOf answer ≡ fillCardOutcome (mixed y k) table → after ≡ fillCardTable (mixed y k) table → FillMixed y table answer after
+  fill-mixed k answer after told left = go (longEnough y table) refl
+    where
+      go : (b : Bool) → longEnough y table ≡ b → FillMixed y table answer after
+      go true q =
+          let yes : outcomeOf answer ≡ accepted [] = told ∙ rw q in
+          let done : after ≡ filledTo (firstOf y) (y .engines) table = left ∙ rw q in
+          record {
+            thenTable = ((λ o. clash (outcomeOf answer) yes o), (λ h. absurd (not-both q (short-six y table six .1 h))));
+            accepts = λ h. yes;
+            asLent = λ s n o. clash (outcomeOf answer) yes o;
+            kept = rw done (kept-past (y .engines) q);
+          }
+      go false q =
+          let none : outcomeOf answer ≡ refused fromInput 11 = told ∙ rw q in
+          let same : after ≡ table = left ∙ rw q in
+          record {
+            thenTable = ((λ o. short-six y table six .0 q), (λ h. none));
+            accepts = λ h. absurd (not-both (long-six y table six .1 h) q);
+            asLent = λ s n o. same;
+            kept = rw same kept-same;
+          }
+
 -- of a file
 module _ (file : List ℕ) where
-  pub file-needs : (a : Answer) → outcomeOf a ≡ columnsNeeded (readFile file) → NeedPromises (readFile file) a
-  file-needs a e = need-promises (readFile file) (read-limits file) a e
+  pub file-needs : (a : Answer) → outcomeOf a ≡ columnsNeeded (readCard file) → NeedPromises (readCard file) a
+  file-needs a e = need-promises (readCard file) (λ y is. read-card-limits file y is .six) a e
 
-  pub file-fills : (a : Answer) (table after : Lent) → (outcomeOf a ≡ fillOutcome (readFile file) table) × (after ≡ fillTable (readFile file) table) → FillPromises (readFile file) table a after
-  file-fills a table after (told, left) = fill-promises (readFile file) (read-limits file) a table after told left
+  pub file-fills : (a : Answer) (table after : Lent) → (outcomeOf a ≡ fillCardOutcome (cardOf (readCard file)) table) × (after ≡ fillCardTable (cardOf (readCard file)) table) → FillCall (cardOf (readCard file)) table a after
+  file-fills a table after (told, left) = record {
+    answers = told;
+    leaves = left;
+    oneKind = λ x is.
+        fill-promises x (plain-known file x is) a table after (told ∙ ap (λ (c : Card). fillCardOutcome c table) is) (left ∙ ap (λ (c : Card). fillCardTable c table) is);
+    twoKinds = λ y k is.
+        fill-mixed y (mixed-known file y k is .six) table k a after (told ∙ ap (λ (c : Card). fillCardOutcome c table) is) (left ∙ ap (λ (c : Card). fillCardTable c table) is);
+  }

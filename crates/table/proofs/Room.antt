@@ -7,7 +7,7 @@ use borrow.Author.Tests.{leb-true, leb-false, le-leb, lt-leb}
 use lib.ListN.{length}
 use lib.Dec.{leb}
 use Rattle.system.specs.declared.System.{System}
-use Rattle.system.specs.Limits.{columns, keepsLimits}
+use Rattle.system.specs.Limits.{typeLimit, columns, keepsLimits}
 use Rattle.system.proofs.Laws.{limits-of}
 use Rattle.partition.specs.Lent.{Lent}
 use Rattle.partition.specs.Plain.{columnsOut, LongEnough, TooShort}
@@ -15,11 +15,12 @@ use Rattle.loads.proofs.Order.{and-parts, and-both}
 use Rattle.partition.proofs.Plain.{columns-out}
 use Rattle.table.specs.Table.{longEnough}
 
-pub long-enough-out : (y : System) (table : Lent) → keepsLimits y ≡ true → (longEnough y table ≡ true) ↔ LongEnough y table
-long-enough-out y table limits = (there, back)
+-- of six types, whatever their limits
+pub long-six : (y : System) (table : Lent) → length (y .types) ≡ typeLimit → (longEnough y table ≡ true) ↔ LongEnough y table
+long-six y table six = (there, back)
   where
     same : columnsOut y ≡ columns y
-    same = columns-out y (limits-of y limits .six)
+    same = columns-out y six
 
     there : longEnough y table ≡ true → LongEnough y table
     there h =
@@ -31,11 +32,11 @@ long-enough-out y table limits = (there, back)
         let (a, b) = rw same at h in
         and-both (leb (columns y) (length (table .rows))) (leb (columns y) (length (table .predecessors))) (le-leb (columns y) (length (table .rows)) a) (le-leb (columns y) (length (table .predecessors)) b)
 
-pub too-short-out : (y : System) (table : Lent) → keepsLimits y ≡ true → (longEnough y table ≡ false) ↔ TooShort y table
-too-short-out y table limits = rw same (there (leb (columns y) (length (table .rows))) refl (leb (columns y) (length (table .predecessors))) refl, back)
+pub short-six : (y : System) (table : Lent) → length (y .types) ≡ typeLimit → (longEnough y table ≡ false) ↔ TooShort y table
+short-six y table six = rw same (there (leb (columns y) (length (table .rows))) refl (leb (columns y) (length (table .predecessors))) refl, back)
   where
     same : columnsOut y ≡ columns y
-    same = columns-out y (limits-of y limits .six)
+    same = columns-out y six
 
     there : (a : Bool) → leb (columns y) (length (table .rows)) ≡ a → (b : Bool) → leb (columns y) (length (table .predecessors)) ≡ b → (a && b) ≡ false → (length (table .rows) < columns y) ⊎ (length (table .predecessors) < columns y)
     there false p b q h = inl (leb-false (columns y) (length (table .rows)) p)
@@ -45,3 +46,10 @@ too-short-out y table limits = rw same (there (leb (columns y) (length (table .r
     back : (length (table .rows) < columns y) ⊎ (length (table .predecessors) < columns y) → longEnough y table ≡ false
     back (inl l) = rw (lt-leb (columns y) (length (table .rows)) l)
     back (inr l) = rw (lt-leb (columns y) (length (table .predecessors)) l) (and-false (leb (columns y) (length (table .rows))))
+
+-- and so of a system within the limits
+pub long-enough-out : (y : System) (table : Lent) → keepsLimits y ≡ true → (longEnough y table ≡ true) ↔ LongEnough y table
+long-enough-out y table limits = long-six y table (limits-of y limits .six)
+
+pub too-short-out : (y : System) (table : Lent) → keepsLimits y ≡ true → (longEnough y table ≡ false) ↔ TooShort y table
+too-short-out y table limits = short-six y table (limits-of y limits .six)

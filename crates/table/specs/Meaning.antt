@@ -9,13 +9,15 @@ use lib.Dec.{leb, ltb}
 use Rattle.system.specs.declared.System.{System}
 use Rattle.system.specs.declared.Answer.{Answer}
 use Rattle.system.specs.Values.{ceilingsOf}
+use Rattle.system.specs.declared.Kind.{Kind}
 use Rattle.system.specs.Layout.{Reading, opened, unread}
+use Rattle.system.specs.Card.{Card, plain, mixed}
 use Rattle.system.specs.Outcome.{Outcome, Source, accepted, refused, fromInput, outcomeOf}
 use Rattle.loads.specs.Column.{loadOf}
 use Rattle.partition.specs.ForSystem.{cellFor}
 use Rattle.partition.specs.Lent.{Lent}
 use Rattle.partition.specs.Plain.{typeNo, ceilingNo, columnsOut, LongEnough, TooShort, Impossible}
-use Rattle.table.specs.Table.{fillOutcome, fillTable, columnsNeeded}
+use Rattle.table.specs.Table.{fillOutcome, fillTable, fillCardOutcome, fillCardTable, columnsNeeded}
 
 -- how many instances of type t, counted from 1, the load of column c has
 abbrev pub countIn : System → ℕ → ℕ → ℕ
@@ -111,7 +113,7 @@ boundOut y =
 abbrev pub NoneFits : System → Type 0
 NoneFits y = (t : ℕ) → 1 ≤ t → 1 ≤ ceilingNo y t → (y .timecap < typeNo y t .time) ⊎ (y .memorycap < typeNo y t .memory + typeNo y t .data)
 
--- what the call `fill_table` promises: 1 to 10 and 31, then 11 exactly where a part is too short, and the table as lent; else the table filled, and the answer is the number of pairs tried,
+-- what the call `fill_table` promises: 1 to 10, 31 and 41, then 11 exactly where a part is too short, and the table as lent; else the table filled, and the answer is the number of pairs tried,
 -- at most m times the product, and m less than that where no type fits: column 0 never counts
 pub record FillPromises (x : Reading) (table : Lent) (answer : Answer) (after : Lent) : Type 0 where
   pub answers : outcomeOf answer ≡ fillOutcome x table
@@ -123,6 +125,25 @@ pub record FillPromises (x : Reading) (table : Lent) (answer : Answer) (after : 
   pub bounded : (y : System) (pairs : ℕ) → x ≡ opened y → outcomeOf answer ≡ accepted (pairs ∷ []) → pairs ≤ y .engines * boundOut y
   pub met : (y : System) (pairs : ℕ) → x ≡ opened y → outcomeOf answer ≡ accepted (pairs ∷ []) → NoneFits y → pairs + y .engines ≡ y .engines * boundOut y
   pub asLent : (s : Source) (n : ℕ) → outcomeOf answer ≡ refused s n → after ≡ table
+
+-- Request 2026-13: "free .. are the table's first entries, one for each column in each part", of a card of two kinds; all later ones are as they were
+pub record KeptPast (y : System) (table after : Lent) : Type 0 where
+  pub past : (c : ℕ) → columnsOut y ≤ c → (rowOf after c ≡ rowOf table c) × (predecessorOf after c ≡ predecessorOf table c)
+  pub asLong : (length (after .rows) ≡ length (table .rows)) × (length (after .predecessors) ≡ length (table .predecessors))
+
+-- what the call `fill_table` promises of such a card: 11 exactly where a part is too short, and the table as lent; else accepted, and "no pairs are reported"
+pub record FillMixed (y : System) (table : Lent) (answer : Answer) (after : Lent) : Type 0 where
+  pub thenTable : (outcomeOf answer ≡ refused fromInput 11) ↔ TooShort y table
+  pub accepts : LongEnough y table → outcomeOf answer ≡ accepted []
+  pub asLent : (s : Source) (n : ℕ) → outcomeOf answer ≡ refused s n → after ≡ table
+  pub kept : KeptPast y table after
+
+-- and of any card: of one kind what it promised before, word for word
+pub record FillCall (c : Card) (table : Lent) (answer : Answer) (after : Lent) : Type 0 where
+  pub answers : outcomeOf answer ≡ fillCardOutcome c table
+  pub leaves : after ≡ fillCardTable c table
+  pub oneKind : (x : Reading) → c ≡ plain x → FillPromises x table answer after
+  pub twoKinds : (y : System) (k : Kind) → c ≡ mixed y k → FillMixed y table answer after
 
 -- what the call `columns_needed` promises: the shortest parts that 11 passes
 pub record NeedPromises (x : Reading) (answer : Answer) : Type 0 where

@@ -7,6 +7,7 @@ use lib.Dec.{leb}
 use Rattle.system.specs.declared.System.{System}
 use Rattle.system.specs.Limits.{columns, engineLimit}
 use Rattle.system.specs.Layout.{Reading, opened, unread}
+use Rattle.system.specs.Card.{Card, plain, mixed, firstOf}
 use Rattle.system.specs.Outcome.{Outcome, accepted, refused, fromInput, Checked, check, unlessFails}
 use Rattle.loads.specs.Load.{engineWith, idleEngine}
 use Rattle.partition.specs.Assignment.{enginesTo}
@@ -44,7 +45,7 @@ filledTo y r table = record { rows = partOf y (rowAt y r) (table .rows); predece
 abbrev pub filled : System → List ℕ → Lent → Lent
 filled y es table = filledTo y (length es) table
 
--- a call that only fills: 1 to 10 and 31, 11, else accepted with the number of pairs tried (request 2026-05)
+-- a call that only fills: 1 to 10, 31 and 41, 11, else accepted with the number of pairs tried (request 2026-05)
 abbrev pub fillOutcome : Reading → Lent → Outcome
 fillOutcome (unread n) table = refused fromInput n
 fillOutcome (opened y) table = unlessFails (tableCheck y table) (accepted (countedOf y (y .engines) ∷ []))
@@ -52,6 +53,15 @@ fillOutcome (opened y) table = unlessFails (tableCheck y table) (accepted (count
 abbrev pub fillTable : Reading → Lent → Lent
 fillTable (unread n) table = table
 fillTable (opened y) table = cond (longEnough y table) (filled y (enginesTo (y .engines)) table) table
+
+-- of a card of two kinds of engine (request 2026-13): "no pairs are reported", and "free .. are the table's first entries", which are left as a fill for the first kind leaves them
+abbrev pub fillCardOutcome : Card → Lent → Outcome
+fillCardOutcome (plain x) table = fillOutcome x table
+fillCardOutcome (mixed y k) table = unlessFails (tableCheck y table) (accepted [])
+
+abbrev pub fillCardTable : Card → Lent → Lent
+fillCardTable (plain x) table = fillTable x table
+fillCardTable (mixed y k) table = cond (longEnough y table) (filledTo (firstOf y) (y .engines) table) table
 
 -- nothing is placed
 abbrev pub unplaced : Placement

@@ -174,7 +174,7 @@ fn entry_at(
 }
 
 // Fills both parts for rows 0 to `engines`, and answers the pairs counted. What they held before changes nothing.
-pub(crate) fn fill(rows: &mut [u16], predecessors: &mut [u16], y: System, engines: usize) -> usize
+pub fn fill_parts(rows: &mut [u16], predecessors: &mut [u16], y: System, engines: usize) -> usize
     requires { ⌜ (keepsLimits y ≡ true) × (engines ≤ y .engines) × (columns y ≤ length (now rows)) × (columns y ≤ length (now predecessors)) ⌝ }
     ensures { λ r. ⌜ (now (rows .exit) ≡ partOf y (rowAt y engines) (now (rows .entry)))
         × (now (predecessors .exit) ≡ partOf y (predecessorAt y engines) (now (predecessors .entry)))

@@ -1,8 +1,8 @@
 // How much of a lent table a system needs.
 ghost use mathlib.Core.Path.{_≡_};
-ghost use mathlib.Core.Bool.{true};
-ghost use Rattle.system.specs.Limits.{columns, keepsLimits};
-ghost use Rattle.system.specs.Layout.{readFile};
+ghost use Prim.Native.Nat.{_≤_};
+ghost use Rattle.system.specs.Limits.{columns, columnLimit};
+ghost use Rattle.system.specs.Layout.{readCard};
 ghost use Rattle.system.specs.Outcome.{checkedOf};
 ghost use Rattle.table.specs.Table.{roomCheck};
 ghost use Rattle.table.specs.Meaning.{NeedPromises};
@@ -11,9 +11,9 @@ use system::Check;
 use system::Refusal;
 use system::System;
 
-// The columns of a system within the limits.
-pub(crate) fn columns_of(y: System) -> usize
-    requires { ⌜ keepsLimits y ≡ true ⌝ }
+// The columns of a system within the limits, of one kind of engine or two.
+pub fn columns_of(y: System) -> usize
+    requires { ⌜ columns y ≤ columnLimit ⌝ }
     ensures { λ r. ⌜ r ≡ columns y ⌝ }
 {
     let types = y.types;
@@ -22,7 +22,7 @@ pub(crate) fn columns_of(y: System) -> usize
 
 // Refusal 11: parts of `rows` and of `predecessors` entries, of which one is shorter than the columns.
 pub fn table_check(y: System, rows: usize, predecessors: usize) -> Check
-    requires { ⌜ keepsLimits y ≡ true ⌝ }
+    requires { ⌜ columns y ≤ columnLimit ⌝ }
     ensures { λ r. ⌜ checkedOf r ≡ roomCheck y rows predecessors ⌝ }
 {
     let columns = columns_of(y);
@@ -32,11 +32,11 @@ pub fn table_check(y: System, rows: usize, predecessors: usize) -> Check
     Check::Fails(Refusal::Input(11))
 }
 
-// The entries that each part of the table of a system file must have, one for each column: refused 1 to 10 and 31 as the file is read.
+// The entries that each part of the table of a system file must have, one for each column: refused 1 to 10, 31 and 41 as the file is read.
 pub fn columns_needed(file: &[u8]) -> Answer
-    ensures { λ r. ⌜ NeedPromises (readFile (now (file .entry))) r ⌝ }
+    ensures { λ r. ⌜ NeedPromises (readCard (now (file .entry))) r ⌝ }
 {
-    let opened = system::read_system(file);
+    let opened = system::read_card(file);
     let answer = opened.answer;
     let Answer::Accepted = answer else {
         return answer;

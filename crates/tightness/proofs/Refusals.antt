@@ -1,4 +1,4 @@
--- The numbers for which a file is refused as it is read: 1 to 10 and 31, whatever its bytes.
+-- The numbers for which a file is refused as it is read: 1 to 10, 31 and 41, and where one kind of engine is wanted 42, whatever its bytes. Each test of a field, and of the file's end, hands out one of them or none.
 use Prim.Native.Nat.{ℕ, zero, suc, _≤_}
 use mathlib.Core.Path.{_≡_, refl, subst}
 use mathlib.Core.List.{List, [], _∷_, map}
@@ -8,6 +8,7 @@ use native.Mathlib.Omega.{arith}
 use lib.Dec.{eqb, leb}
 use lib.ListN.{length, drop}
 use Rattle.system.specs.declared.Most.the-variants.{AtMost}
+use Rattle.system.specs.declared.There.the-variants.{Takes}
 use Rattle.system.specs.declared.TaskType.{TaskType}
 use Rattle.system.specs.declared.System.{System}
 use Rattle.system.specs.declared.rules.FieldRule.{FieldRule}
@@ -15,14 +16,14 @@ use Rattle.system.specs.declared.rules.RuleFound.{RuleFound}
 use Rattle.system.specs.declared.rules.RuleFound.the-variants.{Known, Unknown}
 use Rattle.system.specs.declared.reader.Head.{Head}
 use Rattle.system.specs.declared.reader.Head.the-variants.{Ruled, Stops}
-use Rattle.system.specs.Values.{taskOf, withData, withMost, blank, withPlatform, withType, lastType, withLast}
-use Rattle.system.specs.Limits.{engineLimit, sizeLimit, columnLimit, platformFault, typeFault, mostFault, columnsOf, columnsFault}
+use Rattle.system.specs.Values.{taskOf, withData, withMost, withCosts, blank, withPlatform, withSecond, withType, lastType, withLast}
+use Rattle.system.specs.Limits.{engineLimit, sizeLimit, columnLimit, orElse, sizeFault, platformFault, kindCounted, kindFault, typeFault, mostFault, costsFault, columnsOf, columnsFault, isOneKind, kindsAgree, kindsFault}
 use Rattle.system.specs.Rules.{fieldRules, ruleOf, follows, mayFollow}
-use Rattle.system.specs.Layout.{Reading, opened, unread, byteAt, word2, word4, fieldSize, headedField, wholeField, bodyPart, isType, isData, isMost, seenOf, unlessFault, platformFrom, typeFrom, dataFrom, mostFrom, ruledHead, headOf, bodyOf, ruledField, fieldOf, endOf, afterField, fieldsFrom, readFile}
+use Rattle.system.specs.Layout.{Reading, opened, unread, byteAt, word2, word4, fieldSize, headedField, wholeField, bodyPart, isType, isData, isMost, isSecond, isCosts, seenOf, unlessFault, platformFrom, typeFrom, dataFrom, mostFrom, secondFrom, costsFrom, ruledHead, headOf, bodyOf, ruledField, fieldOf, endOf, afterField, fieldsFrom, readCard, ofOneKind, readFile}
 
--- a number for which a file is refused
+-- a number for which a file is refused, whether one kind of engine is wanted or not
 abbrev Own : ℕ → Type 0
-Own n = ((1 ≤ n) × (n ≤ 10)) ⊎ (n ≡ 31)
+Own n = ((1 ≤ n) × (n ≤ 10)) ⊎ ((n ≡ 31) ⊎ (n ≡ 41))
 
 -- a reading that is refused, if it is, for such a number
 data Numbered : Reading → Type 0 where
@@ -54,6 +55,9 @@ kept = inl refl
 fault : (n : ℕ) {k : ℕ} → 1 ≤ n → n ≤ 10 → (b : Bool) → Fault k → Fault (cond b n k)
 fault n h g b rest = either Fault b (inr (inl (h, g))) rest
 
+or-else : (n k : ℕ) → Fault n → Fault k → Fault (orElse n k)
+or-else n k first rest = either Fault (eqb n 0) rest first
+
 unless-numbered : (n : ℕ) (y : System) → Fault n → Numbered (unlessFault n y)
 unless-numbered n y (inl e) = rw e (opens y)
 unless-numbered n y (inr h) = either Numbered (eqb n 0) (opens y) (stops n h)
@@ -72,16 +76,25 @@ head-numbered (Known r) size whole last =
 type-fault : (t : TaskType) → Fault (typeFault t)
 type-fault t = fault 8 (omega arith) (omega arith) (not (leb (t .time) sizeLimit && leb (t .memory) sizeLimit && leb (t .data) sizeLimit)) kept
 
+size-fault : (u s : ℕ) → Fault (sizeFault u s)
+size-fault u s = fault 8 (omega arith) (omega arith) (not (leb u sizeLimit && leb s sizeLimit)) kept
+
 platform-fault : (m rule u s : ℕ) → Fault (platformFault m rule u s)
 platform-fault m rule u s =
     fault 5 (omega arith) (omega arith) (not (leb 1 m && leb m engineLimit))
-    (fault 6 (omega arith) (omega arith) (not (leb rule 1)) (fault 8 (omega arith) (omega arith) (not (leb u sizeLimit && leb s sizeLimit)) kept))
+    (fault 6 (omega arith) (omega arith) (not (leb rule 1)) (size-fault u s))
+
+kind-fault : (m n u s : ℕ) → Fault (kindFault m n u s)
+kind-fault m n u s = fault 5 (omega arith) (omega arith) (not (kindCounted m n)) (size-fault u s)
 
 columns-fault : (ts : List TaskType) → Fault (columnsFault ts)
 columns-fault ts = fault 10 (omega arith) (omega arith) (not (leb (columnsOf (map (λ (t : TaskType). t .ceiling) ts)) columnLimit)) kept
 
 most-fault : (q : ℕ) → Fault (mostFault (AtMost q))
-most-fault q = either Fault (eqb q 0) (inr (inr refl)) kept
+most-fault q = either Fault (eqb q 0) (inr (inr (inl refl))) kept
+
+kinds-fault : (y : System) → Fault (kindsFault y)
+kinds-fault y = either Fault (not (kindsAgree (isOneKind (y .second)) (y .typecount) (y .types))) (inr (inr (inr refl))) kept
 
 type-numbered : (t : TaskType) (y : System) → Numbered (typeFrom t y)
 unfolding typeFrom
@@ -99,6 +112,14 @@ platform-numbered : (m rule u s : ℕ) (y : System) → Numbered (platformFrom m
 unfolding platformFrom
 platform-numbered m rule u s y = unless-numbered (platformFault m rule u s) (withPlatform m rule u s y) (platform-fault m rule u s)
 
+second-numbered : (n u s : ℕ) (y : System) → Numbered (secondFrom n u s y)
+unfolding secondFrom
+second-numbered n u s y = unless-numbered (kindFault (y .engines) n u s) (withSecond n u s y) (kind-fault (y .engines) n u s)
+
+costs-numbered : (u s : ℕ) (y : System) → Numbered (costsFrom u s y)
+unfolding costsFrom
+costs-numbered u s y = unless-numbered (costsFault (Takes (record { time = u; memory = s }))) (withLast (withCosts u s (lastType y)) y) (size-fault u s)
+
 body-numbered : (r : FieldRule) (b : List ℕ) (y : System) → Numbered (bodyOf r b y)
 unfolding bodyOf
 body-numbered r b y =
@@ -106,7 +127,9 @@ body-numbered r b y =
     (either Numbered (isType (r .tag)) (type-numbered (taskOf (word4 b 0) (word4 b 4) (word2 b 8)) y)
     (either Numbered (isData (r .tag)) (data-numbered (word4 b 0) y)
     (either Numbered (isMost (r .tag)) (most-numbered (word2 b 0) y)
-    (platform-numbered (byteAt b 0) (byteAt b 1) (word4 b 2) (word4 b 6) y))))
+    (either Numbered (isSecond (r .tag)) (second-numbered (byteAt b 0) (word4 b 1) (word4 b 5) y)
+    (either Numbered (isCosts (r .tag)) (costs-numbered (word4 b 0) (word4 b 4) y)
+    (platform-numbered (byteAt b 0) (byteAt b 1) (word4 b 2) (word4 b 6) y))))))
 
 field-numbered : (s : List ℕ) (last : ℕ) (y : System) → Numbered (fieldOf s last y)
 unfolding fieldOf headOf ruledField
@@ -121,7 +144,7 @@ end-numbered : (last : ℕ) (y : System) → Numbered (endOf last y)
 unfolding endOf
 end-numbered last y =
     either Numbered (eqb last 0 || eqb (y .typecount) 0) (stops 9 (inl (omega arith, omega arith)))
-    (unless-numbered (columnsFault (y .types)) y (columns-fault (y .types)))
+    (unless-numbered (orElse (kindsFault y) (columnsFault (y .types))) y (or-else (kindsFault y) (columnsFault (y .types)) (kinds-fault y) (columns-fault (y .types))))
 
 -- main: the whole file
 
@@ -136,10 +159,20 @@ fields-numbered (suc f) (b ∷ s) last y = go (fieldOf (b ∷ s) last y) (field-
     go x (opens next) rest = rest next
     go x (stops n own) rest = stops n own
 
-pub own-number : (file : List ℕ) (n : ℕ) → readFile file ≡ unread n → ((1 ≤ n) × (n ≤ 10)) ⊎ (n ≡ 31)
-unfolding readFile
-own-number file n e = go (readFile file) (fields-numbered (length file) file 0 blank) e
+-- where one kind is wanted, 42 is one number more
+pub own-number : (file : List ℕ) (n : ℕ) → readFile file ≡ unread n → ((1 ≤ n) × (n ≤ 10)) ⊎ ((n ≡ 31) ⊎ ((n ≡ 41) ⊎ (n ≡ 42)))
+unfolding readFile readCard ofOneKind
+own-number file n e = go (readCard file) (fields-numbered (length file) file 0 blank) e
   where
-    go : (x : Reading) → Numbered x → x ≡ unread n → Own n
-    go x (opens y) e = let z : _≡_ {A = ℕ} 0 1 = cc in absurd (omega arith)
-    go x (stops k own) e = let same : k ≡ n = cc in subst Own same own
+    more : Own n → ((1 ≤ n) × (n ≤ 10)) ⊎ ((n ≡ 31) ⊎ ((n ≡ 41) ⊎ (n ≡ 42)))
+    more (inl low) = inl low
+    more (inr (inl most)) = inr (inl most)
+    more (inr (inr missing)) = inr (inr (inl missing))
+
+    wanted : (b : Bool) (y : System) → cond b (opened y) (unread 42) ≡ unread n → n ≡ 42
+    wanted true y e = let z : _≡_ {A = ℕ} 0 1 = cc in absurd (omega arith)
+    wanted false y e = cc
+
+    go : (x : Reading) → Numbered x → ofOneKind x ≡ unread n → ((1 ≤ n) × (n ≤ 10)) ⊎ ((n ≡ 31) ⊎ ((n ≡ 41) ⊎ (n ≡ 42)))
+    go x (opens y) e = inr (inr (inr (wanted (isOneKind (y .second)) y e)))
+    go x (stops k own) e = let same : k ≡ n = cc in more (subst Own same own)

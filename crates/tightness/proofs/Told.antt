@@ -28,8 +28,9 @@ use Rattle.planner.specs.Plan.{planned, judged}
 use Rattle.planner.proofs.Cases.{canPlace}
 use Rattle.listing.specs.Listing.{refusalLine, listingOf, verdictListing}
 use Rattle.listing.specs.Demands.{TellsRefusal}
-use Rattle.listing.specs.Text.{readingVerdict, fileText}
+use Rattle.listing.specs.Text.{readingVerdict}
 use Rattle.listing.proofs.Lines.{number-told, told-once}
+use Rattle.listing.proofs.Text.{one-kind-text}
 use Rattle.counting.specs.declared.CountAnswer.{CountAnswer}
 use Rattle.counting.specs.declared.CountAnswer.the-variants.{Counted, Refused}
 use Rattle.counting.specs.Counts.{goodCount, totalCount, greatest, countOutcome}
@@ -140,16 +141,17 @@ module _ (file : List ℕ) (y : System) (opens : readFile file ≡ opened y) whe
 
 -- intermediate: the numbers of all refusals
 
-own-line : (file : List ℕ) (k n : ℕ) → readFile file ≡ unread k → TellsRefusal n (refusalLine k) → ((1 ≤ n) × (n ≤ 10)) ⊎ ((n ≡ 31) ⊎ (n ≡ 37))
-own-line file k n e r = ⊎-elim (λ low. inl low) (λ most. inr (inl most)) (own-number file n (e ∙ ap unread (told-once (number-told k) r)))
+own-line : (file : List ℕ) (k n : ℕ) → readFile file ≡ unread k → TellsRefusal n (refusalLine k) → ((1 ≤ n) × (n ≤ 10)) ⊎ ((n ≡ 31) ⊎ ((n ≡ 37) ⊎ ((n ≡ 41) ⊎ (n ≡ 42))))
+own-line file k n e r =
+    ⊎-elim (λ low. inl low) (⊎-elim (λ most. inr (inl most)) (λ kinds. inr (inr (inr kinds)))) (own-number file n (e ∙ ap unread (told-once (number-told k) r)))
 
-any-line : (file : List ℕ) (n : ℕ) → TellsRefusal n (tightText file) → ((1 ≤ n) × (n ≤ 10)) ⊎ ((n ≡ 31) ⊎ (n ≡ 37))
+any-line : (file : List ℕ) (n : ℕ) → TellsRefusal n (tightText file) → ((1 ≤ n) × (n ≤ 10)) ⊎ ((n ≡ 31) ⊎ ((n ≡ 37) ⊎ ((n ≡ 41) ⊎ (n ≡ 42))))
 unfolding readingLine
 any-line file n r = go (readFile file) refl r
   where
-    go : (x : Reading) → readFile file ≡ x → TellsRefusal n (readingLine x) → ((1 ≤ n) × (n ≤ 10)) ⊎ ((n ≡ 31) ⊎ (n ≡ 37))
+    go : (x : Reading) → readFile file ≡ x → TellsRefusal n (readingLine x) → ((1 ≤ n) × (n ≤ 10)) ⊎ ((n ≡ 31) ⊎ ((n ≡ 37) ⊎ ((n ≡ 41) ⊎ (n ≡ 42))))
     go (unread k) e r = own-line file k n e r
-    go (opened y) e r = inr (inr (answer-told file y e .noOther n r))
+    go (opened y) e r = inr (inr (inl (answer-told file y e .noOther n r)))
 
 -- main: what a reader finds
 
@@ -159,7 +161,7 @@ tells-tight file = record {
   unreadable = λ n e. rw e (number-told n);
   answer = λ y e. rw e (answer-told file y e);
   numbers = any-line file;
-  refused12 = λ y good total e. rw e (listing-12 file y e good total);
+  refused12 = λ y good total e. rw (e, one-kind-text file y e) (listing-12 file y e good total);
 }
 
 -- main: the line of what the code is answered, over a part that is long enough

@@ -34,12 +34,12 @@ pub record TellsAnswer (y : System) (text : List ℕ) : Type 0 where
   pub else : y .engines ^ instancesOut y ≤ 18446744073709551615 → (good total : ℕ) × TellsCounts good total text
   pub counts : (good total : ℕ) → TellsCounts good total text ↔ ((y .engines ^ instancesOut y ≤ 18446744073709551615) × CountMeans y good total)
 
--- of a file: why it does not read, or such a line; a refusal has one of the numbers 1 to 10, 31 and 37, so never 38;
+-- of a file: why it does not read, or such a line; a refusal has one of the numbers 1 to 10, 31, 37, 41 and 42, so never 38;
 -- and the file's listing, which program `plan` writes, is `refused 12` exactly where the first number is 0
 pub record TellsTight (file text : List ℕ) : Type 0 where
   pub unreadable : (n : ℕ) → readFile file ≡ unread n → TellsRefusal n text
   pub answer : (y : System) → readFile file ≡ opened y → TellsAnswer y text
-  pub numbers : (n : ℕ) → TellsRefusal n text → ((1 ≤ n) × (n ≤ 10)) ⊎ ((n ≡ 31) ⊎ (n ≡ 37))
+  pub numbers : (n : ℕ) → TellsRefusal n text → ((1 ≤ n) × (n ≤ 10)) ⊎ ((n ≡ 31) ⊎ ((n ≡ 37) ⊎ ((n ≡ 41) ⊎ (n ≡ 42))))
   pub refused12 : (y : System) (good total : ℕ) → readFile file ≡ opened y → TellsCounts good total text → TellsRefusal 12 (fileText file) ↔ (good ≡ 0)
 
 -- what the call `tight_of` promises of its result and the buffer

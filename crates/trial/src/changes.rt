@@ -1,12 +1,16 @@
 // Systems changed by words, as cases give them: a letter, the number of a type where it is one of a type's, `=`, and a number. So `k=7` gives a
-// system seven types, and `u2=1000001` its second type another u. A q of 65,536 is none.
+// system seven types, and `u2=1000001` its second type another u. A q of 65,536 is none. `x=`, `X=` and `Z=` give a second kind of engine so many engines, and
+// its U and S; `v2=` and `z2=` the second type its u and s there. What they do not give is as it was, or 0.
 use crate::systems;
 use crate::words::byte_of;
 use crate::words::number_in;
 use std::num::wrapping_add_usize;
 use std::num::wrapping_sub_usize;
+use system::Costs;
 use system::Most;
+use system::Second;
 use system::System;
+use system::There;
 
 // The number that stands for a q that is not given, as every one past it does.
 pub const NOT_GIVEN: usize = 65536;
@@ -62,7 +66,34 @@ fn with_task_number(y: System, what: u8, t: usize, n: usize) -> System {
     z
 }
 
-// The system with another number: k, m, r for the rule, U or S; or u, s, n, d or q of the type at index t.
+// The system with another number, U or S of a second kind of engine.
+fn with_second_number(y: System, what: u8, n: usize) -> System {
+    let second = y.second;
+    let mut kind = systems::kind_of(second);
+    match what {
+        b'x' => kind.number = n,
+        b'X' => kind.timecap = four(n),
+        _ => kind.memorycap = four(n),
+    }
+    systems::with_kinds(y, Second::TwoKinds(kind))
+}
+
+// The system with another u or s on the second kind of the type at index t.
+fn with_there_number(y: System, what: u8, t: usize, n: usize) -> System {
+    if 6 <= t {
+        return y;
+    }
+    let task = y.types[t];
+    let there = task.there;
+    let mut costs = systems::costs_of(there);
+    match what {
+        b'v' => costs.time = four(n),
+        _ => costs.memory = four(n),
+    }
+    systems::with_there_at(y, t, There::Takes(costs))
+}
+
+// The system with another number: k, m, r for the rule, U or S; u, s, n, d or q of the type at index t; or one of a second kind.
 pub fn with_number(y: System, what: u8, t: usize, n: usize) -> System {
     let mut z = y;
     match what {
@@ -73,6 +104,12 @@ pub fn with_number(y: System, what: u8, t: usize, n: usize) -> System {
         b'S' => z.memorycap = four(n),
         b'q' => {
             return systems::with_most_at(y, t, most_of(n));
+        }
+        b'x' | b'X' | b'Z' => {
+            return with_second_number(y, what, n);
+        }
+        b'v' | b'z' => {
+            return with_there_number(y, what, t, n);
         }
         _ => {
             return with_task_number(y, what, t, n);

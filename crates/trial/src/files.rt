@@ -6,9 +6,10 @@ use buffer::put_four;
 use buffer::put_two;
 use std::num::wrapping_add_usize;
 use system::Most;
+use system::Second;
 use system::System;
 use system::TYPE_LIMIT;
-use system::TaskType;
+use system::There;
 
 // A file and its length.
 pub struct File {
@@ -42,10 +43,38 @@ fn put_most(bytes: &mut [u8; 256], at: usize, most: Most) -> usize
     put_two(bytes, sized, q)
 }
 
+// The field of a type's u and s on the second kind, where they are given. Answers the place after it.
+fn put_there(bytes: &mut [u8; 256], at: usize, there: There) -> usize
+    requires { ⌜ at ≤ 245 ⌝ }
+    ensures { λ r. ⌜ r ≤ at + 11 ⌝ }
+{
+    let There::Takes(c) = there else {
+        return at;
+    };
+    let tagged = put_byte(bytes, at, 7);
+    let sized = put_two(bytes, tagged, 8);
+    let timed = put_four(bytes, sized, c.time);
+    put_four(bytes, timed, c.memory)
+}
+
+// The field of a second kind of engine, where there is one. Answers the place after it.
+fn put_second(bytes: &mut [u8; 256], second: Second) -> usize
+    ensures { λ r. ⌜ r ≤ 25 ⌝ }
+{
+    let Second::TwoKinds(k) = second else {
+        return 13;
+    };
+    let tagged = put_byte(bytes, 13, 6);
+    let sized = put_two(bytes, tagged, 9);
+    let counted = put_byte(bytes, sized, (k.number % 256) as u8);
+    let timed = put_four(bytes, counted, k.timecap);
+    put_four(bytes, timed, k.memorycap)
+}
+
 // The fields of the type at index t, where the system has it. Answers the place after them.
 fn put_type(bytes: &mut [u8; 256], at: usize, y: System, t: usize) -> usize
     requires { ⌜ at ≤ 220 ⌝ }
-    ensures { λ r. ⌜ r ≤ at + 25 ⌝ }
+    ensures { λ r. ⌜ r ≤ at + 36 ⌝ }
 {
     if 6 <= t {
         return at;
@@ -61,7 +90,9 @@ fn put_type(bytes: &mut [u8; 256], at: usize, y: System, t: usize) -> usize
     let counted = put_two(bytes, stored, task.ceiling);
     let stacked = put_data(bytes, counted, task.data);
     let most = task.most;
-    put_most(bytes, stacked, most)
+    let there = task.there;
+    let kept = put_most(bytes, stacked, most);
+    put_there(bytes, kept, there)
 }
 
 fn put_platform(bytes: &mut [u8; 256], y: System) {
@@ -77,7 +108,9 @@ fn put_platform(bytes: &mut [u8; 256], y: System) {
 pub fn file_of(y: System) -> File {
     let mut bytes: [u8; 256] = [0; 256];
     put_platform(&mut bytes, y);
-    let one = put_type(&mut bytes, 13, y, 0);
+    let second = y.second;
+    let start = put_second(&mut bytes, second);
+    let one = put_type(&mut bytes, start, y, 0);
     let two = put_type(&mut bytes, one, y, 1);
     let three = put_type(&mut bytes, two, y, 2);
     let four = put_type(&mut bytes, three, y, 3);
@@ -131,14 +164,16 @@ pub struct Reading {
     pub refusal: usize,
 }
 
-// A field of this tag may follow one of tag `last`: the platform is first and nothing else is, a d follows its type directly, and a q its
-// type or the d of it.
+// A field of this tag may follow one of tag `last`: the platform is first and nothing else is, a d follows its type directly, a q its
+// type or the d of it, a second kind of engine the platform, and the costs there come last after their type.
 fn may_stand(tag: usize, last: usize) -> bool {
     match tag {
         1 => last == 0,
         2 => last != 0,
         3 => last == 2,
-        _ => (last == 2) | (last == 3),
+        4 => (last == 2) | (last == 3),
+        6 => last == 1,
+        _ => (last == 2) | (last == 3) | (last == 4),
     }
 }
 
@@ -147,6 +182,8 @@ fn span_of(tag: usize) -> usize {
     match tag {
         3 => 7,
         4 => 5,
+        6 => 12,
+        7 => 11,
         _ => 13,
     }
 }
@@ -157,7 +194,7 @@ fn head_refusal(file: &[u8], at: usize, last: usize) -> usize {
         return 1;
     }
     let tag = byte_of(file, at, 0);
-    if (tag < 1) | (4 < tag) {
+    if (tag < 1) | (tag == 5) | (7 < tag) {
         return 2;
     }
     if !may_stand(tag, last) {
@@ -249,6 +286,46 @@ fn most_read(file: &[u8], r: Reading) -> Reading {
     }
 }
 
+// A second kind of engine: 5, 8.
+fn second_read(file: &[u8], r: Reading) -> Reading {
+    let y = r.system;
+    let number = byte_of(file, r.at, 3);
+    let time = four_of(file, r.at, 4);
+    let memory = four_of(file, r.at, 8);
+    let refusal = if (number < 1) | (16 < wrapping_add_usize(y.engines, number)) {
+        5
+    } else if oversized(time) | oversized(memory) {
+        8
+    } else {
+        0
+    };
+    Reading {
+        at: wrapping_add_usize(r.at, 12),
+        last: 6,
+        system: systems::with_second(y, number, time, memory),
+        zero: r.zero,
+        refusal,
+    }
+}
+
+// The u and s of a type on the second kind: 8.
+fn there_read(file: &[u8], r: Reading) -> Reading {
+    let y = r.system;
+    let time = four_of(file, r.at, 3);
+    let memory = four_of(file, r.at, 7);
+    Reading {
+        at: wrapping_add_usize(r.at, 11),
+        last: 7,
+        system: systems::with_there(y, time, memory),
+        zero: r.zero,
+        refusal: if oversized(time) | oversized(memory) {
+            8
+        } else {
+            0
+        },
+    }
+}
+
 fn refused(r: Reading, refusal: usize) -> Reading {
     let mut next = r;
     next.refusal = refusal;
@@ -271,7 +348,13 @@ fn field_read(file: &[u8], r: Reading) -> Reading {
     if tag == 3 {
         return data_read(file, r);
     }
-    most_read(file, r)
+    if tag == 4 {
+        return most_read(file, r);
+    }
+    if tag == 6 {
+        return second_read(file, r);
+    }
+    there_read(file, r)
 }
 
 // The columns of the six ceilings are at most 4,096: dividing by each n + 1 in turn leaves something.
@@ -285,11 +368,37 @@ fn within_columns(y: System) -> bool {
     left != 0
 }
 
-// At the end of the file: 9, 10.
+// How many types have their costs on the second kind.
+fn types_there(y: System) -> usize {
+    let types = y.types;
+    let mut there: usize = 0;
+    for t in 0..TYPE_LIMIT {
+        let task = types[t];
+        let costs = task.there;
+        if systems::given(costs) {
+            there = wrapping_add_usize(there, 1);
+        }
+    }
+    there
+}
+
+// All types have costs on the second kind where there is one, and none has where there is not.
+fn agreed(y: System) -> bool {
+    let second = y.second;
+    if systems::two_kinds(second) {
+        return types_there(y) == y.typecount;
+    }
+    types_there(y) == 0
+}
+
+// At the end of the file: 9, 41, 10.
 fn ended(r: Reading) -> Reading {
     let y = r.system;
     if y.typecount == 0 {
         return refused(r, 9);
+    }
+    if !agreed(y) {
+        return refused(r, 41);
     }
     if !within_columns(y) {
         return refused(r, 10);
@@ -297,7 +406,8 @@ fn ended(r: Reading) -> Reading {
     r
 }
 
-// What a file reads as. No file has a twentieth field that is read: the platform, and six types with a d and a q each, come before it.
+// What a file reads as, of one kind of engine or two. No file has a 27th field that is read: the platform, a second kind, and six types with a d, a q and costs there
+// come before it.
 pub fn reading_of(file: &[u8]) -> Reading {
     let mut r = Reading {
         at: 0,
@@ -306,7 +416,7 @@ pub fn reading_of(file: &[u8]) -> Reading {
         zero: false,
         refusal: 0,
     };
-    for field in 0..20usize {
+    for field in 0..27usize {
         if (r.refusal == 0) & (r.at < file.len()) {
             let next = field_read(file, r);
             r = next;

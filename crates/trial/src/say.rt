@@ -5,9 +5,11 @@ use std::num::wrapping_add_usize;
 use system::Answer;
 use system::Most;
 use system::Refusal;
+use system::Second;
 use system::System;
 use system::TYPE_LIMIT;
 use system::TaskType;
+use system::There;
 
 // An answer as one number: 0 accepted; 100 and more refused from the input, 200 and more from the state, with the refusal's number;
 // 1,000 and more accepted with a number.
@@ -103,7 +105,26 @@ fn say_most(most: Most) {
     }
 }
 
-// A type's u, s, n and d, and its q.
+// A type's u and s on the second kind, where they are given.
+fn say_there(there: There) {
+    if let There::Takes(c) = there {
+        say(b" there");
+        say_also(c.time as usize);
+        say_also(c.memory as usize);
+    }
+}
+
+// A second kind's number, U and S, where there is one.
+fn say_second(second: Second) {
+    if let Second::TwoKinds(k) = second {
+        say(b" second");
+        say_also(k.number);
+        say_also(k.timecap as usize);
+        say_also(k.memorycap as usize);
+    }
+}
+
+// A type's u, s, n and d, its q, and its u and s on the second kind.
 fn say_task(t: TaskType) {
     say(b" |");
     say_also(t.time as usize);
@@ -111,16 +132,20 @@ fn say_task(t: TaskType) {
     say_also(t.ceiling as usize);
     say_also(t.data as usize);
     let most = t.most;
+    let there = t.there;
     say_most(most);
+    say_there(there);
 }
 
-// A line for a system: m, rule, U, S, then each type.
+// A line for a system: m, rule, U, S, any second kind, then each type.
 pub fn say_system(name: &[u8], y: System) {
     say(name);
     say_also(y.engines);
     say_also(y.rule as usize);
     say_also(y.timecap as usize);
     say_also(y.memorycap as usize);
+    let second = y.second;
+    say_second(second);
     for t in 0..TYPE_LIMIT {
         let task = y.types[t];
         if t < y.typecount {

@@ -2,9 +2,11 @@
 use crate::systems;
 use std::num::wrapping_add_usize;
 use std::num::wrapping_sub_usize;
+use system::Costs;
 use system::Most;
 use system::System;
 use system::TYPE_LIMIT;
+use system::There;
 
 // A number drawn, and the seed that the next one comes from.
 pub struct Drawn {
@@ -129,6 +131,53 @@ pub fn drawn_system(seed: u64, engines: usize, typecount: usize, most: usize) ->
     for t in 0..TYPE_LIMIT {
         if t < typecount {
             let next = with_drawn_type(d, most, large);
+            d = next;
+        }
+    }
+    d
+}
+
+// The system with a second kind of engine, of as many as bring both kinds to at most `engines` in all, and capacities of at most 16 steps.
+fn with_drawn_second(d: DrawnSystem, engines: usize, large: bool) -> DrawnSystem {
+    let y = d.system;
+    let number = draw(d.seed, wrapping_sub_usize(engines, y.engines));
+    let time = draw(number.seed, 17);
+    let memory = draw(time.seed, 17);
+    DrawnSystem {
+        seed: memory.seed,
+        system: systems::with_second(
+            y,
+            wrapping_add_usize(number.value, 1),
+            scaled(time.value, large),
+            scaled(memory.value, large),
+        ),
+    }
+}
+
+// The system with costs of up to eight steps drawn on the second kind for the type at index t.
+fn with_drawn_there(d: DrawnSystem, t: usize, large: bool) -> DrawnSystem {
+    let time = draw(d.seed, 9);
+    let memory = draw(time.seed, 9);
+    let y = d.system;
+    let costs = Costs {
+        time: scaled(time.value, large),
+        memory: scaled(memory.value, large),
+    };
+    DrawnSystem {
+        seed: memory.seed,
+        system: systems::with_there_at(y, t, There::Takes(costs)),
+    }
+}
+
+// A system of two kinds, of up to `engines` engines in all and at least one of each kind, and this many types of at most `most` instances each.
+pub fn drawn_mixed(seed: u64, engines: usize, typecount: usize, most: usize) -> DrawnSystem {
+    let scale = draw(seed, 2);
+    let large = scale.value == 1;
+    let first = drawn_system(seed, wrapping_sub_usize(engines, 1), typecount, most);
+    let mut d = with_drawn_second(first, engines, large);
+    for t in 0..TYPE_LIMIT {
+        if t < typecount {
+            let next = with_drawn_there(d, t, large);
             d = next;
         }
     }

@@ -1,10 +1,14 @@
 // Systems made part by part, document 01's systems A and B, systems at the limits, and whether two systems are the same.
 ghost use Prim.Native.Nat.{_<_};
 use std::num::wrapping_sub_usize;
+use system::Costs;
+use system::Kind;
 use system::Most;
+use system::Second;
 use system::System;
 use system::TYPE_LIMIT;
 use system::TaskType;
+use system::There;
 
 // A number of 16 bits, for sums that pass them.
 pub fn wide(n: u16) -> usize
@@ -34,6 +38,7 @@ pub fn with_type(y: System, time: u32, memory: u32, ceiling: u16) -> System {
             ceiling,
             data: 0,
             most: Most::NotGiven,
+            there: There::Absent,
         };
         z.typecount = k + 1;
     }
@@ -52,12 +57,14 @@ pub fn with_data(y: System, data: u32) -> System {
     }
     let last = y.types[k - 1];
     let most = last.most;
+    let there = last.there;
     z.types[k - 1] = TaskType {
         time: last.time,
         memory: last.memory,
         ceiling: last.ceiling,
         data,
         most,
+        there,
     };
     z
 }
@@ -69,12 +76,14 @@ pub fn with_most_at(y: System, t: usize, most: Most) -> System {
     }
     let mut z = y;
     let old = y.types[t];
+    let there = old.there;
     z.types[t] = TaskType {
         time: old.time,
         memory: old.memory,
         ceiling: old.ceiling,
         data: old.data,
         most,
+        there,
     };
     z
 }
@@ -82,6 +91,57 @@ pub fn with_most_at(y: System, t: usize, most: Most) -> System {
 // The system with this q of its last type, where it has one to six.
 pub fn with_most(y: System, q: u16) -> System {
     with_most_at(y, wrapping_sub_usize(y.typecount, 1), Most::AtMost(q))
+}
+
+// The system with other costs on the second kind, or none, of the type at index t; that may be past the last one. As it is, where it has no such entry.
+pub fn with_there_at(y: System, t: usize, there: There) -> System {
+    if 6 <= t {
+        return y;
+    }
+    let mut z = y;
+    let old = y.types[t];
+    let most = old.most;
+    z.types[t] = TaskType {
+        time: old.time,
+        memory: old.memory,
+        ceiling: old.ceiling,
+        data: old.data,
+        most,
+        there,
+    };
+    z
+}
+
+// The system with this u and s on the second kind of its last type, where it has one to six.
+pub fn with_there(y: System, time: u32, memory: u32) -> System {
+    let there = There::Takes(Costs { time, memory });
+    with_there_at(y, wrapping_sub_usize(y.typecount, 1), there)
+}
+
+// The system with this second kind of engine, or none.
+pub fn with_kinds(y: System, second: Second) -> System {
+    let types = y.types;
+    System {
+        engines: y.engines,
+        rule: y.rule,
+        timecap: y.timecap,
+        memorycap: y.memorycap,
+        typecount: y.typecount,
+        types: types,
+        second: second,
+    }
+}
+
+// The system with a second kind of so many engines: U and S there.
+pub fn with_second(y: System, number: usize, timecap: u32, memorycap: u32) -> System {
+    with_kinds(
+        y,
+        Second::TwoKinds(Kind {
+            number,
+            timecap,
+            memorycap,
+        }),
+    )
 }
 
 // Document 01's system A, with this many engines.
@@ -134,7 +194,7 @@ pub fn system_stacked(rule: u8) -> System {
     with_data(with_type(with_data(five, 56789), 65432, 210987, 1), 67890)
 }
 
-// The same with a q for each type too, that of type 1 just met: no file that opens is longer.
+// The same with a q for each type too, that of type 1 just met: no file of one kind of engine that opens is longer.
 pub fn system_longest(rule: u8) -> System {
     let one = with_most_at(system_stacked(rule), 0, Most::AtMost(2));
     let two = with_most_at(one, 1, Most::AtMost(1));
@@ -142,6 +202,28 @@ pub fn system_longest(rule: u8) -> System {
     let four = with_most_at(three, 3, Most::AtMost(256));
     let five = with_most_at(four, 4, Most::AtMost(1));
     with_most_at(five, 5, Most::AtMost(513))
+}
+
+// The system with this u and s on the second kind of the type at index t.
+fn with_costs_at(y: System, t: usize, time: u32, memory: u32) -> System {
+    with_there_at(y, t, There::Takes(Costs { time, memory }))
+}
+
+// The system with costs on the second kind for each of six types.
+fn with_theres(y: System) -> System {
+    let one = with_costs_at(y, 0, 299999, 87654);
+    let two = with_costs_at(one, 1, 1, 65536);
+    let three = with_costs_at(two, 2, 0, 0);
+    let four = with_costs_at(three, 3, 1000000, 256);
+    let five = with_costs_at(four, 4, 77777, 1000000);
+    with_costs_at(five, 5, 16777, 513)
+}
+
+// The longest file of one kind with 8 engines, and 8 of a second kind: no file that opens is longer.
+pub fn system_mixed(rule: u8) -> System {
+    let mut y = with_theres(system_longest(rule));
+    y.engines = 8;
+    with_second(y, 8, 900000, 654321)
 }
 
 // A q as a number, 65,536 where it is not given.
@@ -152,17 +234,71 @@ pub fn most_number(most: Most) -> usize {
     }
 }
 
+// A type's costs on the second kind, 0 where they are not given.
+pub fn costs_of(there: There) -> Costs {
+    match there {
+        There::Absent => Costs { time: 0, memory: 0 },
+        There::Takes(c) => c,
+    }
+}
+
+// They are given.
+pub fn given(there: There) -> bool {
+    match there {
+        There::Absent => false,
+        There::Takes(c) => true,
+    }
+}
+
+fn same_there(a: There, b: There) -> bool {
+    let c = costs_of(a);
+    let e = costs_of(b);
+    (given(a) == given(b)) & (c.time == e.time) & (c.memory == e.memory)
+}
+
+// The second kind of engine, of 0 engines where there is none.
+pub fn kind_of(second: Second) -> Kind {
+    match second {
+        Second::OneKind => Kind {
+            number: 0,
+            timecap: 0,
+            memorycap: 0,
+        },
+        Second::TwoKinds(k) => k,
+    }
+}
+
+// There is one.
+pub fn two_kinds(second: Second) -> bool {
+    match second {
+        Second::OneKind => false,
+        Second::TwoKinds(k) => true,
+    }
+}
+
+fn same_second(a: Second, b: Second) -> bool {
+    let k = kind_of(a);
+    let l = kind_of(b);
+    let same = (k.number == l.number) & (k.timecap == l.timecap) & (k.memorycap == l.memorycap);
+    same & (two_kinds(a) == two_kinds(b))
+}
+
 // Two entries for a type say the same.
 fn same_task(a: TaskType, b: TaskType) -> bool {
     let p = a.most;
     let q = b.most;
+    let here = a.there;
+    let there = b.there;
     let same = (a.time == b.time) & (a.memory == b.memory) & (a.ceiling == b.ceiling);
-    same & (a.data == b.data) & (most_number(p) == most_number(q))
+    same & (a.data == b.data) & (most_number(p) == most_number(q)) & same_there(here, there)
 }
 
 pub fn same_system(a: System, b: System) -> bool {
+    let first = a.second;
+    let second = b.second;
     let mut same = (a.engines == b.engines) & (a.rule == b.rule) & (a.typecount == b.typecount);
     same = same & (a.timecap == b.timecap) & (a.memorycap == b.memorycap);
+    same = same & same_second(first, second);
     for t in 0..TYPE_LIMIT {
         let x = a.types[t];
         let y = b.types[t];

@@ -1,14 +1,19 @@
 // A board as its bytes say it: m, rule, U, S, k; six types of u, s, n, d, a byte that tells whether q is given, and q; sixteen marks; and sixteen engines of
-// time, memory and six counts. Bytes that are missing at the end are 0.
+// time, memory and six counts; then a byte that tells whether there is a second kind of engine, its number, U and S; a byte with a bit for each type that has costs
+// there, that of type 1 the lowest, and the u and s there of them all. Bytes that are missing at the end are 0.
 use board::Board;
 use loads::EngineLoad;
 use std::num::wrapping_add_usize;
+use system::Costs;
 use system::Cursor;
 use system::ENGINE_LIMIT;
+use system::Kind;
 use system::Most;
+use system::Second;
 use system::System;
 use system::TYPE_LIMIT;
 use system::TaskType;
+use system::There;
 use system::byte_at;
 use system::four_bytes;
 use system::rest_at;
@@ -23,6 +28,10 @@ const FIRST_MARK: usize = 113;
 const FIRST_ENGINE: usize = 129;
 
 const ENGINE_BYTES: usize = 20;
+
+const SECOND: usize = 449;
+
+const THERE: usize = 459;
 
 fn most_of(given: u8, q: u16) -> Most {
     if given == 0 {
@@ -40,7 +49,57 @@ fn task_in(part: &[u8]) -> TaskType {
         ceiling: two_bytes(part, 8),
         data: four_bytes(part, 10),
         most,
+        there: There::Absent,
     }
+}
+
+// Whether the bit of the type at index t is set.
+fn has_bit(flags: u8, t: usize) -> bool {
+    match t {
+        0 => flags % 2 == 1,
+        1 => flags / 2 % 2 == 1,
+        2 => flags / 4 % 2 == 1,
+        3 => flags / 8 % 2 == 1,
+        4 => flags / 16 % 2 == 1,
+        _ => flags / 32 % 2 == 1,
+    }
+}
+
+// The u and s there, whose bytes follow the first of the part.
+fn costs_in(part: &[u8]) -> Costs {
+    Costs {
+        time: four_bytes(part, 1),
+        memory: four_bytes(part, 5),
+    }
+}
+
+// The type at index t with its costs on a second kind, where the bytes of the board give them.
+fn with_there(task: TaskType, bytes: &[u8], t: usize) -> TaskType {
+    if !has_bit(byte_at(bytes, THERE), t) {
+        return task;
+    }
+    let most = task.most;
+    let costs = costs_in(rest_at(bytes, Cursor { at: THERE }));
+    TaskType {
+        time: task.time,
+        memory: task.memory,
+        ceiling: task.ceiling,
+        data: task.data,
+        most,
+        there: There::Takes(costs),
+    }
+}
+
+// The second kind whose bytes start the part, where the first of them gives it.
+fn second_in(part: &[u8]) -> Second {
+    if byte_at(part, 0) == 0 {
+        return Second::OneKind;
+    }
+    Second::TwoKinds(Kind {
+        number: byte_at(part, 1) as usize,
+        timecap: four_bytes(part, 2),
+        memorycap: four_bytes(part, 6),
+    })
 }
 
 // The engine whose bytes start the part.
@@ -64,7 +123,7 @@ fn types_in(bytes: &[u8]) -> [TaskType; TYPE_LIMIT] {
     let mut types = [system::no_task(); TYPE_LIMIT];
     for i in 0..TYPE_LIMIT {
         let at = FIRST_TYPE + i * TYPE_BYTES;
-        types[i] = task_in(rest_at(bytes, Cursor { at: at }));
+        types[i] = with_there(task_in(rest_at(bytes, Cursor { at: at })), bytes, i);
     }
     types
 }
@@ -94,6 +153,7 @@ fn system_in(bytes: &[u8]) -> System {
         memorycap: four_bytes(bytes, 6),
         typecount: byte_at(bytes, 10) as usize,
         types: types_in(bytes),
+        second: second_in(rest_at(bytes, Cursor { at: SECOND })),
     }
 }
 

@@ -1,5 +1,6 @@
-// Files of 39, 49, 53, 63 and 163 bytes, cut at every place, and with every value at every byte: the reader against the one of crate `trial`. A
-// file that is read must give its system, and be the file of it where no tag 3 gives a d of 0; a refused one hands out the blank system.
+// Files of 39, 49, 53, 63, 73, 163 and 241 bytes, the fifth and the last with two kinds of engine, cut at every place, and with every value at every byte: the reader against the one of crate `trial`. A
+// file that is read must give its system, and be the file of it where no tag 3 gives a d of 0; a refused one hands out the blank system. Where one kind of engine is wanted, the
+// same is answered, but 42 and the blank system of a file with two.
 ghost use Prim.Native.Nat.{_<_};
 use std::num::wrapping_add_usize;
 use system::Answer;
@@ -10,15 +11,17 @@ use trial::files::Reading;
 use trial::say;
 use trial::systems;
 
-// How many files were read, at 0, and refused with each number, 31 at 11; and how many answers were wrong.
+// How many files were read, at 0, and refused with each number, 31 at 11; how many with 41; and how many answers were wrong.
 struct Tally {
     answers: [usize; 12],
+    unpaired: usize,
     wrong: usize,
 }
 
 fn no_tally() -> Tally {
     Tally {
         answers: [0; 12],
+        unpaired: 0,
         wrong: 0,
     }
 }
@@ -52,6 +55,13 @@ fn a_with_most() -> System {
     systems::with_most(systems::with_type(systems::with_most(one, 1), 3, 2, 2), 256)
 }
 
+// System A with a second kind of engine, as document 01's, and costs there.
+fn a_with_kinds() -> System {
+    let none = systems::with_second(systems::platform_of(3, 0, 10, 8), 1, 10, 8);
+    let one = systems::with_there(systems::with_type(none, 4, 3, 3), 4, 3);
+    systems::with_there(systems::with_type(one, 3, 2, 2), 65536, 2)
+}
+
 // 0 where the file is read, else the number of its refusal; 255 for an answer that is not one from the input.
 fn number_of(a: Answer) -> usize {
     let code = say::code_of(a);
@@ -78,6 +88,9 @@ fn right_system(number: usize, y: System, file: &[u8], wanted: Reading) -> bool 
 
 fn counted(t: Tally, number: usize) -> Tally {
     let mut next = t;
+    if number == 41 {
+        next.unpaired = wrapping_add_usize(t.unpaired, 1);
+    }
     let place = if number == 31 { 11 } else { number };
     if place < 12 {
         next.answers[place] = wrapping_add_usize(t.answers[place], 1);
@@ -93,14 +106,28 @@ fn mismatch(t: Tally, got: usize, wanted: usize) -> Tally {
     next
 }
 
+// Where one kind is wanted, the same is answered, but 42 where there are two.
+fn right_wanted(file: &[u8], wanted: Reading) -> bool {
+    let o = system::read_system(file);
+    let y = o.system;
+    let a = o.answer;
+    let z = wanted.system;
+    let second = z.second;
+    if (wanted.refusal == 0) & systems::two_kinds(second) {
+        return (number_of(a) == 42) & systems::same_system(y, system::blank_system());
+    }
+    (number_of(a) == wanted.refusal) & right_system(wanted.refusal, y, file, wanted)
+}
+
 // One file, read by both.
 fn judged(t: Tally, file: &[u8]) -> Tally {
-    let o = system::read_system(file);
+    let o = system::read_card(file);
     let y = o.system;
     let a = o.answer;
     let got = number_of(a);
     let wanted = files::reading_of(file);
-    if (got == wanted.refusal) & right_system(got, y, file, wanted) {
+    let right = (got == wanted.refusal) & right_system(got, y, file, wanted);
+    if right & right_wanted(file, wanted) {
         return counted(t, got);
     }
     mismatch(t, got, wanted.refusal)
@@ -165,6 +192,34 @@ fn say_damage(cut: &[u8], changed: &[u8], y: System) -> usize {
     wrapping_add_usize(t.wrong, u.wrong)
 }
 
+// The same of a file with two kinds, with how many were refused 41.
+fn say_mixed(cut: &[u8], changed: &[u8], unpaired: &[u8], y: System) -> usize {
+    let f = files::file_of(y);
+    let t = cuts(f);
+    let u = changes(f);
+    say_tally(cut, t);
+    say_tally(changed, u);
+    say::say_count(unpaired, wrapping_add_usize(t.unpaired, u.unpaired));
+    wrapping_add_usize(t.wrong, u.wrong)
+}
+
+// Files with two kinds.
+fn say_kinds() -> usize {
+    let kinds = say_mixed(
+        b"A with two kinds cut:",
+        b"A with two kinds changed:",
+        b"A with two kinds, refused 41:",
+        a_with_kinds(),
+    );
+    let longest = say_mixed(
+        b"longest with two kinds cut:",
+        b"longest with two kinds changed:",
+        b"longest with two kinds, refused 41:",
+        systems::system_mixed(1),
+    );
+    wrapping_add_usize(kinds, longest)
+}
+
 fn main() {
     say::say(b"files: read, refused 1 to 10, 31\n");
     let a = say_damage(b"A cut:", b"A changed:", systems::system_a(3));
@@ -177,6 +232,7 @@ fn main() {
         systems::system_longest(1),
     );
     let small = wrapping_add_usize(wrapping_add_usize(a, data), most);
-    let wrong = wrapping_add_usize(small, wrapping_add_usize(limits, longest));
+    let one = wrapping_add_usize(small, wrapping_add_usize(limits, longest));
+    let wrong = wrapping_add_usize(one, say_kinds());
     say::say_count(b"mismatches", wrong);
 }

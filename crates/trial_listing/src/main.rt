@@ -106,6 +106,7 @@ fn say_refused(why: Refusal) {
         answer: Answer::Refused(why),
         used: 0,
         typecount: 0,
+        numbers: [0; ENGINE_LIMIT],
         loads: [recovery::idle(); ENGINE_LIMIT],
     };
     let mut out = io::buffer();

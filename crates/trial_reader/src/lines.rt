@@ -14,7 +14,9 @@
 // - `longest`: what may come after the longest file, which has 163 bytes: nothing;
 // - `q-of-length-0`: refusals 4 and 1 of a q, in this order and before 31;
 // - `q-0`: refusal 31, and what a q is where it is read: at both ends, and above n;
-// - `u-1000001-then-q-0`: 31 among the refusals of other fields, those before it first, and those at the end last.
+// - `u-1000001-then-q-0`: 31 among the refusals of other fields, those before it first, and those at the end last;
+// - `kinds-..`: a second kind of engine (tag 6) and the costs there (tag 7): their places, lengths, cuts and numbers; 41 where one stands without the other, between 9 and 10; and
+//   42 for every file of two kinds, from which a system of one kind is wanted.
 use crate::show::show;
 use trial::words::Bytes;
 use trial::words::after;
@@ -23,7 +25,7 @@ use trial::words::part;
 use trial::words::word_end;
 
 // The bytes of the text that are read at most.
-pub const TEXT_BYTES: usize = 32768;
+pub const TEXT_BYTES: usize = 65536;
 
 // A case: where its name ends, the file, and where the next case starts.
 struct Case {

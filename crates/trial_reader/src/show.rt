@@ -1,10 +1,13 @@
 // A line for a file: its name, then `refused` with the number, or `read` with m, k, the columns, the six numbers d, and the six limits q, `-`
-// where one is not given.
+// where one is not given. Of a file with two kinds of engine, which is refused 42, also what it reads as where two kinds may be: the same, the second kind's number, U and
+// S, and the six types' u and s there, `-` where they are not given.
 use system::Answer;
 use system::Most;
 use system::Refusal;
+use system::Second;
 use system::System;
 use system::TaskType;
+use system::There;
 use trial::files::first_of;
 use trial::say::say;
 use trial::say::say_also;
@@ -57,6 +60,38 @@ fn say_system(y: System) {
     say_most(types[5]);
 }
 
+fn say_there(t: TaskType) {
+    let there = t.there;
+    match there {
+        There::Absent => say(b" -"),
+        There::Takes(c) => {
+            say_also(c.time as usize);
+            say_also(c.memory as usize);
+        }
+    }
+}
+
+// What is read of a card with two kinds; nothing where there is one.
+fn say_card(y: System) {
+    let types = y.types;
+    let second = y.second;
+    let Second::TwoKinds(k) = second else {
+        return;
+    };
+    say_system(y);
+    say(b" second");
+    say_also(k.number);
+    say_also(k.timecap as usize);
+    say_also(k.memorycap as usize);
+    say(b" there");
+    say_there(types[0]);
+    say_there(types[1]);
+    say_there(types[2]);
+    say_there(types[3]);
+    say_there(types[4]);
+    say_there(types[5]);
+}
+
 fn say_number(n: usize) {
     say(b" number");
     say_also(n);
@@ -72,5 +107,7 @@ pub fn show(name: &[u8], file: Bytes) {
         Answer::Number(n) => say_number(n),
         Answer::Accepted => say_system(r.system),
     }
+    let card = system::read_card(first_of(&bytes, file.size));
+    say_card(card.system);
     say(b"\n");
 }

@@ -6,12 +6,15 @@
 // - f: what is answered, and the file's bytes;
 // - z and the number of a type: what comes back of the file with a tag 3 of d 0 after that type; e: after each type that has no d;
 // - b, a: the bytes of that file; and of what is read from it and written again;
-// - l: how buffers of every length are answered.
+// - l: how buffers of every length up to 164 are answered; m: up to 242, for files with two kinds of engine;
+// - r and a number: what a call with a buffer of so many bytes answers, and the file's bytes where it is written.
 // They come in groups: each number at its limit, past it, and at what is within it if its upper bytes are dropped, then the columns, of which 65,536 to the
 // 4th is 0 in 64 bits, and to the 6th too. Each two refusals, the one that is asked first before the other; no system calls for both 7 and 9: its k is then
 // 7, and for 9 and 10 the great n stands past k. A d that is over its limit beside each refusal, and at both ends in each type. Junk past the last type.
 // Whole files. Files with a d of 0. A q of 0 beside each refusal, and before an 8 in a later type: 8 is asked of all types before 31 is of any. A q at
-// both ends in each type, and above n. Then junk, files and a d of 0 again, with a q; and buffers of every length.
+// both ends in each type, and above n. Then junk, files and a d of 0 again, with a q; and buffers of every length. At last systems with two kinds of engine: 41, which comes after
+// 7 and 9 and before 5; the numbers of the second kind and the costs there at their limits; junk past the last type; whole files; and all systems that were made outside this
+// project from request 2026-13 (their names start with `vector`).
 use crate::lines;
 use crate::made;
 use crate::sweeps;
@@ -25,6 +28,7 @@ use trial::say;
 use trial::words::after;
 use trial::words::byte_of;
 use trial::words::line_end;
+use trial::words::number_in;
 use trial::words::part;
 use trial::words::word_end;
 
@@ -36,10 +40,10 @@ const DATA: [usize; 5] = [0, 1, 1000000, 1000001, 4294967295];
 
 const MOSTS: [usize; 5] = [0, 1, 256, 65535, NOT_GIVEN];
 
-// A case: its kind, the index of the type that it names, its system, where its name starts and ends, and where the next case starts.
+// A case: its kind, the number of the type that it names or of its buffer's bytes, its system, where its name starts and ends, and where the next case starts.
 struct Case {
     kind: u8,
-    index: usize,
+    number: usize,
     system: System,
     start: usize,
     end: usize,
@@ -48,13 +52,14 @@ struct Case {
 
 // The case that starts at a place.
 fn case_at(text: &[u8], at: usize) -> Case {
-    let numbered = byte_of(text, wrapping_add_usize(at, 1));
-    let m = made::made_at(text, after(word_end(text, at)));
+    let named = word_end(text, at);
+    let number = number_in(text, wrapping_add_usize(at, 1), named);
+    let m = made::made_at(text, after(named));
     let y = m.system;
     let ended = line_end(text, m.at);
     Case {
         kind: byte_of(text, at),
-        index: wrapping_sub_usize(numbered as usize, 49),
+        number,
         system: y,
         start: wrapping_add_usize(m.at, 2),
         end: ended,
@@ -63,7 +68,8 @@ fn case_at(text: &[u8], at: usize) -> Case {
 }
 
 // What follows the name.
-fn say_kind(kind: u8, y: System, t: usize) {
+fn say_kind(kind: u8, y: System, number: usize) {
+    let t = wrapping_sub_usize(number, 1);
     match kind {
         b't' => say::say(b"\n"),
         b'c' => lines::say_call(y, 256),
@@ -74,6 +80,7 @@ fn say_kind(kind: u8, y: System, t: usize) {
         b'z' => lines::say_zero(zeros::with_zero(files::file_of(y), y, t)),
         b'e' => lines::say_zero(zeros::with_zeros(y)),
         b'b' => lines::say_whole(zeros::with_zeros(y)),
+        b'r' => lines::say_room(y, number),
         _ => lines::say_again(zeros::with_zeros(y)),
     }
 }
@@ -85,8 +92,11 @@ fn say_case(name: &[u8], c: Case) -> usize {
     if kind == b'l' {
         return sweeps::say_lengths(name, y);
     }
+    if kind == b'm' {
+        return sweeps::say_longer(name, y);
+    }
     say::say(name);
-    say_kind(kind, y, c.index);
+    say_kind(kind, y, c.number);
     0
 }
 

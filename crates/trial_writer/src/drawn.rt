@@ -17,6 +17,8 @@ const ENGINES: [usize; 8] = [1, 1, 2, 3, 8, 15, 16, 16];
 
 const NO_ENGINES: [usize; 4] = [0, 17, 257, 18446744073709551615];
 
+const SECONDS: [usize; 8] = [1, 1, 1, 2, 8, 13, 14, 15];
+
 const RULES: [usize; 8] = [0, 1, 0, 1, 0, 1, 0, 1];
 
 const NO_RULES: [usize; 4] = [2, 3, 128, 255];
@@ -80,6 +82,40 @@ fn drawn_platform(seed: u64) -> Drawn {
     with_drawn(timed, b'S', 0, SIZES, NO_SIZES)
 }
 
+// The system with a second kind of engine: its number, U and S.
+fn with_drawn_second(d: Drawn) -> Drawn {
+    let counted = with_drawn(d, b'x', 0, SECONDS, NO_COUNTS);
+    let timed = with_drawn(counted, b'X', 0, SIZES, NO_SIZES);
+    with_drawn(timed, b'Z', 0, SIZES, NO_SIZES)
+}
+
+// The system with costs there of the type at index t, which one in 16 has not, as long as it is one of the first k, and one in two past them.
+fn with_drawn_there(d: Drawn, t: usize) -> Drawn {
+    let y = d.system;
+    let side = draw(d.seed, 16);
+    let limit = if t < y.typecount { 1 } else { 8 };
+    let given = Drawn {
+        seed: side.seed,
+        system: y,
+        room: d.room,
+    };
+    if side.value < limit {
+        return given;
+    }
+    let timed = with_drawn(given, b'v', t, SIZES, NO_SIZES);
+    with_drawn(timed, b'z', t, SIZES, NO_SIZES)
+}
+
+// All six.
+fn with_drawn_theres(d: Drawn) -> Drawn {
+    let one = with_drawn_there(d, 0);
+    let two = with_drawn_there(one, 1);
+    let three = with_drawn_there(two, 2);
+    let four = with_drawn_there(three, 3);
+    let five = with_drawn_there(four, 4);
+    with_drawn_there(five, 5)
+}
+
 // The length of the buffer: the file's less one, the file's, one more, or 256.
 fn with_drawn_room(d: Drawn) -> Drawn {
     let drawn = draw(d.seed, 4);
@@ -96,12 +132,32 @@ fn with_drawn_room(d: Drawn) -> Drawn {
     }
 }
 
-pub fn drawn_edges(seed: u64) -> Drawn {
-    let none = drawn_platform(seed);
+fn drawn_types(none: Drawn) -> Drawn {
     let one = with_drawn_type(none, 0);
     let two = with_drawn_type(one, 1);
     let three = with_drawn_type(two, 2);
     let four = with_drawn_type(three, 3);
     let five = with_drawn_type(four, 4);
-    with_drawn_room(with_drawn_type(five, 5))
+    with_drawn_type(five, 5)
+}
+
+pub fn drawn_edges(seed: u64) -> Drawn {
+    with_drawn_room(drawn_types(drawn_platform(seed)))
+}
+
+// The same with two kinds of engine. One in 16 has costs there alone.
+pub fn drawn_kinds(seed: u64) -> Drawn {
+    let d = drawn_types(drawn_platform(seed));
+    let y = d.system;
+    let side = draw(d.seed, 16);
+    let mut both = Drawn {
+        seed: side.seed,
+        system: y,
+        room: d.room,
+    };
+    if side.value != 0 {
+        let next = with_drawn_second(both);
+        both = next;
+    }
+    with_drawn_room(with_drawn_theres(both))
 }

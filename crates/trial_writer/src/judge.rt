@@ -1,6 +1,9 @@
 // Which systems documents 01 and 02 let the writer write, decided apart from it.
 ghost use Prim.Native.Nat.{_≤_};
+use std::num::wrapping_add_usize;
+use system::Second;
 use system::System;
+use system::There;
 use trial::systems;
 
 // u, s or d of the type at index t is over the limit, where the system has that type.
@@ -15,10 +18,42 @@ fn oversized_type(y: System, t: usize) -> bool {
     (1000000 < task.time) | (1000000 < task.memory) | (1000000 < task.data)
 }
 
-// U, S, or u, s or d of one of the types.
+// U or S of a second kind is, or u or s there of the type at index t.
+fn oversized_second(y: System) -> bool {
+    let second = y.second;
+    let kind = systems::kind_of(second);
+    (1000000 < kind.timecap) | (1000000 < kind.memorycap)
+}
+
+fn oversized_there(y: System, t: usize) -> bool {
+    if 6 <= t {
+        return false;
+    }
+    if y.typecount <= t {
+        return false;
+    }
+    let task = y.types[t];
+    let there = task.there;
+    let costs = systems::costs_of(there);
+    (1000000 < costs.time) | (1000000 < costs.memory)
+}
+
+// u or s there of one of the types.
+fn oversized_theres(y: System) -> bool {
+    oversized_there(y, 0)
+        | oversized_there(y, 1)
+        | oversized_there(y, 2)
+        | oversized_there(y, 3)
+        | oversized_there(y, 4)
+        | oversized_there(y, 5)
+}
+
+// U, S, or u, s or d of one of the types, or a number of a second kind.
 fn oversized(y: System) -> bool {
     (1000000 < y.timecap)
         | (1000000 < y.memorycap)
+        | oversized_second(y)
+        | oversized_theres(y)
         | oversized_type(y, 0)
         | oversized_type(y, 1)
         | oversized_type(y, 2)
@@ -48,6 +83,40 @@ fn without_places(y: System) -> bool {
         | without_place(y, 3)
         | without_place(y, 4)
         | without_place(y, 5)
+}
+
+// The type at index t, where the system has it, has costs on a second kind where there is none, or has none where there is one.
+fn unpaired(y: System, t: usize) -> bool {
+    if 6 <= t {
+        return false;
+    }
+    if y.typecount <= t {
+        return false;
+    }
+    let task = y.types[t];
+    let there = task.there;
+    let second = y.second;
+    systems::given(there) != systems::two_kinds(second)
+}
+
+// One of the types.
+fn some_unpaired(y: System) -> bool {
+    unpaired(y, 0)
+        | unpaired(y, 1)
+        | unpaired(y, 2)
+        | unpaired(y, 3)
+        | unpaired(y, 4)
+        | unpaired(y, 5)
+}
+
+// There are no engines of a second kind, where there is one, or more than 16 in all.
+fn miscounted(y: System) -> bool {
+    let second = y.second;
+    let kind = systems::kind_of(second);
+    if !systems::two_kinds(second) {
+        return false;
+    }
+    (kind.number < 1) | (16 < kind.number) | (16 < wrapping_add_usize(y.engines, kind.number))
 }
 
 // How often the columns of the types up to index t go into what `left` the types before have, 0 where they pass it.
@@ -85,9 +154,22 @@ fn most_bytes(q: usize) -> usize
     if q < 65536 { 5 } else { 0 }
 }
 
-// The bytes that the type at index t has in the file, where the system has that type: 13, and those of its d and its q.
+// The bytes of the costs there, and of a second kind.
+fn there_bytes(there: There) -> usize
+    ensures { λ r. ⌜ r ≤ 11 ⌝ }
+{
+    if systems::given(there) { 11 } else { 0 }
+}
+
+fn second_bytes(second: Second) -> usize
+    ensures { λ r. ⌜ r ≤ 12 ⌝ }
+{
+    if systems::two_kinds(second) { 12 } else { 0 }
+}
+
+// The bytes that the type at index t has in the file, where the system has that type: 13, and those of its d, its q, and its costs there.
 fn bytes_of(y: System, t: usize) -> usize
-    ensures { λ r. ⌜ r ≤ 25 ⌝ }
+    ensures { λ r. ⌜ r ≤ 36 ⌝ }
 {
     if 6 <= t {
         return 0;
@@ -97,12 +179,14 @@ fn bytes_of(y: System, t: usize) -> usize
     }
     let task = y.types[t];
     let most = task.most;
-    13 + data_bytes(task.data) + most_bytes(systems::most_number(most))
+    let there = task.there;
+    13 + data_bytes(task.data) + most_bytes(systems::most_number(most)) + there_bytes(there)
 }
 
 // The buffer has fewer bytes than the file.
 fn short(y: System, room: usize) -> bool {
-    let one = 13 + bytes_of(y, 0);
+    let second = y.second;
+    let one = 13 + second_bytes(second) + bytes_of(y, 0);
     let two = one + bytes_of(y, 1);
     let three = two + bytes_of(y, 2);
     let four = three + bytes_of(y, 3);
@@ -118,7 +202,10 @@ pub fn refusal_of(y: System, room: usize) -> usize {
     if y.typecount == 0 {
         return 9;
     }
-    if (y.engines < 1) | (16 < y.engines) {
+    if some_unpaired(y) {
+        return 41;
+    }
+    if (y.engines < 1) | (16 < y.engines) | miscounted(y) {
         return 5;
     }
     if 1 < y.rule {

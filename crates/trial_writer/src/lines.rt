@@ -4,7 +4,7 @@ use crate::rounds;
 use system::Answer;
 use system::Refusal;
 use system::System;
-use system::read_system;
+use system::read_card;
 use trial::changes::with_number;
 use trial::files;
 use trial::files::File;
@@ -88,10 +88,23 @@ pub fn say_file(y: System) {
     }
 }
 
+// The same of a buffer of so many bytes, judged; the bytes where it is written, and the end of a line in every case.
+pub fn say_room(y: System, room: usize) {
+    let c = lent::called(y, room, 33);
+    let answer = c.answer;
+    let bytes = c.bytes;
+    say_judged(y, room);
+    if let Answer::Number(n) = answer {
+        say_bytes(bytes, n);
+    } else {
+        say::say(b"\n");
+    }
+}
+
 // What a file reads as.
 fn system_of(f: File) -> System {
     let bytes = f.bytes;
-    let o = read_system(files::first_of(&bytes, f.size));
+    let o = read_card(files::first_of(&bytes, f.size));
     o.system
 }
 

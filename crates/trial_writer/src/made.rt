@@ -1,10 +1,13 @@
 // The systems of the trial, made by the words of a case one after the other from a system of which every number is 0. A word is one of crate `trial`'s
 // changes; or `plain`, a system of six types, 16 engines and 1,024 columns, whose numbers all differ; `with-d`, the same with a d for each type;
-// `longest`, with a q for each type too; or `junk`, which puts the greatest numbers that there are, and a q of 0, past the last type.
+// `longest`, with a q for each type too; or `junk`, which puts the greatest numbers that there are, costs on a second kind among them, and a q of 0, past the last type; or `Mixed`, the
+// longest file that there is, with a second kind of engine.
+use system::Costs;
 use system::Most;
 use system::System;
 use system::TYPE_LIMIT;
 use system::TaskType;
+use system::There;
 use system::blank_system;
 use trial::changes;
 use trial::changes::Change;
@@ -34,6 +37,10 @@ fn with_junk_at(y: System, t: usize) -> System {
         ceiling: 65535,
         data: 4294967295,
         most: Most::AtMost(0),
+        there: There::Takes(Costs {
+            time: 4294967295,
+            memory: 4294967295,
+        }),
     };
     z
 }
@@ -55,6 +62,7 @@ fn after_word(y: System, c: Change) -> System {
         b'w' => systems::system_stacked(1),
         b'l' => systems::system_longest(1),
         b'j' => with_junk(y),
+        b'M' => systems::system_mixed(1),
         _ => changes::changed(y, c),
     }
 }
@@ -68,13 +76,13 @@ fn with_word(text: &[u8], m: Made) -> Made {
     }
 }
 
-// The system of at most 32 words from a place on, up to the bar after them.
+// The system of at most 64 words from a place on, up to the bar after them.
 pub fn made_at(text: &[u8], start: usize) -> Made {
     let mut m = Made {
         system: blank_system(),
         at: start,
     };
-    for i in 0..32usize {
+    for i in 0..64usize {
         if byte_of(text, m.at) != b'|' {
             let next = with_word(text, m);
             m = next;

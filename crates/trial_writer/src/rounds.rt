@@ -3,7 +3,7 @@ use crate::judge;
 use crate::lent;
 use crate::zeros;
 use system::System;
-use system::read_system;
+use system::read_card;
 use trial::buffers::same_front;
 use trial::files;
 use trial::files::File;
@@ -21,12 +21,16 @@ fn with_known(z: System, y: System, t: usize) -> System {
     let task = y.types[t];
     let more = systems::with_type(z, task.time, task.memory, task.ceiling);
     let most = task.most;
-    systems::with_most_at(systems::with_data(more, task.data), t, most)
+    let there = task.there;
+    let limited = systems::with_most_at(systems::with_data(more, task.data), t, most);
+    systems::with_there_at(limited, t, there)
 }
 
-// The platform and the first k types alone, made anew: 0 and no q past them.
+// The platform, any second kind, and the first k types alone, made anew: 0, no q and no costs there past them.
 fn known_part(y: System) -> System {
-    let none = systems::platform_of(y.engines, y.rule, y.timecap, y.memorycap);
+    let second = y.second;
+    let platform = systems::platform_of(y.engines, y.rule, y.timecap, y.memorycap);
+    let none = systems::with_kinds(platform, second);
     let one = with_known(none, y, 0);
     let two = with_known(one, y, 1);
     let three = with_known(two, y, 2);
@@ -39,7 +43,7 @@ fn known_part(y: System) -> System {
 fn comes_back(y: System, from: File, to: File) -> bool {
     let bytes = from.bytes;
     let wanted = to.bytes;
-    let o = read_system(files::first_of(&bytes, from.size));
+    let o = read_card(files::first_of(&bytes, from.size));
     let read = o.answer;
     let z = o.system;
     let again = lent::called(z, to.size, 90);

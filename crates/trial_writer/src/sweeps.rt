@@ -1,5 +1,6 @@
 // Many calls, each judged, and counted by what it answered.
 use crate::drawn::drawn_edges;
+use crate::drawn::drawn_kinds;
 use crate::lent;
 use crate::rounds;
 use std::num::wrapping_add_usize;
@@ -21,7 +22,7 @@ fn no_tally() -> Tally {
     }
 }
 
-// Where an answer is counted; 9 for one that the writer never gives.
+// Where an answer is counted: 41 last, and 9 for one that the writer never gives.
 fn place_of(a: Answer) -> usize {
     let code = say::code_of(a);
     if 1000 < code {
@@ -36,6 +37,7 @@ fn place_of(a: Answer) -> usize {
         131 => 6,
         110 => 7,
         130 => 8,
+        141 => 10,
         _ => 9,
     }
 }
@@ -68,12 +70,14 @@ fn judged(t: Tally, y: System, room: usize) -> Tally {
     mismatch(next, y, room)
 }
 
-// Buffers of every length from 0 to one more than the longest file.
-fn lengths(y: System) -> Tally {
+// Buffers of every length from 0 on, fewer than `end` and than 243: the longest file of one kind of engine has 163 bytes, and of two 241.
+fn lengths(y: System, end: usize) -> Tally {
     let mut all = no_tally();
-    for room in 0..165usize {
-        let next = judged(all, y, room);
-        all = next;
+    for room in 0..243usize {
+        if room < end {
+            let next = judged(all, y, room);
+            all = next;
+        }
     }
     all
 }
@@ -111,6 +115,26 @@ fn edges() -> Tally {
     r.tally
 }
 
+// The same with two kinds of engine, or only a part of them.
+fn next_kinds(r: Run) -> Run {
+    let d = drawn_kinds(r.seed);
+    let y = d.system;
+    let tally = r.tally;
+    Run {
+        seed: d.seed,
+        tally: judged(tally, y, d.room),
+    }
+}
+
+fn kinds() -> Tally {
+    let mut r = first_run(3);
+    for i in 0..10000usize {
+        let next = next_kinds(r);
+        r = next;
+    }
+    r.tally
+}
+
 // The largest n of k types, so that the columns of most systems are within their limit.
 fn most_of(k: usize) -> usize {
     match k {
@@ -143,6 +167,26 @@ fn drawn() -> Tally {
     r.tally
 }
 
+fn next_mixed(r: Run, k: usize) -> Run {
+    let d = spread::drawn_mixed(r.seed, 16, k, most_of(k));
+    let y = d.system;
+    let tally = r.tally;
+    Run {
+        seed: d.seed,
+        tally: judged(tally, y, 256),
+    }
+}
+
+// The same of two kinds.
+fn mixed() -> Tally {
+    let mut r = first_run(4);
+    for i in 0..3000usize {
+        let next = next_mixed(r, i % 6 + 1);
+        r = next;
+    }
+    r.tally
+}
+
 // A line for some calls; answers how many of them were wrong.
 fn say_tally(name: &[u8], t: Tally) -> usize {
     let row = t.answers;
@@ -150,13 +194,26 @@ fn say_tally(name: &[u8], t: Tally) -> usize {
     t.wrong
 }
 
+// The same with the number of those refused 41.
+fn say_kinds(name: &[u8], t: Tally) -> usize {
+    let row = t.answers;
+    say::say_row(name, row, 11);
+    t.wrong
+}
+
 pub fn say_lengths(name: &[u8], y: System) -> usize {
-    say_tally(name, lengths(y))
+    say_tally(name, lengths(y, 165))
+}
+
+pub fn say_longer(name: &[u8], y: System) -> usize {
+    say_kinds(name, lengths(y, 243))
 }
 
 // The drawn systems, and how many calls were wrong, among them and before them.
 pub fn say_sweeps(wrong: usize) {
     let ends = wrapping_add_usize(wrong, say_tally(b"ends of the limits:", edges()));
-    let all = wrapping_add_usize(ends, say_tally(b"drawn:", drawn()));
+    let one = wrapping_add_usize(ends, say_tally(b"drawn:", drawn()));
+    let paired = wrapping_add_usize(one, say_kinds(b"ends of the limits, two kinds:", kinds()));
+    let all = wrapping_add_usize(paired, say_kinds(b"drawn, two kinds:", mixed()));
     say::say_count(b"mismatches", all);
 }

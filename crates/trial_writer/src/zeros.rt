@@ -1,10 +1,12 @@
 // Files with a tag 3 that gives a d of 0: the reader takes it as none, so that the file is not that of its system.
 use std::num::wrapping_add_usize;
 use system::System;
+use system::There;
 use trial::changes::NOT_GIVEN;
 use trial::changes::with_number;
 use trial::files;
 use trial::files::File;
+use trial::systems;
 
 // A byte of such a field.
 fn zero_byte(i: usize) -> u8 {
@@ -47,11 +49,12 @@ fn with_field(f: File, at: usize) -> File {
     }
 }
 
-// The place in the file of a system where the field of its type at index t ends, before that of its q: how long the file of the types up to
-// that one is without it.
+// The place in the file of a system where the field of its type at index t ends, before those of its q and its costs there: how long the file of the types up to
+// that one is without them.
 fn end_of(y: System, t: usize) -> usize {
     let first = with_number(y, b'k', 0, wrapping_add_usize(t, 1));
-    let f = files::file_of(with_number(first, b'q', t, NOT_GIVEN));
+    let bare = systems::with_there_at(with_number(first, b'q', t, NOT_GIVEN), t, There::Absent);
+    let f = files::file_of(bare);
     f.size
 }
 

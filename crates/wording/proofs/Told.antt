@@ -12,7 +12,7 @@ use Rattle.system.specs.declared.Refusal.the-variants.{Input, State}
 use Rattle.system.specs.Values.{ceilingsOf}
 use Rattle.system.specs.Layout.{Reading, readFile, opened, unread}
 use Rattle.system.specs.Outcome.{refused, fromInput, fromState, check}
-use Rattle.system.proofs.Laws.{Limits, read-limits}
+use Rattle.system.proofs.Laws.{Limits, read-limits, file-card}
 use Rattle.system.proofs.Prefix.{read-prefix}
 use Rattle.loads.proofs.Order.{within-refl}
 use Rattle.partition.specs.Assignment.{Assignment, enginesTo}
@@ -27,7 +27,7 @@ use Rattle.listing.specs.Listing.{refusalLine, listingOf, verdictListing}
 use Rattle.listing.specs.Demands.{TellsRefusal}
 use Rattle.listing.specs.Text.{readingVerdict}
 use Rattle.listing.proofs.Lines.{number-told}
-use Rattle.listing.proofs.Text.{LongForAll, long-for-all}
+use Rattle.listing.proofs.Text.{LongForAll, long-for-all, one-kind-text}
 use Rattle.causes.specs.declared.Cause.{Cause}
 use Rattle.causes.specs.declared.Cause.the-variants.{Possible, NoEngine, OneTooLarge, TooMuchTime, TooMuchMemory, TooManyReplicas, NoArrangement}
 use Rattle.causes.specs.declared.CauseAnswer.{CauseAnswer}
@@ -99,7 +99,7 @@ unfolding readingLine
 tells-why file = record {
   unreadable = λ n e. rw e (number-told n);
   cause = λ y e. rw e (cause-told file y e);
-  refused12 = λ y e. rw e (listing-12 file y e);
+  refused12 = λ y e. rw (e, one-kind-text file y e) (listing-12 file y e);
 }
 
 -- main: the line of what the code is answered, over a table that is long enough
@@ -120,7 +120,7 @@ answer-line file table a size o = go (readFile file) refl o
   where
     go : (x : Reading) → readFile file ≡ x → causeOutcomeOf a ≡ planCause x table → answerLine a ≡ readingLine x
     go (unread n) e o = unread-line a n o
-    go (opened y) e o = cause-line a _ (o ∙ rw (long-back y (read-limits file y e) table (long-for-all file y table e size)))
+    go (opened y) e o = cause-line a _ (o ∙ rw (long-back y (read-limits file y e) table (long-for-all file y table (file-card file y e .0) size)))
 
 pub why-promised : {file : List ℕ} {table after : Lent} {old new : List ℕ} {a : CauseAnswer} {r : ℕ} → LongForAll table → PlanCausePromises (readFile file) table a after
     → Written (answerLine a) old new r → WhyPromises file old new r

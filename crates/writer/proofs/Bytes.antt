@@ -1,4 +1,5 @@
--- The bytes of a file, as the writer's code is described, are document 01's layout byte by byte, without a zero tag 3; a platform has 13 of them, a type 13, its d 7 and its q 5.
+-- The bytes of a file, as the writer's code is described, are document 01's layout byte by byte, without a zero tag 3; a platform has 13 of them, a second kind 12, a type 13, its d 7, its q 5,
+-- and its u and s on the second kind 11.
 -- A number's four bytes agree as quotients and remainders; the fields of types agree by one type more at the end.
 use Prim.Native.Nat.{ℕ, zero, suc, _+_, _-_, _*_, _/_, _%_, _≤_}
 use mathlib.Core.Path.{_≡_, refl, sym, ap, ap₂, _∙_}
@@ -12,14 +13,20 @@ use lib.Dec.{eqb}
 use Rattle.buffer.specs.Bytes.{bytes4}
 use Rattle.system.specs.declared.Most.{Most}
 use Rattle.system.specs.declared.Most.the-variants.{NotGiven, AtMost}
+use Rattle.system.specs.declared.Costs.{Costs}
+use Rattle.system.specs.declared.There.{There}
+use Rattle.system.specs.declared.There.the-variants.{Absent, Takes}
+use Rattle.system.specs.declared.Kind.{Kind}
+use Rattle.system.specs.declared.Second.{Second}
+use Rattle.system.specs.declared.Second.the-variants.{OneKind, TwoKinds}
 use Rattle.system.specs.declared.TaskType.{TaskType}
 use Rattle.system.specs.declared.System.{System}
 use Rattle.system.specs.Limits.{typeLimit}
 use Rattle.system.specs.Values.{noTask}
 use Rattle.system.specs.Rules.{ruleOf, longestFile}
 use Rattle.partition.specs.Plain.{typeNo}
-use Rattle.writer.specs.File.{fieldBytes, platformBytes, dataBytes, mostBytes, typeBytes, typesBytes, fileOf}
-use Rattle.writer.specs.Meaning.{twoOut, fourOut, platformOut, dataOut, mostOut, typeOut, typesOut, fileOut}
+use Rattle.writer.specs.File.{fieldBytes, platformBytes, secondBytes, dataBytes, mostBytes, costsBytes, typeBytes, typesBytes, fileOf}
+use Rattle.writer.specs.Meaning.{twoOut, fourOut, platformOut, secondOut, dataOut, mostOut, costsOut, typeOut, typesOut, fileOut}
 
 -- intermediate: one field
 
@@ -43,10 +50,20 @@ unfolding fieldBytes ruleOf
 most-out NotGiven = refl
 most-out (AtMost q) = refl
 
+second-out : (s : Second) → secondBytes s ≡ secondOut s
+unfolding fieldBytes ruleOf
+second-out OneKind = refl
+second-out (TwoKinds k) = λ i. 6 ∷ 0 ∷ 9 ∷ k .number ∷ (four-out (k .timecap) i ++ four-out (k .memorycap) i)
+
+costs-out : (c : There) → costsBytes c ≡ costsOut c
+unfolding fieldBytes ruleOf
+costs-out Absent = refl
+costs-out (Takes c) = λ i. 7 ∷ 0 ∷ 8 ∷ (four-out (c .time) i ++ four-out (c .memory) i)
+
 type-out : (t : TaskType) → typeBytes t ≡ typeOut false t
 unfolding fieldBytes ruleOf
 type-out t =
-    λ i. 2 ∷ 0 ∷ 10 ∷ (four-out (t .time) i ++ (four-out (t .memory) i ++ (twoOut (t .ceiling) ++ (data-out (t .data) i ++ most-out (t .most) i))))
+    λ i. 2 ∷ 0 ∷ 10 ∷ (four-out (t .time) i ++ (four-out (t .memory) i ++ (twoOut (t .ceiling) ++ (data-out (t .data) i ++ (most-out (t .most) i ++ costs-out (t .there) i)))))
 
 -- intermediate: one type more
 
@@ -73,7 +90,7 @@ types-out y (suc k) h =
 
 pub file-out : (y : System) → y .typecount ≤ length (y .types) → fileOf y ≡ fileOut y
 unfolding fileOf
-file-out y h = ap₂ (λ (a b : List ℕ). a ++ b) (platform-out y) (types-out y (y .typecount) h)
+file-out y h = λ i. platform-out y i ++ (second-out (y .second) i ++ types-out y (y .typecount) h i)
 
 -- main: sizes
 
@@ -94,14 +111,24 @@ pub most-some : (q : ℕ) → length (mostBytes (AtMost q)) ≡ 5
 unfolding fieldBytes ruleOf
 most-some q = refl
 
-pub type-size : (t : TaskType) → length (typeBytes t) ≡ 13 + length (dataBytes (t .data)) + length (mostBytes (t .most))
+-- a second kind has 12, and u and s there 11, where they are given
+pub second-some : (s : Second) {k : Kind} → s ≡ TwoKinds k → length (secondBytes s) ≡ 12
 unfolding fieldBytes ruleOf
-type-size t = omega (arith, length-append (dataBytes (t .data)) (mostBytes (t .most)))
+second-some s {k = k} is = ap (λ (x : Second). length (secondBytes x)) is
+
+pub costs-some : (x : There) {c : Costs} → x ≡ Takes c → length (costsBytes x) ≡ 11
+unfolding fieldBytes ruleOf
+costs-some x {c = c} is = ap (λ (z : There). length (costsBytes z)) is
+
+pub type-size : (t : TaskType) → length (typeBytes t) ≡ 13 + length (dataBytes (t .data)) + length (mostBytes (t .most)) + length (costsBytes (t .there))
+unfolding fieldBytes ruleOf
+type-size t =
+    omega (arith, length-append (dataBytes (t .data)) (mostBytes (t .most) ++ costsBytes (t .there)), length-append (mostBytes (t .most)) (costsBytes (t .there)))
 
 pub types-size : (ts : List TaskType) (t : TaskType) → length (typesBytes (ts ++ (t ∷ []))) ≡ length (typesBytes ts) + length (typeBytes t)
 types-size ts t = ap length (types-more ts t) ∙ length-append (typesBytes ts) (typeBytes t)
 
--- the longest: 13 + 6 × 25 = 163
+-- the longest: 13 + 12 + 6 × 36 = 241
 
 pub data-longest : (d : ℕ) → length (dataBytes d) ≤ 7
 data-longest d = at (eqb d 0) refl
@@ -114,19 +141,34 @@ pub most-longest : (m : Most) → length (mostBytes m) ≤ 5
 most-longest NotGiven = omega arith
 most-longest (AtMost q) = omega (arith, most-some q)
 
-type-longest : (t : TaskType) → length (typeBytes t) ≤ 25
-type-longest t = omega (arith, type-size t, data-longest (t .data), most-longest (t .most))
+pub second-longest : (s : Second) → length (secondBytes s) ≤ 12
+second-longest OneKind = omega arith
+second-longest (TwoKinds k) = omega (arith, second-some (TwoKinds k) refl)
 
-types-longest : (ts : List TaskType) → length (typesBytes ts) ≤ 25 * length ts
+pub costs-longest : (x : There) → length (costsBytes x) ≤ 11
+costs-longest Absent = omega arith
+costs-longest (Takes c) = omega (arith, costs-some (Takes c) refl)
+
+type-longest : (t : TaskType) → length (typeBytes t) ≤ 36
+type-longest t = omega (arith, type-size t, data-longest (t .data), most-longest (t .most), costs-longest (t .there))
+
+types-longest : (ts : List TaskType) → length (typesBytes ts) ≤ 36 * length ts
 unfolding typesBytes
 types-longest [] = omega arith
 types-longest (t ∷ ts) = omega (arith, length-append (typeBytes t) (typesBytes ts), type-longest t, types-longest ts)
 
-pub first-longest : (ts : List TaskType) (k : ℕ) → length (typesBytes (take k ts)) ≤ 25 * k
+pub first-longest : (ts : List TaskType) (k : ℕ) → length (typesBytes (take k ts)) ≤ 36 * k
 first-longest ts k = omega (arith, types-longest (take k ts), length-take k ts)
 
 pub file-longest : (y : System) → y .typecount ≤ typeLimit → length (fileOf y) ≤ longestFile
 unfolding fileOf
 file-longest y h =
     let types = take (y .typecount) (y .types) in
-    omega (arith, length-append (platformBytes y) (typesBytes types), platform-size y, first-longest (y .types) (y .typecount))
+    omega (
+      arith,
+      length-append (platformBytes y) (secondBytes (y .second) ++ typesBytes types),
+      length-append (secondBytes (y .second)) (typesBytes types),
+      platform-size y,
+      second-longest (y .second),
+      first-longest (y .types) (y .typecount),
+    )

@@ -1,14 +1,17 @@
--- A q need not be at most n (request 2026-04): a system with q 65,535 beside n 0, and with q 7 beside n 3, is read from its file, and written it gives the same bytes. All by computation.
+-- A q need not be at most n (request 2026-04): a system with q 65,535 beside n 0, and with q 7 beside n 3, is read from its file, and written it gives the same bytes.
+-- A card of two kinds of engine (request 2026-13) is read from its file, refused 42 where one kind is wanted, and written it gives the same bytes. All by computation.
 use Prim.Native.Nat.{ℕ}
 use mathlib.Core.Path.{_≡_, refl}
 use mathlib.Core.List.{List, [], _∷_}
 use lib.ListN.{replicate}
 use Rattle.system.specs.declared.Most.the-variants.{AtMost}
+use Rattle.system.specs.declared.There.the-variants.{Absent, Takes}
+use Rattle.system.specs.declared.Second.the-variants.{OneKind, TwoKinds}
 use Rattle.system.specs.declared.System.{System}
 use Rattle.system.specs.Values.{noTask}
-use Rattle.system.specs.Limits.{columnsOf}
+use Rattle.system.specs.Limits.{kindsAgree, columnsOf}
 use Rattle.system.specs.Rules.{ruleOf}
-use Rattle.system.specs.Layout.{opened, headOf, ruledHead, bodyOf, ruledField, fieldOf, platformFrom, typeFrom, dataFrom, mostFrom, endOf, fieldsFrom, readFile}
+use Rattle.system.specs.Layout.{opened, unread, headOf, ruledHead, bodyOf, ruledField, fieldOf, platformFrom, typeFrom, dataFrom, mostFrom, secondFrom, costsFrom, endOf, fieldsFrom, readCard, ofOneKind, readFile}
 use Rattle.system.specs.Outcome.{accepted}
 use Rattle.writer.specs.File.{fieldBytes, typesBytes, fileOf}
 use Rattle.writer.specs.Writing.{typesFault, mostsFault, systemFault, writeFault, writeOutcome, writtenTo}
@@ -22,9 +25,10 @@ replicas =
       memorycap = 200;
       typecount = 2;
       types =
-          record { time = 10; memory = 20; ceiling = 0; «data» = 0; most = AtMost 65535 }
-          ∷ record { time = 30; memory = 40; ceiling = 3; «data» = 5; most = AtMost 7 }
+          record { time = 10; memory = 20; ceiling = 0; «data» = 0; most = AtMost 65535; there = Absent }
+          ∷ record { time = 30; memory = 40; ceiling = 3; «data» = 5; most = AtMost 7; there = Absent }
           ∷ replicate 4 noTask;
+      second = OneKind;
     }
 
 -- the platform; type 1 and its q; type 2, its d and its q
@@ -39,9 +43,43 @@ file =
     ∷ []
 
 pub replicas-read : readFile file ≡ opened replicas
-unfolding readFile fieldsFrom fieldOf headOf ruledHead ruleOf ruledField bodyOf platformFrom typeFrom dataFrom mostFrom endOf columnsOf
+unfolding readFile ofOneKind readCard fieldsFrom fieldOf headOf ruledHead ruleOf ruledField bodyOf platformFrom typeFrom dataFrom mostFrom endOf kindsAgree columnsOf
 replicas-read = refl
 
 pub replicas-written : (writeOutcome replicas 56 ≡ accepted (56 ∷ [])) × (writtenTo replicas (replicate 56 0) ≡ file)
-unfolding writeOutcome writtenTo writeFault systemFault typesFault mostsFault columnsOf fileOf typesBytes fieldBytes ruleOf
+unfolding writeOutcome writtenTo writeFault systemFault kindsAgree typesFault mostsFault columnsOf fileOf typesBytes fieldBytes ruleOf
 replicas-written = (refl, refl)
+
+-- two kinds: 4 engines, and 2 more with U 50 and S 300, where the type needs 6 and 9
+abbrev pub kinds : System
+kinds =
+    record {
+      engines = 4;
+      rule = 1;
+      timecap = 100;
+      memorycap = 200;
+      typecount = 1;
+      types =
+          record { time = 10; memory = 20; ceiling = 3; «data» = 5; most = AtMost 7; there = Takes (record { time = 6; memory = 9 }) }
+          ∷ replicate 5 noTask;
+      second = TwoKinds (record { number = 2; timecap = 50; memorycap = 300 });
+    }
+
+-- the platform; the second kind; the type, its d, its q, and its u and s there
+abbrev pub card : List ℕ
+card =
+    1 ∷ 0 ∷ 10 ∷ 4 ∷ 1 ∷ 0 ∷ 0 ∷ 0 ∷ 100 ∷ 0 ∷ 0 ∷ 0 ∷ 200
+    ∷ 6 ∷ 0 ∷ 9 ∷ 2 ∷ 0 ∷ 0 ∷ 0 ∷ 50 ∷ 0 ∷ 0 ∷ 1 ∷ 44
+    ∷ 2 ∷ 0 ∷ 10 ∷ 0 ∷ 0 ∷ 0 ∷ 10 ∷ 0 ∷ 0 ∷ 0 ∷ 20 ∷ 0 ∷ 3
+    ∷ 3 ∷ 0 ∷ 4 ∷ 0 ∷ 0 ∷ 0 ∷ 5
+    ∷ 4 ∷ 0 ∷ 2 ∷ 0 ∷ 7
+    ∷ 7 ∷ 0 ∷ 8 ∷ 0 ∷ 0 ∷ 0 ∷ 6 ∷ 0 ∷ 0 ∷ 0 ∷ 9
+    ∷ []
+
+pub kinds-read : (readCard card ≡ opened kinds) × (readFile card ≡ unread 42)
+unfolding readFile ofOneKind readCard fieldsFrom fieldOf headOf ruledHead ruleOf ruledField bodyOf platformFrom typeFrom dataFrom mostFrom secondFrom costsFrom endOf kindsAgree columnsOf
+kinds-read = (refl, refl)
+
+pub kinds-written : (writeOutcome kinds 61 ≡ accepted (61 ∷ [])) × (writtenTo kinds (replicate 61 0) ≡ card)
+unfolding writeOutcome writtenTo writeFault systemFault kindsAgree typesFault mostsFault columnsOf fileOf typesBytes fieldBytes ruleOf
+kinds-written = (refl, refl)

@@ -1,15 +1,17 @@
--- Tests one after another, where the first that finds a fault decides; and one test of each type. The laws are of any test of a type, so that they serve 8 (u, s and d) and 31 (q).
+-- Tests one after another, where the first that finds a fault decides; and one test of each type. The laws are of any test of a type, so that they serve 8 (u, s and d, and u and s on the second kind)
+-- and 31 (q).
 use Prim.Native.Nat.{ℕ, zero, suc}
-use mathlib.Core.Path.{_≡_, refl, ap}
+use mathlib.Core.Path.{_≡_, refl, ap, ap₂}
 use mathlib.Core.List.{List, [], _∷_}
 use mathlib.Core.Bool.{Bool, true, false, cond}
+use native.Mathlib.Omega.{arith}
 use borrow.Author.Tests.{eqb-true, eqb-false, eq-eqb}
 use lib.ListN.{getD}
 use lib.Dec.{eqb}
 use Rattle.system.specs.declared.TaskType.{TaskType}
 use Rattle.system.specs.Values.{noTask}
-use Rattle.system.specs.Limits.{typeFault, mostFault}
-use Rattle.writer.specs.Writing.{orElse, typesFault, mostsFault}
+use Rattle.system.specs.Limits.{mostFault}
+use Rattle.writer.specs.Writing.{orElse, taskFault, typesFault, mostsFault, enginesFault}
 
 -- `orElse` is 0 exactly where both are
 
@@ -23,6 +25,18 @@ or-none fault later e = at (eqb fault 0) refl e
 pub none-or : (fault later : ℕ) → fault ≡ 0 → later ≡ 0 → orElse fault later ≡ 0
 none-or fault later p q = rw (eq-eqb fault 0 p) q
 
+-- and so the platform's fault and the second kind's as one, whichever comes first
+
+pub engines-none : (platform second : ℕ) → enginesFault platform second ≡ 0 → (platform ≡ 0) × (second ≡ 0)
+engines-none platform second e = at (eqb second 5) refl e
+  where
+    at : (b : Bool) → eqb second 5 ≡ b → cond b second (orElse platform second) ≡ 0 → (platform ≡ 0) × (second ≡ 0)
+    at true q e = absurd (omega (arith, eqb-true second 5 q))
+    at false q e = or-none platform second e
+
+pub none-engines : (platform second : ℕ) → platform ≡ 0 → second ≡ 0 → enginesFault platform second ≡ 0
+none-engines platform second p q = ap₂ enginesFault p q
+
 -- the first type that a test finds at fault
 
 unfoldable pub firstOf : (TaskType → ℕ) → List TaskType → ℕ
@@ -30,10 +44,10 @@ firstOf test [] = 0
 firstOf test (t ∷ ts) = orElse (test t) (firstOf test ts)
 
 -- 8 of some types, and 31
-pub types-first : (ts : List TaskType) → typesFault ts ≡ firstOf typeFault ts
+pub types-first : (ts : List TaskType) → typesFault ts ≡ firstOf taskFault ts
 unfolding typesFault firstOf
 types-first [] = refl
-types-first (t ∷ ts) = ap (orElse (typeFault t)) (types-first ts)
+types-first (t ∷ ts) = ap (orElse (taskFault t)) (types-first ts)
 
 abbrev pub replicaFault : TaskType → ℕ
 replicaFault t = mostFault (t .most)

@@ -1,4 +1,5 @@
 -- The order of the writer's refusals in plain words: the first test that says a number decides, and no two tests say the same number, so that a number tells its test.
+-- For that the tests of the platform and of a second kind are first regrouped by their numbers: 5 of both, 6, then 8 of both with that of the types.
 use Prim.Native.Nat.{ℕ, _≤_, _<_}
 use mathlib.Core.Path.{_≡_, refl, sym, ap, subst, _∙_}
 use mathlib.Core.List.{List, [], _∷_}
@@ -10,17 +11,18 @@ use lib.ListN.{length}
 use lib.Dec.{leb, ltb, eqb}
 use Rattle.system.specs.declared.System.{System}
 use Rattle.system.specs.Values.{cleared}
-use Rattle.system.specs.Limits.{engineLimit, typeLimit, sizeFault}
+use Rattle.system.specs.Limits.{engineLimit, typeLimit, sizeFault, platformFault, kindsFault}
 use Rattle.system.specs.Outcome.{accepted, refused, fromInput}
 use Rattle.partition.specs.Assignment.{among}
 use Rattle.writer.specs.File.{fileOf}
-use Rattle.writer.specs.Writing.{orElse, typesFault, systemFault, writeFault, writeOutcome}
+use Rattle.partition.specs.Plain.{AllOrNone}
+use Rattle.writer.specs.Writing.{orElse, typesFault, enginesFault, typesLimits, systemFault, writeFault, writeOutcome}
 use Rattle.writer.specs.Meaning.{fileOut, CountWithin, EnginesWithin, SizesWithin, ReplicasWithin, columnsTo, MayBeWritten, WritesInOrder}
 use Rattle.writer.proofs.Bytes.{file-out}
 use Rattle.writer.proofs.Faults.{or-none}
 use Rattle.writer.proofs.Tests.{Test, finds-nothing, holds, fails, says, says-alone, row, skips}
-use Rattle.writer.proofs.Tests.{manyFault, noneFault, enginesFault, ruleFault, sizesFault, replicasFault, productFault, shortFault}
-use Rattle.writer.proofs.Tests.{many-test, none-test, engines-test, rule-test, sizes-test, replicas-test, columns-test, room-test}
+use Rattle.writer.proofs.Tests.{manyFault, noneFault, kindOver, numbersFault, ruleFault, kindSizes, sizesFault, replicasFault, productFault, shortFault, second-apart, sizes-no-five}
+use Rattle.writer.proofs.Tests.{many-test, none-test, kinds-test, engines-test, rule-test, sizes-test, replicas-test, columns-test, room-test}
 
 -- intermediate: no fault, so none in the system, and the file fits
 
@@ -50,79 +52,138 @@ abbrev fromSix : System → ℕ → ℕ
 fromSix y room = orElse (ruleFault y) (fromEight y room)
 
 abbrev fromFive : System → ℕ → ℕ
-fromFive y room = orElse (enginesFault y) (fromSix y room)
+fromFive y room = orElse (numbersFault y) (fromSix y room)
+
+abbrev fromFortyOne : System → ℕ → ℕ
+fromFortyOne y room = orElse (kindsFault y) (fromFive y room)
 
 abbrev fromNine : System → ℕ → ℕ
-fromNine y room = orElse (noneFault y) (fromFive y room)
+fromNine y room = orElse (noneFault y) (fromFortyOne y room)
 
-regroup : (a b c d : Bool) (s t p q r : ℕ)
-    → orElse (orElse (cond a 7 (cond b 9 0)) (orElse (cond c 5 (cond d 6 s)) (orElse t (orElse p q)))) r
-    ≡ orElse (cond a 7 0) (orElse (cond b 9 0) (orElse (cond c 5 0) (orElse (cond d 6 0) (orElse (orElse s t) (orElse p (orElse q r))))))
-regroup true b c d s t p q r = refl
-regroup false true c d s t p q r = refl
-regroup false false true d s t p q r = refl
-regroup false false false true s t p q r = refl
-regroup false false false false s t p q r =
-    or-assoc s (orElse t (orElse p q)) r
-    ∙ ap (orElse s) (or-assoc t (orElse p q) r ∙ ap (orElse t) (or-assoc p q r))
-    ∙ sym (or-assoc s t (orElse p (orElse q r)))
+-- the numbers that the tests from each one on say, and 0
+
+abbrev numbersThirty : List ℕ
+numbersThirty = 30 ∷ 0 ∷ []
+
+abbrev numbersTen : List ℕ
+numbersTen = 10 ∷ numbersThirty
+
+abbrev numbersThirtyOne : List ℕ
+numbersThirtyOne = 31 ∷ numbersTen
+
+abbrev numbersEight : List ℕ
+numbersEight = 8 ∷ numbersThirtyOne
+
+abbrev numbersSix : List ℕ
+numbersSix = 6 ∷ numbersEight
+
+abbrev numbersFive : List ℕ
+numbersFive = 5 ∷ numbersSix
+
+abbrev numbersFortyOne : List ℕ
+numbersFortyOne = 41 ∷ numbersFive
+
+abbrev numbersNine : List ℕ
+numbersNine = 9 ∷ numbersFortyOne
+
+-- the engines: the platform's test c, d and s, the second kind's e and w, whose sizes say no 5
+module _ (s w t p q r : ℕ) (no-five : eqb w 5 ≡ false) where
+  abbrev from-sizes : ℕ
+  from-sizes = orElse (orElse (orElse s w) t) (orElse p (orElse q r))
+
+  after-rule : orElse (orElse (orElse s w) (orElse t (orElse p q))) r ≡ from-sizes
+  after-rule =
+      or-assoc (orElse s w) (orElse t (orElse p q)) r
+      ∙ ap (orElse (orElse s w)) (or-assoc t (orElse p q) r ∙ ap (orElse t) (or-assoc p q r))
+      ∙ sym (or-assoc (orElse s w) t (orElse p (orElse q r)))
+
+  engines-regroup : (c d e : Bool)
+      → orElse (orElse (enginesFault (cond c 5 (cond d 6 s)) (cond e 5 w)) (orElse t (orElse p q))) r
+      ≡ orElse (orElse (cond c 5 0) (cond e 5 0)) (orElse (cond d 6 0) from-sizes)
+  engines-regroup true d true = refl
+  engines-regroup false d true = refl
+  engines-regroup true d false = rw no-five
+  engines-regroup false true false = rw no-five
+  engines-regroup false false false = rw no-five after-rule
+
+  regroup : (a b c d e : Bool) (k : ℕ)
+      → orElse (orElse (cond a 7 (cond b 9 0)) (orElse k (orElse (enginesFault (cond c 5 (cond d 6 s)) (cond e 5 w)) (orElse t (orElse p q))))) r
+      ≡ orElse (cond a 7 0) (orElse (cond b 9 0) (orElse k (orElse (orElse (cond c 5 0) (cond e 5 0)) (orElse (cond d 6 0) from-sizes))))
+  regroup true b c d e k = refl
+  regroup false true c d e k = refl
+  regroup false false c d e k = or-assoc k (orElse (enginesFault (cond c 5 (cond d 6 s)) (cond e 5 w)) (orElse t (orElse p q))) r ∙ ap (orElse k) (engines-regroup c d e)
 
 from-seven : (y : System) (room : ℕ) → writeFault y room ≡ orElse (manyFault y) (fromNine y room)
 unfolding writeFault systemFault
 from-seven y room =
-    regroup (ltb typeLimit (y .typecount)) (eqb (y .typecount) 0) (not (leb 1 (y .engines) && leb (y .engines) engineLimit)) (not (leb (y .rule) 1))
-    (sizeFault (y .timecap) (y .memorycap)) (typesFault (cleared y .types)) (replicasFault y) (productFault y) (shortFault y room)
+    let platform = platformFault (y .engines) (y .rule) (y .timecap) (y .memorycap) in
+    let count : ℕ = cond (ltb typeLimit (y .typecount)) 7 (cond (eqb (y .typecount) 0) 9 0) in
+    ap
+    (λ (second : ℕ). orElse (orElse count (orElse (kindsFault y) (orElse (enginesFault platform second) (typesLimits (cleared y .types))))) (shortFault y room))
+    (second-apart (y .engines) (y .second))
+    ∙ regroup (sizeFault (y .timecap) (y .memorycap)) (kindSizes (y .second)) (typesFault (cleared y .types)) (replicasFault y) (productFault y) (shortFault y room) (sizes-no-five (y .second))
+    (ltb typeLimit (y .typecount)) (eqb (y .typecount) 0) (not (leb 1 (y .engines) && leb (y .engines) engineLimit)) (not (leb (y .rule) 1)) (kindOver (y .engines) (y .second))
+    (kindsFault y)
 
 module _ (y : System) (room : ℕ) (six : length (y .types) ≡ 6) where
   -- what is left after the tests that pass
   left-nine : y .typecount ≤ 6 → writeFault y room ≡ fromNine y room
   left-nine few = from-seven y room ∙ skips (fromNine y room) (many-test y) few
 
-  left-five : CountWithin y → writeFault y room ≡ fromFive y room
-  left-five k = left-nine (k .1) ∙ skips (fromFive y room) (none-test y) (k .0)
+  left-forty-one : CountWithin y → writeFault y room ≡ fromFortyOne y room
+  left-forty-one k = left-nine (k .1) ∙ skips (fromFortyOne y room) (none-test y) (k .0)
 
-  left-six : CountWithin y → EnginesWithin y → writeFault y room ≡ fromSix y room
-  left-six k m = left-five k ∙ skips (fromSix y room) (engines-test y) m
+  left-five : CountWithin y → AllOrNone y → writeFault y room ≡ fromFive y room
+  left-five k a = left-forty-one k ∙ skips (fromFive y room) (kinds-test y (omega arith)) a
 
-  left-eight : CountWithin y → EnginesWithin y → y .rule ≤ 1 → writeFault y room ≡ fromEight y room
-  left-eight k m r = left-six k m ∙ skips (fromEight y room) (rule-test y) r
+  left-six : CountWithin y → AllOrNone y → EnginesWithin y → writeFault y room ≡ fromSix y room
+  left-six k a m = left-five k a ∙ skips (fromSix y room) (engines-test y) m
 
-  left-thirty-one : CountWithin y → EnginesWithin y → y .rule ≤ 1 → SizesWithin y → writeFault y room ≡ fromThirtyOne y room
-  left-thirty-one k m r s = left-eight k m r ∙ skips (fromThirtyOne y room) (sizes-test y) s
+  left-eight : CountWithin y → AllOrNone y → EnginesWithin y → y .rule ≤ 1 → writeFault y room ≡ fromEight y room
+  left-eight k a m r = left-six k a m ∙ skips (fromEight y room) (rule-test y) r
 
-  left-ten : CountWithin y → EnginesWithin y → y .rule ≤ 1 → SizesWithin y → ReplicasWithin y → writeFault y room ≡ fromTen y room
-  left-ten k m r s q = left-thirty-one k m r s ∙ skips (fromTen y room) (replicas-test y) q
+  left-thirty-one : CountWithin y → AllOrNone y → EnginesWithin y → y .rule ≤ 1 → SizesWithin y → writeFault y room ≡ fromThirtyOne y room
+  left-thirty-one k a m r s = left-eight k a m r ∙ skips (fromThirtyOne y room) (sizes-test y) s
+
+  left-ten : CountWithin y → AllOrNone y → EnginesWithin y → y .rule ≤ 1 → SizesWithin y → ReplicasWithin y → writeFault y room ≡ fromTen y room
+  left-ten k a m r s q = left-thirty-one k a m r s ∙ skips (fromTen y room) (replicas-test y) q
 
   left-thirty : MayBeWritten y → writeFault y room ≡ shortFault y room
   left-thirty w =
-      left-ten (w .count) (w .engines) (w .rule) (w .sizes) (w .replicas)
+      left-ten (w .count) (w .kinds) (w .engines) (w .rule) (w .sizes) (w .replicas)
       ∙ skips (shortFault y room) (columns-test y (omega (arith, w .count .1))) (w .columns)
 
   -- what the tests from each number on say
   module _ (few : y .typecount ≤ 6) where
+    kinds-asked : Test (AllOrNone y) 41 (kindsFault y)
+    kinds-asked = kinds-test y (omega arith)
+
     columns-asked : Test (columnsTo y (y .typecount) ≤ 4096) 10 (productFault y)
     columns-asked = columns-test y (omega arith)
 
     room-asked : Test (length (fileOut y) ≤ room) 30 (shortFault y room)
     room-asked = subst (λ (file : List ℕ). Test (length file ≤ room) 30 (shortFault y room)) (file-out y (omega arith)) (room-test y room)
 
-    says-ten : among (10 ∷ 30 ∷ 0 ∷ []) (fromTen y room) ≡ true
-    says-ten = says (30 ∷ 0 ∷ []) (shortFault y room) (omega arith) columns-asked (says-alone room-asked)
+    says-ten : among numbersTen (fromTen y room) ≡ true
+    says-ten = says numbersThirty (shortFault y room) (omega arith) columns-asked (says-alone room-asked)
 
-    says-thirty-one : among (31 ∷ 10 ∷ 30 ∷ 0 ∷ []) (fromThirtyOne y room) ≡ true
-    says-thirty-one = says (10 ∷ 30 ∷ 0 ∷ []) (fromTen y room) (omega arith) (replicas-test y) says-ten
+    says-thirty-one : among numbersThirtyOne (fromThirtyOne y room) ≡ true
+    says-thirty-one = says numbersTen (fromTen y room) (omega arith) (replicas-test y) says-ten
 
-    says-eight : among (8 ∷ 31 ∷ 10 ∷ 30 ∷ 0 ∷ []) (fromEight y room) ≡ true
-    says-eight = says (31 ∷ 10 ∷ 30 ∷ 0 ∷ []) (fromThirtyOne y room) (omega arith) (sizes-test y) says-thirty-one
+    says-eight : among numbersEight (fromEight y room) ≡ true
+    says-eight = says numbersThirtyOne (fromThirtyOne y room) (omega arith) (sizes-test y) says-thirty-one
 
-    says-six : among (6 ∷ 8 ∷ 31 ∷ 10 ∷ 30 ∷ 0 ∷ []) (fromSix y room) ≡ true
-    says-six = says (8 ∷ 31 ∷ 10 ∷ 30 ∷ 0 ∷ []) (fromEight y room) (omega arith) (rule-test y) says-eight
+    says-six : among numbersSix (fromSix y room) ≡ true
+    says-six = says numbersEight (fromEight y room) (omega arith) (rule-test y) says-eight
 
-    says-five : among (5 ∷ 6 ∷ 8 ∷ 31 ∷ 10 ∷ 30 ∷ 0 ∷ []) (fromFive y room) ≡ true
-    says-five = says (6 ∷ 8 ∷ 31 ∷ 10 ∷ 30 ∷ 0 ∷ []) (fromSix y room) (omega arith) (engines-test y) says-six
+    says-five : among numbersFive (fromFive y room) ≡ true
+    says-five = says numbersSix (fromSix y room) (omega arith) (engines-test y) says-six
 
-    says-nine : among (9 ∷ 5 ∷ 6 ∷ 8 ∷ 31 ∷ 10 ∷ 30 ∷ 0 ∷ []) (fromNine y room) ≡ true
-    says-nine = says (5 ∷ 6 ∷ 8 ∷ 31 ∷ 10 ∷ 30 ∷ 0 ∷ []) (fromFive y room) (omega arith) (none-test y) says-five
+    says-forty-one : among numbersFortyOne (fromFortyOne y room) ≡ true
+    says-forty-one = says numbersFive (fromFive y room) (omega arith) kinds-asked says-five
+
+    says-nine : among numbersNine (fromNine y room) ≡ true
+    says-nine = says numbersFortyOne (fromFortyOne y room) (omega arith) (none-test y) says-forty-one
 
 -- main
 
@@ -153,7 +214,7 @@ module _ (y : System) (room : ℕ) (six : length (y .types) ≡ 6) where
       at : (b : Bool) → ltb typeLimit (y .typecount) ≡ b → (writeOutcome y room ≡ refused fromInput 7) ↔ (6 < y .typecount)
       at true q = ((λ o. ltb-true typeLimit (y .typecount) q), (λ h. refuses y room 7 (omega arith) .1 (from-seven y room ∙ rw q)))
       at false q =
-          in-row y room (fromNine y room) (9 ∷ 5 ∷ 6 ∷ 8 ∷ 31 ∷ 10 ∷ 30 ∷ 0 ∷ []) (omega arith) (many-test y) (from-seven y room)
+          in-row y room (fromNine y room) numbersNine (omega arith) (many-test y) (from-seven y room)
           (says-nine y room six (ltb-false typeLimit (y .typecount) q)) refl (over (y .typecount) 6)
 
   then-thirty : MayBeWritten y → (writeOutcome y room ≡ refused fromInput 30) ↔ (room < length (fileOut y))
@@ -169,8 +230,9 @@ module _ (y : System) (room : ℕ) (six : length (y .types) ≡ 6) where
   pub may-be-written : writeFault y room ≡ 0 → MayBeWritten y
   may-be-written e =
       let a = or-none (manyFault y) (fromNine y room) (sym (from-seven y room) ∙ e) in
-      let b = or-none (noneFault y) (fromFive y room) (a .1) in
-      let c = or-none (enginesFault y) (fromSix y room) (b .1) in
+      let b = or-none (noneFault y) (fromFortyOne y room) (a .1) in
+      let g = or-none (kindsFault y) (fromFive y room) (b .1) in
+      let c = or-none (numbersFault y) (fromSix y room) (g .1) in
       let d = or-none (ruleFault y) (fromEight y room) (c .1) in
       let s = or-none (sizesFault y) (fromThirtyOne y room) (d .1) in
       let p = or-none (replicasFault y) (fromTen y room) (s .1) in
@@ -178,6 +240,7 @@ module _ (y : System) (room : ℕ) (six : length (y .types) ≡ 6) where
       let few = holds (omega arith) (many-test y) (a .0) in
       record {
         count = (holds (omega arith) (none-test y) (b .0), few);
+        kinds = holds (omega arith) (kinds-asked y room six few) (g .0);
         engines = holds (omega arith) (engines-test y) (c .0);
         rule = holds (omega arith) (rule-test y) (d .0);
         sizes = holds (omega arith) (sizes-test y) (s .0);
@@ -194,22 +257,25 @@ module _ (y : System) (room : ℕ) (six : length (y .types) ≡ 6) where
   writes-in-order = record {
     sevenFirst = seven-first;
     thenNine = λ few.
-        in-row y room (fromFive y room) (5 ∷ 6 ∷ 8 ∷ 31 ∷ 10 ∷ 30 ∷ 0 ∷ []) (omega arith) (none-test y) (left-nine y room six few)
-        (says-five y room six few) refl ((λ none. omega arith), (λ e some. omega arith));
-    thenFive = λ k.
-        in-row y room (fromSix y room) (6 ∷ 8 ∷ 31 ∷ 10 ∷ 30 ∷ 0 ∷ []) (omega arith) (engines-test y) (left-five y room six k)
+        in-row y room (fromFortyOne y room) numbersFortyOne (omega arith) (none-test y) (left-nine y room six few)
+        (says-forty-one y room six few) refl ((λ none. omega arith), (λ e some. omega arith));
+    thenFortyOne = λ k.
+        in-row y room (fromFive y room) numbersFive (omega arith) (kinds-asked y room six (k .1)) (left-forty-one y room six k)
+        (says-five y room six (k .1)) refl Iff·rfl;
+    thenFive = λ k a.
+        in-row y room (fromSix y room) numbersSix (omega arith) (engines-test y) (left-five y room six k a)
         (says-six y room six (k .1)) refl Iff·rfl;
-    thenSix = λ k m.
-        in-row y room (fromEight y room) (8 ∷ 31 ∷ 10 ∷ 30 ∷ 0 ∷ []) (omega arith) (rule-test y) (left-six y room six k m)
+    thenSix = λ k a m.
+        in-row y room (fromEight y room) numbersEight (omega arith) (rule-test y) (left-six y room six k a m)
         (says-eight y room six (k .1)) refl (over (y .rule) 1);
-    thenEight = λ k m r.
-        in-row y room (fromThirtyOne y room) (31 ∷ 10 ∷ 30 ∷ 0 ∷ []) (omega arith) (sizes-test y) (left-eight y room six k m r)
+    thenEight = λ k a m r.
+        in-row y room (fromThirtyOne y room) numbersThirtyOne (omega arith) (sizes-test y) (left-eight y room six k a m r)
         (says-thirty-one y room six (k .1)) refl Iff·rfl;
-    thenThirtyOne = λ k m r s.
-        in-row y room (fromTen y room) (10 ∷ 30 ∷ 0 ∷ []) (omega arith) (replicas-test y) (left-thirty-one y room six k m r s)
+    thenThirtyOne = λ k a m r s.
+        in-row y room (fromTen y room) numbersTen (omega arith) (replicas-test y) (left-thirty-one y room six k a m r s)
         (says-ten y room six (k .1)) refl Iff·rfl;
-    thenTen = λ k m r s q.
-        in-row y room (shortFault y room) (30 ∷ 0 ∷ []) (omega arith) (columns-asked y room six (k .1)) (left-ten y room six k m r s q)
+    thenTen = λ k a m r s q.
+        in-row y room (shortFault y room) numbersThirty (omega arith) (columns-asked y room six (k .1)) (left-ten y room six k a m r s q)
         (says-alone (room-asked y room six (k .1))) refl (over (columnsTo y (y .typecount)) 4096);
     thenThirty = then-thirty;
     orWritten = or-written;

@@ -14,9 +14,10 @@ use Rattle.system.specs.declared.Answer.{Answer}
 use Rattle.system.specs.declared.Answer.the-variants.{Number, Refused}
 use Rattle.system.specs.declared.Refusal.the-variants.{Input}
 use Rattle.system.specs.Values.{cleared}
-use Rattle.system.specs.Layout.{readFile, opened}
+use Rattle.system.specs.declared.Second.the-variants.{OneKind}
+use Rattle.system.specs.Layout.{readCard, readFile, opened}
 use Rattle.system.specs.Outcome.{Source, accepted, refused, fromInput, outcomeOf}
-use Rattle.system.proofs.Laws.{read-limits}
+use Rattle.system.proofs.Laws.{read-card-limits, card-file}
 use Rattle.buffer.specs.Written.{Puts}
 use Rattle.writer.specs.File.{fileOf}
 use Rattle.writer.specs.Writing.{systemFault, writeFault, writeOutcome, writtenTo}
@@ -87,15 +88,16 @@ module _ (y : System) (old new : List ℕ) (r : Answer) (six : length (y .types)
     written : (MayBeWritten y) × (n ≡ length (fileOut y)) × (new ≡ fileOut y ++ drop n old)
     written = (may, size ∙ ap length (file-out y inside), file-first ∙ ap (λ (file : List ℕ). file ++ drop n old) (file-out y inside))
 
-    read-back : (z : System) × (readFile (take n new) ≡ opened z) × SameToK y z
+    read-back : (z : System) × (readCard (take n new) ≡ opened z) × SameToK y z × (y .second ≡ OneKind → readFile (take n new) ≡ opened z)
     read-back =
         let front : take n new ≡ fileOf y = rw (file-first, size) (take-append-seam (fileOf y) (drop (length (fileOf y)) old)) in
-        (cleared y, rw front (written-reads y six (fault-none y (length old) no-fault .0)), same-to-k y six (may .count .1))
+        let reads : readCard (take n new) ≡ opened (cleared y) = rw front (written-reads y six (fault-none y (length old) no-fault .0)) in
+        (cleared y, reads, same-to-k y six (may .count .1), λ one. card-file (take n new) (cleared y) reads one)
 
-  come-back : (file : List ℕ) (told : ℕ → Bool) → IsBytes file → readFile file ≡ opened y → file ≡ fileWith told y → NoZero told y → length file ≤ length old
+  come-back : (file : List ℕ) (told : ℕ → Bool) → IsBytes file → readCard file ≡ opened y → file ≡ fileWith told y → NoZero told y → length file ≤ length old
       → (outcomeOf r ≡ accepted (length file ∷ [])) × (new ≡ file ++ drop (length file) old)
   come-back file told bytes reads is quiet enough =
-      let few = read-limits file y reads .typecount in
+      let few = read-card-limits file y reads .typecount in
       let same : fileOf y ≡ file = file-out y (omega arith) ∙ comes-back-exactly told y .1 quiet ∙ sym is in
       let none : writeFault y (length old) ≡ 0 = fits-fault y (length old) (read-writable file y reads .0) (rw same enough) in
       (answers ∙ accepts y (length old) none ∙ rw same, leaves ∙ writes-file y old none ∙ rw same)

@@ -1,6 +1,6 @@
 -- What is read comes back: along a reading, some file of the system so far and the bytes that are left are the whole file.
--- A field that was accepted has the bytes that its platform, its type, its d or its q is written with, since bytes that were read as a number are that number's bytes.
--- A type comes without d and q. Where a tag 3 follows, it is told; a tag 4 gives q.
+-- A field that was accepted has the bytes that its platform, its second kind, its type, or what belongs to a type is written with, since bytes that were read as a number are that number's bytes.
+-- A platform comes without a second kind, which a tag 6 gives. A type comes without d and q, and without u and s there. Where a tag 3 follows, it is told; a tag 4 gives q, a tag 7 u and s there.
 use Prim.Native.Nat.{ℕ, zero, suc, _+_, _-_, _≤_, _<_}
 use mathlib.Core.Path.{_≡_, refl, sym, ap, ap₂, _∙_, subst}
 use mathlib.Core.List.{List, [], _∷_, _++_, append-nil, append-assoc}
@@ -14,20 +14,25 @@ use lib.Seq.{drop-cons, getD-drop, getD-set-same, getD-set-other}
 use lib.Dec.{leb, eqb, lit<}
 use Rattle.buffer.proofs.Laws.{bytes2-back, bytes4-back}
 use Rattle.system.specs.declared.Most.the-variants.{NotGiven, AtMost}
+use Rattle.system.specs.declared.There.the-variants.{Absent, Takes}
+use Rattle.system.specs.declared.Second.{Second}
+use Rattle.system.specs.declared.Second.the-variants.{OneKind}
 use Rattle.system.specs.declared.TaskType.{TaskType}
 use Rattle.system.specs.declared.System.{System}
 use Rattle.system.specs.declared.rules.FieldRule.{FieldRule}
-use Rattle.system.specs.Values.{taskOf, withData, withMost, noTask, blank, withPlatform, withType, lastType, withLast}
-use Rattle.system.specs.Limits.{typeLimit, platformFault, typeFault, mostFault, columnsFault}
-use Rattle.system.specs.Rules.{platformRule, typeRule, dataRule, mostRule, headSize, ruledSize}
+use Rattle.system.specs.Values.{taskOf, withData, withMost, withCosts, noTask, blank, withPlatform, withSecond, withType, lastType, withLast}
+use Rattle.system.specs.Limits.{orElse, typeLimit, platformFault, kindFault, typeFault, mostFault, costsFault, kindsFault, columnsFault}
+use Rattle.system.specs.Rules.{platformRule, typeRule, dataRule, mostRule, secondRule, costsRule, headSize, ruledSize}
 use Rattle.system.specs.Layout.{Reading, opened, unread, byteAt, word2, word4, fieldSize, wholeField, bodyPart}
-use Rattle.system.specs.Layout.{platformFrom, platformOf, typeFrom, typeOf, dataFrom, dataOf, mostFrom, mostOf, bodyOf, fieldOf, endOf, afterField, fieldsFrom, readFile}
-use Rattle.system.proofs.Laws.{passes, no-fault, either-false, platform-first, type-later, data-after-type, most-after-type}
-use Rattle.system.proofs.Laws.{OneOf, a-platform, a-type, a-data, a-most, Passed, fieldOf-opened, Sound, sound-blank, sound-field}
+use Rattle.system.specs.Layout.{platformFrom, platformOf, typeFrom, typeOf, dataFrom, dataOf, mostFrom, mostOf, secondFrom, secondOf, costsFrom, costsOf}
+use Rattle.system.specs.Layout.{bodyOf, fieldOf, endOf, afterField, fieldsFrom, readCard}
+use Rattle.system.specs.Inner.{PastTypes}
+use Rattle.system.proofs.Laws.{passes, no-fault, either-false, platform-first, type-later, data-after-type, most-after-type, second-after-platform, costs-after-type}
+use Rattle.system.proofs.Laws.{OneOf, a-platform, a-type, a-data, a-most, a-second, a-costs, Passed, fieldOf-opened, Sound, sound-blank, sound-field}
 use Rattle.partition.specs.Plain.{typeNo}
-use Rattle.writer.specs.Meaning.{twoOut, fourOut, platformOut, typeOut, typesOut, fileWith, IsBytes}
+use Rattle.writer.specs.Meaning.{twoOut, fourOut, platformOut, secondOut, typeOut, typesOut, fileWith, IsBytes}
 use Rattle.writer.proofs.Bytes.{four-out}
-use Rattle.writer.proofs.Told.{type-given, type-limited, types-same}
+use Rattle.writer.proofs.Told.{type-given, type-limited, type-costed, types-same}
 
 -- intermediate: the bytes of a field, one by one
 
@@ -94,6 +99,16 @@ module _ (s : List ℕ) (bytes : IsBytes s) where
       (λ i. sym (f .first) i ∷ high mostRule (lit< tt) f i ∷ low mostRule (lit< tt) f i ∷ bytes2-back (byteAt s 3) (byteAt s 4) (bytes 4) i)
       ∙ sym (whole-bytes mostRule (lit< tt) f)
 
+  second-back : Whole s secondRule → 6 ∷ 0 ∷ 9 ∷ byteAt s 3 ∷ (fourOut (word4 s 4) ++ fourOut (word4 s 8)) ≡ take (fieldSize s) s
+  second-back f =
+      (λ i. sym (f .first) i ∷ high secondRule (lit< tt) f i ∷ low secondRule (lit< tt) f i ∷ byteAt s 3 ∷ (four-back 4 i ++ four-back 8 i))
+      ∙ sym (whole-bytes secondRule (lit< tt) f)
+
+  costs-back : Whole s costsRule → 7 ∷ 0 ∷ 8 ∷ (fourOut (word4 s 3) ++ fourOut (word4 s 7)) ≡ take (fieldSize s) s
+  costs-back f =
+      (λ i. sym (f .first) i ∷ high costsRule (lit< tt) f i ∷ low costsRule (lit< tt) f i ∷ (four-back 3 i ++ four-back 7 i))
+      ∙ sym (whole-bytes costsRule (lit< tt) f)
+
 -- intermediate: a file with one field more
 
 -- what is told of type k, and of all others what was told before
@@ -121,19 +136,32 @@ types-set told z next k b t some here others =
     (types-same (tells k b told) told next z (k - 1) (λ i low high. λ j. typeOut (tells-other k b told i (λ e. omega arith) j) (others (i - 1) (λ e. omega arith) j)))
     (λ i. typeOut (tells-it k b told i) (here i))
 
-file-platform : (told : ℕ → Bool) (z : System) → z .typecount ≡ 0 → fileWith told z ≡ platformOut z
+-- before the first type: the platform alone, or with a second kind
+file-platform : (told : ℕ → Bool) (z : System) → z .typecount ≡ 0 → z .second ≡ OneKind → fileWith told z ≡ platformOut z
 unfolding typesOut
-file-platform told z e = ap (λ (k : ℕ). platformOut z ++ typesOut told z k) e
+file-platform told z e one = ap₂ (λ (s : Second) (k : ℕ). platformOut z ++ (secondOut s ++ typesOut told z k)) one e
+
+file-second : (told : ℕ → Bool) (z : System) (n u s : ℕ) → z .typecount ≡ 0 → z .second ≡ OneKind
+    → fileWith told (withSecond n u s z) ≡ fileWith told z ++ (6 ∷ 0 ∷ 9 ∷ n ∷ (fourOut u ++ fourOut s))
+unfolding typesOut
+file-second told z n u s e one =
+    let field : List ℕ = 6 ∷ 0 ∷ 9 ∷ n ∷ (fourOut u ++ fourOut s) in
+    ap (λ (k : ℕ). platformOut z ++ (field ++ typesOut told (withSecond n u s z) k)) e
+    ∙ sym (ap (λ (l : List ℕ). l ++ field) (file-platform told z e one))
+
+-- what stands before the types, and then they
+file-append : (z : System) (a b : List ℕ) → platformOut z ++ (secondOut (z .second) ++ (a ++ b)) ≡ (platformOut z ++ (secondOut (z .second) ++ a)) ++ b
+file-append z a b = ap (λ (l : List ℕ). platformOut z ++ l) (sym (append-assoc (secondOut (z .second)) a b))
 
 file-type : (told : ℕ → Bool) (z : System) (t : TaskType) → z .typecount < length (z .types) → fileWith (tells (suc (z .typecount)) false told) (withType t z) ≡ fileWith told z ++ typeOut false t
 file-type told z t h =
     let k = z .typecount in
     let back : suc k - 1 ≡ k = omega arith in
-    ap (λ (l : List ℕ). platformOut z ++ l)
+    ap (λ (l : List ℕ). platformOut z ++ (secondOut (z .second) ++ l))
     (types-set told z (withType t z) (suc k) false t (omega arith) (ap (λ (j : ℕ). getD (withType t z .types) j noTask) back ∙ getD-set-same (z .types) k t noTask h)
     (λ i n. getD-set-other (z .types) k i t noTask (λ e. n (e ∙ sym back))))
-    ∙ ap (λ (j : ℕ). platformOut z ++ (typesOut told z j ++ typeOut false t)) back
-    ∙ sym (append-assoc (platformOut z) (typesOut told z k) (typeOut false t))
+    ∙ ap (λ (j : ℕ). platformOut z ++ (secondOut (z .second) ++ (typesOut told z j ++ typeOut false t))) back
+    ∙ file-append z (typesOut told z k) (typeOut false t)
 
 -- the last type in another form, its bytes those that it had and then a field
 file-last : (told : ℕ → Bool) (z : System) (b : Bool) (t : TaskType) (field : List ℕ) → 1 ≤ z .typecount → z .typecount ≤ length (z .types)
@@ -142,12 +170,12 @@ file-last told z b t field some most more =
     let k = z .typecount in
     let before = typesOut told z (k - 1) in
     let old = typeOut (told k) (lastType z) in
-    ap (λ (l : List ℕ). platformOut z ++ l)
+    ap (λ (l : List ℕ). platformOut z ++ (secondOut (z .second) ++ l))
     (types-set told z (withLast t z) k b t some (getD-set-same (z .types) (k - 1) t noTask (omega arith)) (λ i n. getD-set-other (z .types) (k - 1) i t noTask n)
     ∙ ap (λ (l : List ℕ). before ++ l) more
     ∙ sym (append-assoc before old field)
     ∙ ap (λ (l : List ℕ). l ++ field) (sym (types-last told z k some)))
-    ∙ sym (append-assoc (platformOut z) (typesOut told z k) field)
+    ∙ file-append z (typesOut told z k) field
 
 -- intermediate: what was read so far, as it is written
 
@@ -158,19 +186,21 @@ written told last z = cond (eqb last 0) [] (fileWith told z)
 written-some : (told : ℕ → Bool) (last : ℕ) (z : System) → (last ≡ 0 → ⊥) → written told last z ≡ fileWith told z
 written-some told last z n = rw (ne-eqb last 0 n)
 
--- a system so far: no type before the platform, no d directly after a type, and no q before the tag 4
+-- a system so far: no type and no second kind before the platform and directly after it, no d directly after a type, no q before the tag 4, and no u and s there before the tag 7
 record SoFar (told : ℕ → Bool) (last : ℕ) (z : System) : Type 0 where
   sound : Sound last z
-  start : last ≡ 0 → z .typecount ≡ 0
+  start : last ≤ 1 → (z .typecount ≡ 0) × (z .second ≡ OneKind)
   quiet : last ≡ 2 → (told (z .typecount) ≡ false) × (lastType z .data ≡ 0)
   free : 1 < last → last < 4 → lastType z .most ≡ NotGiven
+  alone : 1 < last → last < 5 → lastType z .there ≡ Absent
 
 -- an accepted field adds its bytes to what is written
 record Adds (told : ℕ → Bool) (s : List ℕ) (last : ℕ) (z next : System) : Type 0 where
   tells-now : ℕ → Bool
-  start : byteAt s 0 ≡ 0 → next .typecount ≡ 0
+  start : byteAt s 0 ≤ 1 → (next .typecount ≡ 0) × (next .second ≡ OneKind)
   quiet : byteAt s 0 ≡ 2 → (tells-now (next .typecount) ≡ false) × (lastType next .data ≡ 0)
   free : 1 < byteAt s 0 → byteAt s 0 < 4 → lastType next .most ≡ NotGiven
+  alone : 1 < byteAt s 0 → byteAt s 0 < 5 → lastType next .there ≡ Absent
   bytes : written tells-now (byteAt s 0) next ≡ written told last z ++ take (fieldSize s) s
 
 module _ (told : ℕ → Bool) (s : List ℕ) (bytes : IsBytes s) (last : ℕ) (z next : System) (soFar : SoFar told last z) where
@@ -178,20 +208,42 @@ module _ (told : ℕ → Bool) (s : List ℕ) (bytes : IsBytes s) (last : ℕ) (
   unfolding platformFrom
   adds-platform f first e =
       let some : byteAt s 0 ≡ 0 → ⊥ = λ w. omega (arith, f .first) in
+      let early = soFar .start (omega arith) in
       let new = withPlatform (byteAt s 3) (byteAt s 4) (word4 s 5) (word4 s 9) z in
       let read : platformOf (bytesFrom 10 3 s) z ≡ opened next = ap (λ (b : List ℕ). platformOf b z) (sym (f .body)) ∙ e in
       let q = no-fault (platformFault (byteAt s 3) (byteAt s 4) (word4 s 5) (word4 s 9)) new next read in
       subst (Adds told s last z) (q .1)
       (record {
         tells-now = told;
-        start = λ w. absurd (some w);
+        start = λ w. early;
         quiet = λ w. absurd (omega (arith, f .first));
         free = λ low high. absurd (omega (arith, f .first));
+        alone = λ low high. absurd (omega (arith, f .first));
         bytes =
             written-some told (byteAt s 0) new some
-            ∙ file-platform told new (soFar .start first)
+            ∙ file-platform told new (early .0) (early .1)
             ∙ platform-back s bytes f z
             ∙ sym (ap (λ (b : Bool). cond b [] (fileWith told z) ++ take (fieldSize s) s) (eq-eqb last 0 first));
+      })
+
+  adds-second : Whole s secondRule → last ≡ 1 → secondOf (bodyPart s) z ≡ opened next → Adds told s last z next
+  unfolding secondFrom
+  adds-second f after e =
+      let early = soFar .start (omega arith) in
+      let new = withSecond (byteAt s 3) (word4 s 4) (word4 s 8) z in
+      let read : secondOf (bytesFrom 9 3 s) z ≡ opened next = ap (λ (b : List ℕ). secondOf b z) (sym (f .body)) ∙ e in
+      let q = no-fault (kindFault (z .engines) (byteAt s 3) (word4 s 4) (word4 s 8)) new next read in
+      subst (Adds told s last z) (q .1)
+      (record {
+        tells-now = told;
+        start = λ w. absurd (omega (arith, f .first));
+        quiet = λ w. absurd (omega (arith, f .first));
+        free = λ low high. absurd (omega (arith, f .first));
+        alone = λ low high. absurd (omega (arith, f .first));
+        bytes =
+            written-some told (byteAt s 0) new (λ w. omega (arith, f .first))
+            ∙ file-second told z (byteAt s 3) (word4 s 4) (word4 s 8) (early .0) (early .1)
+            ∙ ap₂ (λ (a b : List ℕ). a ++ b) (sym (written-some told last z (λ w. omega arith))) (second-back s bytes f);
       })
 
   adds-type : Whole s typeRule → (last ≡ 0 → ⊥) → z .typecount < typeLimit → typeOf (bodyPart s) z ≡ opened next → Adds told s last z next
@@ -208,9 +260,10 @@ module _ (told : ℕ → Bool) (s : List ℕ) (bytes : IsBytes s) (last : ℕ) (
       subst (Adds told s last z) (q .1)
       (record {
         tells-now = now;
-        start = λ w. absurd (some w);
+        start = λ w. absurd (omega (arith, f .first));
         quiet = λ w. (tells-it (suc (z .typecount)) false told, ap (λ (x : TaskType). x .data) here);
         free = λ low high. ap (λ (x : TaskType). x .most) here;
+        alone = λ low high. ap (λ (x : TaskType). x .there) here;
         bytes =
             written-some now (byteAt s 0) (withType t z) some
             ∙ file-type told z t room
@@ -218,9 +271,9 @@ module _ (told : ℕ → Bool) (s : List ℕ) (bytes : IsBytes s) (last : ℕ) (
       })
 
   -- a field of the last type: the type's bytes, and then those of the field
-  adds-last : (b : Bool) (t : TaskType) (field : List ℕ) → 1 < last → 2 < byteAt s 0 → (byteAt s 0 < 4 → t .most ≡ NotGiven)
+  adds-last : (b : Bool) (t : TaskType) (field : List ℕ) → PastTypes last → 2 < byteAt s 0 → (byteAt s 0 < 4 → t .most ≡ NotGiven) → (byteAt s 0 < 5 → t .there ≡ Absent)
       → typeOut b t ≡ typeOut (told (z .typecount)) (lastType z) ++ field → field ≡ take (fieldSize s) s → Adds told s last z (withLast t z)
-  adds-last b t field after later free more is =
+  adds-last b t field after later free alone more is =
       let sound = soFar .sound in
       let some = sound .some-type after in
       let most : z .typecount ≤ length (z .types) = omega (arith, sound .six, sound .typecount) in
@@ -231,6 +284,7 @@ module _ (told : ℕ → Bool) (s : List ℕ) (bytes : IsBytes s) (last : ℕ) (
         start = λ w. absurd (omega arith);
         quiet = λ w. absurd (omega arith);
         free = λ low high. ap (λ (x : TaskType). x .most) here ∙ free high;
+        alone = λ low high. ap (λ (x : TaskType). x .there) here ∙ alone high;
         bytes =
             written-some now (byteAt s 0) (withLast t z) (λ w. omega arith)
             ∙ file-last told z b t field some most more
@@ -244,25 +298,41 @@ module _ (told : ℕ → Bool) (s : List ℕ) (bytes : IsBytes s) (last : ℕ) (
       let t = withData d (lastType z) in
       let old = soFar .quiet after in
       let free = soFar .free (omega arith) (omega arith) in
+      let alone = soFar .alone (omega arith) (omega arith) in
       let field : List ℕ = 3 ∷ 0 ∷ 4 ∷ fourOut d in
       let read : dataOf (bytesFrom 4 3 s) z ≡ opened next = ap (λ (b : List ℕ). dataOf b z) (sym (f .body)) ∙ e in
       let q = no-fault (typeFault t) (withLast t z) next read in
       subst (Adds told s last z) (q .1)
-      (adds-last true t field (omega arith) (omega (arith, f .first)) (λ low. free)
-      (type-given (lastType z) d (old .1) free ∙ ap (λ (b : Bool). typeOut b (lastType z) ++ field) (sym (old .0)))
+      (adds-last true t field (omega arith, λ w. omega arith) (omega (arith, f .first)) (λ low. free) (λ low. alone)
+      (type-given (lastType z) d (old .1) free alone ∙ ap (λ (b : Bool). typeOut b (lastType z) ++ field) (sym (old .0)))
       (data-back s bytes f))
 
   adds-most : Whole s mostRule → 1 < last → last < 4 → mostOf (bodyPart s) z ≡ opened next → Adds told s last z next
   unfolding mostFrom
   adds-most f low high e =
       let n = word2 s 3 in
+      let alone = soFar .alone low (omega arith) in
       let t = withMost n (lastType z) in
       let read : mostOf (bytesFrom 2 3 s) z ≡ opened next = ap (λ (b : List ℕ). mostOf b z) (sym (f .body)) ∙ e in
       let q = no-fault (mostFault (AtMost n)) (withLast t z) next read in
       subst (Adds told s last z) (q .1)
-      (adds-last (told (z .typecount)) t (4 ∷ 0 ∷ 2 ∷ twoOut n) low (omega (arith, f .first)) (λ less. absurd (omega (arith, f .first)))
-      (type-limited (told (z .typecount)) (lastType z) n (soFar .free low high))
+      (adds-last (told (z .typecount)) t (4 ∷ 0 ∷ 2 ∷ twoOut n) (low, λ w. omega arith) (omega (arith, f .first)) (λ less. absurd (omega (arith, f .first))) (λ less. alone)
+      (type-limited (told (z .typecount)) (lastType z) n (soFar .free low high) alone)
       (most-back s bytes f))
+
+  adds-costs : Whole s costsRule → 1 < last → last < 5 → costsOf (bodyPart s) z ≡ opened next → Adds told s last z next
+  unfolding costsFrom
+  adds-costs f low high e =
+      let u = word4 s 3 in
+      let m = word4 s 7 in
+      let t = withCosts u m (lastType z) in
+      let read : costsOf (bytesFrom 8 3 s) z ≡ opened next = ap (λ (b : List ℕ). costsOf b z) (sym (f .body)) ∙ e in
+      let q = no-fault (costsFault (Takes (record { time = u; memory = m }))) (withLast t z) next read in
+      subst (Adds told s last z) (q .1)
+      (adds-last (told (z .typecount)) t (7 ∷ 0 ∷ 8 ∷ (fourOut u ++ fourOut m)) (low, λ w. omega arith) (omega (arith, f .first)) (λ less. absurd (omega (arith, f .first)))
+      (λ less. absurd (omega (arith, f .first)))
+      (type-costed (told (z .typecount)) (lastType z) u m (soFar .alone low high))
+      (costs-back s bytes f))
 
   adds-field : fieldOf s last z ≡ opened next → Adds told s last z next
   unfolding bodyOf
@@ -284,6 +354,12 @@ module _ (told : ℕ → Bool) (s : List ℕ) (bytes : IsBytes s) (last : ℕ) (
           let low : 1 < last = ⊎-elim (λ e. omega arith) (λ e. omega arith) after in
           let high : last < 4 = ⊎-elim (λ e. omega arith) (λ e. omega arith) after in
           adds-most (of-rule r mostRule w p) low high (rw w at b)
+      at r p b (a-second w) = adds-second (of-rule r secondRule w p) (second-after-platform last .0 (rw w at (p .place))) (rw w at b)
+      at r p b (a-costs w) =
+          let after = costs-after-type last .0 (rw w at (p .place)) in
+          let low : 1 < last = ⊎-elim (λ e. omega arith) (⊎-elim (λ e. omega arith) (λ e. omega arith)) after in
+          let high : last < 5 = ⊎-elim (λ e. omega arith) (⊎-elim (λ e. omega arith) (λ e. omega arith)) after in
+          adds-costs (of-rule r costsRule w p) low high (rw w at b)
 
 -- intermediate: along a reading
 
@@ -296,7 +372,7 @@ unfolding endOf
 end-back told last z y e =
     let a = passes (eqb last 0 || eqb (z .typecount) 0) 9 _ y e in
     let some = either-false (eqb last 0) (eqb (z .typecount) 0) (a .0) in
-    let c = no-fault (columnsFault (z .types)) z y (a .1) in
+    let c = no-fault (orElse (kindsFault z) (columnsFault (z .types))) z y (a .1) in
     (told, append-nil (written told last z) ∙ written-some told last z (eqb-false last 0 (some .0)) ∙ ap (fileWith told) (c .1))
 
 fields-back : (f : ℕ) (told : ℕ → Bool) (s : List ℕ) (last : ℕ) (z y : System) → length s ≤ f → IsBytes s → SoFar told last z → fieldsFrom f s last z ≡ opened y
@@ -325,14 +401,21 @@ fields-back (suc f) told (b ∷ s) last z y enough bytes soFar e =
         ap (λ (l : List ℕ). l ++ left) (a .bytes)
         ∙ append-assoc (written told last z) (take (fieldSize (b ∷ s)) (b ∷ s)) left
         ∙ ap (λ (l : List ℕ). written told last z ++ l) (take-append-drop (fieldSize (b ∷ s)) (b ∷ s)) in
-        let now : SoFar (a .tells-now) b next = record { sound = sound-field (b ∷ s) last z next (soFar .sound) q; start = a .start; quiet = a .quiet; free = a .free } in
+        let now : SoFar (a .tells-now) b next = record { sound = sound-field (b ∷ s) last z next (soFar .sound) q; start = a .start; quiet = a .quiet; free = a .free; alone = a .alone } in
         subst (λ (l : List ℕ). IsFile l y) joined
         (rest (a .tells-now) next (omega (arith, length-drop (fieldSize (b ∷ s)) (b ∷ s))) left-bytes now e)
 
 -- main: every file that is read is a file of its system
 
-pub read-comes-back : (file : List ℕ) (y : System) → IsBytes file → readFile file ≡ opened y → (told : ℕ → Bool) × (file ≡ fileWith told y)
-unfolding readFile
+pub read-comes-back : (file : List ℕ) (y : System) → IsBytes file → readCard file ≡ opened y → (told : ℕ → Bool) × (file ≡ fileWith told y)
+unfolding readCard
 read-comes-back file y bytes e =
     fields-back (length file) (λ (t : ℕ). false) file 0 blank y (le-refl (length file)) bytes
-    (record { sound = sound-blank; start = λ n. refl; quiet = λ n. absurd (omega arith); free = λ low high. absurd (omega arith) }) e
+    (record {
+      sound = sound-blank;
+      start = λ n. (refl, refl);
+      quiet = λ n. absurd (omega arith);
+      free = λ low high. absurd (omega arith);
+      alone = λ low high. absurd (omega arith);
+    })
+    e

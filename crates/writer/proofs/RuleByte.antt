@@ -14,7 +14,7 @@ use Rattle.writer.proofs.Exactly.{limits-reads, reads-exactly}
 
 -- the system under another rule
 abbrev under : ℕ → System → System
-under rule y = record { engines = y .engines; rule = rule; timecap = y .timecap; memorycap = y .memorycap; typecount = y .typecount; types = y .types }
+under rule y = record { engines = y .engines; rule = rule; timecap = y .timecap; memorycap = y .memorycap; typecount = y .typecount; types = y .types; second = y .second }
 
 under-limits : (rule : ℕ) (y : System) → rule ≤ 1 → LimitsOut y → LimitsOut (under rule y)
 under-limits rule y small l = record {
@@ -27,6 +27,8 @@ under-limits rule y small l = record {
   replicas = l .replicas;
   past = l .past;
   columns = l .columns;
+  oneKind = l .oneKind;
+  absent = l .absent;
 }
 
 -- no byte but the fifth says the rule
@@ -49,12 +51,12 @@ rule-byte file y bytes reads = record {
   changed = λ own. (
     under 1 y,
     ap (λ (l : List ℕ). readFile (set l 4 1)) (is .0 .1) ∙ byte-read 1 (is .0 .0) y (omega arith) (is .1),
-    record { ownCopies = own; sharedCode = refl; engines = refl; timecap = refl; memorycap = refl; typecount = refl; types = refl },
+    record { ownCopies = own; sharedCode = refl; engines = refl; timecap = refl; memorycap = refl; typecount = refl; types = refl; second = refl },
   );
   back = λ common. (
     under 0 y,
     ap (λ (l : List ℕ). readFile (set l 4 0)) (is .0 .1) ∙ byte-read 0 (is .0 .0) y (omega arith) (is .1),
-    record { ownCopies = refl; sharedCode = common; engines = refl; timecap = refl; memorycap = refl; typecount = refl; types = refl },
+    record { ownCopies = refl; sharedCode = common; engines = refl; timecap = refl; memorycap = refl; typecount = refl; types = refl; second = refl },
   );
 }
   where

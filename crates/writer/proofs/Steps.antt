@@ -14,11 +14,11 @@ use Rattle.system.specs.declared.rules.FieldRule.{FieldRule}
 use Rattle.system.specs.declared.rules.RuleFound.{RuleFound}
 use Rattle.system.specs.declared.rules.RuleFound.the-variants.{Known}
 use Rattle.system.specs.Rules.{fieldRules, ruleOf}
-use Rattle.system.proofs.Laws.{OneOf, a-platform, a-type, a-data, a-most, ruleOf-known}
+use Rattle.system.proofs.Laws.{OneOf, a-platform, a-type, a-data, a-most, a-second, a-costs, ruleOf-known}
 use Rattle.system.specs.Values.{cleared}
-use Rattle.system.specs.Limits.{platformFault, columnsFault}
+use Rattle.system.specs.Limits.{platformFault, secondFault, kindsFault}
 use Rattle.writer.specs.File.{typeBytes, typesBytes}
-use Rattle.writer.specs.Writing.{orElse, countFault, typesFault, mostsFault, systemFault}
+use Rattle.writer.specs.Writing.{orElse, countFault, enginesFault, typesLimits, systemFault}
 use Rattle.writer.proofs.Bytes.{types-more, types-size}
 use Rattle.writer.proofs.Faults.{firstOf}
 
@@ -32,6 +32,8 @@ body-short tag {r = r} look known = at (ruleOf-known tag r (sym look ∙ known) 
     at (a-type w) = rw w (lit< tt)
     at (a-data w) = rw w (lit< tt)
     at (a-most w) = rw w (lit< tt)
+    at (a-second w) = rw w (lit< tt)
+    at (a-costs w) = rw w (lit< tt)
 
 -- One test after another: this one finds a fault, or what comes after it decides
 
@@ -49,24 +51,22 @@ module _ (y : System) {counted : ℕ} (a : counted ≡ countFault (y .typecount)
   unfolding systemFault
   fault-of-count some = or-first _ _ _ a some
 
-  module _ (few : counted ≡ 0) {platform : ℕ} (b : platform ≡ platformFault (y .engines) (y .rule) (y .timecap) (y .memorycap)) where
-    pub fault-of-platform : (platform ≡ 0 → ⊥) → platform ≡ systemFault y
+  module _ (few : counted ≡ 0) {kinds : ℕ} (b : kinds ≡ kindsFault y) where
+    pub fault-of-kinds : (kinds ≡ 0 → ⊥) → kinds ≡ systemFault y
     unfolding systemFault
-    fault-of-platform some = or-on _ _ _ a few (or-first _ _ _ b some)
+    fault-of-kinds some = or-on _ _ _ a few (or-first _ _ _ b some)
 
-    module _ (keeps : platform ≡ 0) {sized : ℕ} (c : sized ≡ typesFault (cleared y .types)) where
-      pub fault-of-types : (sized ≡ 0 → ⊥) → sized ≡ systemFault y
+    module _
+        (agree : kinds ≡ 0)
+        {equipped : ℕ}
+        (c : equipped ≡ enginesFault (platformFault (y .engines) (y .rule) (y .timecap) (y .memorycap)) (secondFault (y .engines) (y .second))) where
+      pub fault-of-engines : (equipped ≡ 0 → ⊥) → equipped ≡ systemFault y
       unfolding systemFault
-      fault-of-types some = or-on _ _ _ a few (or-on _ _ _ b keeps (or-first _ _ _ c some))
+      fault-of-engines some = or-on _ _ _ a few (or-on _ _ _ b agree (or-first _ _ _ c some))
 
-      module _ (small : sized ≡ 0) {limited : ℕ} (d : limited ≡ mostsFault (cleared y .types)) where
-        pub fault-of-mosts : (limited ≡ 0 → ⊥) → limited ≡ systemFault y
-        unfolding systemFault
-        fault-of-mosts some = or-on _ _ _ a few (or-on _ _ _ b keeps (or-on _ _ _ c small (or-first _ _ _ d some)))
-
-        pub fault-of-columns : limited ≡ 0 → {columns : ℕ} → columns ≡ columnsFault (cleared y .types) → columns ≡ systemFault y
-        unfolding systemFault
-        fault-of-columns apart e = or-on _ _ _ a few (or-on _ _ _ b keeps (or-on _ _ _ c small (or-on _ _ _ d apart e)))
+      pub fault-of-types : equipped ≡ 0 → {limits : ℕ} → limits ≡ typesLimits (cleared y .types) → limits ≡ systemFault y
+      unfolding systemFault
+      fault-of-types keeps e = or-on _ _ _ a few (or-on _ _ _ b agree (or-on _ _ _ c keeps e))
 
 -- The types that are judged by a test: this one is at fault, or the others decide, or none is left
 

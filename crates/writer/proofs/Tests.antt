@@ -1,4 +1,5 @@
 -- The writer's tests, one by one: each says its number exactly where what it asks, in plain words, does not hold; and what tests say one after another.
+-- The platform's fault and the second kind's are taken apart into the number of engines of both kinds, the rule, and the sizes of both.
 use Prim.Native.Nat.{ℕ, zero, suc, _+_, _-_, _*_, _≤_, _<_}
 use mathlib.Core.Path.{_≡_, refl, sym, ap, subst, _∙_}
 use mathlib.Core.List.{List, [], _∷_, _++_, map, map-append}
@@ -12,14 +13,21 @@ use lib.Seq.{take-suc}
 use lib.Dec.{leb, ltb, eqb}
 use Rattle.system.specs.declared.Most.{Most}
 use Rattle.system.specs.declared.Most.the-variants.{NotGiven, AtMost}
+use Rattle.system.specs.declared.Costs.{Costs}
+use Rattle.system.specs.declared.There.{There}
+use Rattle.system.specs.declared.There.the-variants.{Absent, Takes}
+use Rattle.system.specs.declared.Kind.{Kind}
+use Rattle.system.specs.declared.Second.{Second}
+use Rattle.system.specs.declared.Second.the-variants.{OneKind, TwoKinds}
 use Rattle.system.specs.declared.TaskType.{TaskType}
 use Rattle.system.specs.declared.System.{System}
 use Rattle.system.specs.Values.{noTask, cleared}
-use Rattle.system.specs.Limits.{engineLimit, typeLimit, sizeLimit, columnLimit, sizeFault, typeFault, mostFault, columnsOf, columnsFault}
-use Rattle.system.proofs.Laws.{and-parts, and-both, sized-task}
+use Rattle.system.specs.Limits.{engineLimit, typeLimit, sizeLimit, columnLimit, sizeFault, kindCounted, secondFault, typeFault, mostFault, costsFault, columnsOf, columnsFault, given, isOneKind, kindsAgree, kindsFault}
+use Rattle.system.proofs.Laws.{and-parts, and-both, sized-task, one-kind, two-kinds, given-takes, kinds-absent, kinds-given, given-kinds}
 use Rattle.partition.specs.Assignment.{among}
+use Rattle.partition.specs.Plain.{typeNo, AllOrNone}
 use Rattle.writer.specs.File.{fileOf}
-use Rattle.writer.specs.Writing.{orElse, typesFault, mostsFault, roomFault}
+use Rattle.writer.specs.Writing.{orElse, taskFault, typesFault, mostsFault, roomFault}
 use Rattle.writer.specs.Meaning.{EnginesWithin, SizesWithin, ReplicasWithin, columnsTo}
 use Rattle.writer.proofs.Faults.{none-or, firstOf, types-first, replicaFault, mosts-first}
 
@@ -86,14 +94,27 @@ manyFault y = cond (ltb typeLimit (y .typecount)) 7 0
 abbrev pub noneFault : System → ℕ
 noneFault y = cond (eqb (y .typecount) 0) 9 0
 
-abbrev pub enginesFault : System → ℕ
-enginesFault y = cond (not (leb 1 (y .engines) && leb (y .engines) engineLimit)) 5 0
+abbrev pub firstFault : System → ℕ
+firstFault y = cond (not (leb 1 (y .engines) && leb (y .engines) engineLimit)) 5 0
+
+-- the number of a second kind's engines is out of its bounds
+abbrev pub kindOver : ℕ → Second → Bool
+kindOver m OneKind = false
+kindOver m (TwoKinds k) = not (kindCounted m (k .number))
+
+abbrev pub numbersFault : System → ℕ
+numbersFault y = orElse (firstFault y) (cond (kindOver (y .engines) (y .second)) 5 0)
 
 abbrev pub ruleFault : System → ℕ
 ruleFault y = cond (not (leb (y .rule) 1)) 6 0
 
+-- U and S of a second kind
+abbrev pub kindSizes : Second → ℕ
+kindSizes OneKind = 0
+kindSizes (TwoKinds k) = sizeFault (k .timecap) (k .memorycap)
+
 abbrev pub sizesFault : System → ℕ
-sizesFault y = orElse (sizeFault (y .timecap) (y .memorycap)) (typesFault (cleared y .types))
+sizesFault y = orElse (orElse (sizeFault (y .timecap) (y .memorycap)) (kindSizes (y .second))) (typesFault (cleared y .types))
 
 abbrev pub replicasFault : System → ℕ
 replicasFault y = mostsFault (cleared y .types)
@@ -104,7 +125,21 @@ productFault y = columnsFault (cleared y .types)
 abbrev pub shortFault : System → ℕ → ℕ
 shortFault y room = roomFault (length (fileOf y)) room
 
--- 7, 9, 5, 6
+-- what the test of a second kind finds: 5 by its number, else 8 by its sizes, which is no 5
+
+pub second-apart : (m : ℕ) (s : Second) → secondFault m s ≡ cond (kindOver m s) 5 (kindSizes s)
+second-apart m OneKind = refl
+second-apart m (TwoKinds k) = refl
+
+pub sizes-no-five : (s : Second) → eqb (kindSizes s) 5 ≡ false
+sizes-no-five OneKind = refl
+sizes-no-five (TwoKinds k) = at (not (leb (k .timecap) sizeLimit && leb (k .memorycap) sizeLimit))
+  where
+    at : (b : Bool) → eqb (cond b 8 0) 5 ≡ false
+    at true = refl
+    at false = refl
+
+-- 7, 9
 
 pub many-test : (y : System) → Test (y .typecount ≤ 6) 7 (manyFault y)
 many-test y = test-of (ltb typeLimit (y .typecount)) (λ q few. omega (arith, ltb-true typeLimit (y .typecount) q)) (λ q. ltb-false typeLimit (y .typecount) q)
@@ -121,8 +156,60 @@ both-test a b c d =
 one-test : {n : ℕ} (a b : ℕ) → Test (a ≤ b) n (cond (not (leb a b)) n 0)
 one-test a b = test-of (not (leb a b)) (λ q h. false≢true (sym (not-true _ q) ∙ le-leb a b h)) (λ q. leb-true a b (not-false _ q))
 
-pub engines-test : (y : System) → Test (EnginesWithin y) 5 (enginesFault y)
-engines-test y = both-test 1 (y .engines) (y .engines) engineLimit
+-- 41: of each of types 1 to k u and s on the second kind are given exactly where there is one
+
+absent-agree : (k : ℕ) (ts : List TaskType) → ((i : ℕ) → i < k → getD ts i noTask .there ≡ Absent) → kindsAgree true k ts ≡ true
+unfolding kindsAgree
+absent-agree k [] none = refl
+absent-agree zero (t ∷ ts) none = refl
+absent-agree (suc k) (t ∷ ts) none =
+    and-both (not (given (t .there))) (kindsAgree true k ts) (ap (λ (x : There). not (given x)) (none zero (omega arith))) (absent-agree k ts (λ i h. none (suc i) (omega arith)))
+
+module _ (y : System) (inside : y .typecount ≤ length (y .types)) where
+  abbrev agree : Second → Type 0
+  agree s = kindsAgree (isOneKind s) (y .typecount) (y .types) ≡ true
+
+  kinds-told : agree (y .second) → AllOrNone y
+  kinds-told e = record {
+    none = λ one t low high. kinds-absent (y .typecount) (y .types) (subst agree one e) (t - 1) (omega arith);
+    all = λ k two t low high. given-takes (typeNo y t .there) (kinds-given (y .typecount) (y .types) (subst agree two e) (t - 1) (omega arith) (omega arith));
+  }
+
+  kinds-back : AllOrNone y → agree (y .second)
+  kinds-back w = at (isOneKind (y .second)) refl
+    where
+      at : (b : Bool) → isOneKind (y .second) ≡ b → kindsAgree b (y .typecount) (y .types) ≡ true
+      at true q =
+          absent-agree (y .typecount) (y .types)
+          (λ i h.
+          let same : suc i - 1 ≡ i = omega arith in
+          subst (λ (j : ℕ). getD (y .types) j noTask .there ≡ Absent) same (w .none (one-kind (y .second) q) (suc i) (omega arith) (omega arith)))
+      at false q =
+          let k = two-kinds (y .second) q in
+          given-kinds (y .typecount) (y .types)
+          (λ i h.
+          let same : suc i - 1 ≡ i = omega arith in
+          let takes = w .all (k .0) (k .1) (suc i) (omega arith) (omega arith) in
+          subst (λ (j : ℕ). given (getD (y .types) j noTask .there) ≡ true) same (ap given (takes .1)))
+
+  pub kinds-test : Test (AllOrNone y) 41 (kindsFault y)
+  kinds-test =
+      test-of (not (kindsAgree (isOneKind (y .second)) (y .typecount) (y .types))) (λ q w. false≢true (sym (not-true _ q) ∙ kinds-back w)) (λ q. kinds-told (not-false _ q))
+
+-- 5, 6
+
+-- a test of a second kind passes where there is none
+module _ (Asks : Kind → Type 0) {n : ℕ} (test : Second → ℕ) (free : test OneKind ≡ 0) (one : (k : Kind) → Test (Asks k) n (test (TwoKinds k))) where
+  kind-test : (s : Second) → Test ((k : Kind) → s ≡ TwoKinds k → Asks k) n (test s)
+  kind-test OneKind = rw free (passed (λ k is. let z : _≡_ {A = ℕ} 0 1 = cc in absurd (omega arith)))
+  kind-test (TwoKinds j) = asked ((λ p k is. let same : j ≡ k = cc in subst Asks same p), (λ all. all j refl)) (one j)
+
+pub engines-test : (y : System) → Test (EnginesWithin y) 5 (numbersFault y)
+engines-test y =
+    asked ((λ h. (h .0 .0, h .0 .1, h .1)), (λ w. ((w .0, w .1), w .2)))
+    (both (omega arith) (both-test 1 (y .engines) (y .engines) engineLimit)
+    (kind-test (λ (k : Kind). (1 ≤ k .number) × (y .engines + k .number ≤ 16)) (λ (s : Second). cond (kindOver (y .engines) s) 5 0) refl
+    (λ k. both-test 1 (k .number) (y .engines + k .number) engineLimit) (y .second)))
 
 pub rule-test : (y : System) → Test (y .rule ≤ 1) 6 (ruleFault y)
 rule-test y = one-test (y .rule) 1
@@ -145,10 +232,16 @@ module _ (test : TaskType → ℕ) (Asks : TaskType → Type 0) {n : ℕ} (some 
       each h zero less = h .0
       each h (suc i) less = h .1 i (omega arith)
 
--- 8: u, s and d of types 1 to k
+-- 8: u, s and d of types 1 to k, and their u and s on the second kind
 
 abbrev Within : TaskType → Type 0
 Within t = (t .time ≤ 1000000) × (t .memory ≤ 1000000) × (t .data ≤ 1000000)
+
+abbrev CostsWithin : There → Type 0
+CostsWithin x = (c : Costs) → x ≡ Takes c → (c .time ≤ 1000000) × (c .memory ≤ 1000000)
+
+abbrev TaskWithin : TaskType → Type 0
+TaskWithin t = Within t × CostsWithin (t .there)
 
 size-test : (u s : ℕ) → Test ((u ≤ 1000000) × (s ≤ 1000000)) 8 (sizeFault u s)
 size-test u s = both-test u sizeLimit s sizeLimit
@@ -162,20 +255,47 @@ type-test t =
     (λ q h. let two = and-both u s (le-leb (t .time) sizeLimit (h .0)) (le-leb (t .memory) sizeLimit (h .1)) in false≢true (sym (not-true _ q) ∙ and-both (u && s) d two (le-leb (t .data) sizeLimit (h .2))))
     (λ q. let h = sized-task t (rw q) in (h .time, h .memory, h .data))
 
-types-test : (k m : ℕ) (ts : List TaskType) → Test ((i : ℕ) → i < k → Within (getD ts i noTask)) 8 (typesFault (take k ts ++ replicate m noTask))
-types-test k m ts = rw (types-first (take k ts ++ replicate m noTask)) (first-test typeFault Within (omega arith) type-test refl k m ts)
+costs-test : (x : There) → Test (CostsWithin x) 8 (costsFault x)
+costs-test Absent = passed (λ c is. let z : _≡_ {A = ℕ} 0 1 = cc in absurd (omega arith))
+costs-test (Takes d) =
+    asked ((λ p c is. let same : d ≡ c = cc in subst (λ (e : Costs). (e .time ≤ 1000000) × (e .memory ≤ 1000000)) same p), (λ all. all d refl)) (size-test (d .time) (d .memory))
+
+types-test : (k m : ℕ) (ts : List TaskType) → Test ((i : ℕ) → i < k → TaskWithin (getD ts i noTask)) 8 (typesFault (take k ts ++ replicate m noTask))
+types-test k m ts =
+    rw (types-first (take k ts ++ replicate m noTask))
+    (first-test taskFault TaskWithin (omega arith) (λ t. both (omega arith) (type-test t) (costs-test (t .there))) refl k m ts)
+
+-- U and S of a second kind
+abbrev KindWithin : System → Type 0
+KindWithin y = (k : Kind) → y .second ≡ TwoKinds k → (k .timecap ≤ 1000000) × (k .memorycap ≤ 1000000)
 
 abbrev AllWithin : System → Type 0
-AllWithin y = ((y .timecap ≤ 1000000) × (y .memorycap ≤ 1000000)) × ((i : ℕ) → i < y .typecount → Within (getD (y .types) i noTask))
+AllWithin y = (((y .timecap ≤ 1000000) × (y .memorycap ≤ 1000000)) × KindWithin y) × ((i : ℕ) → i < y .typecount → TaskWithin (getD (y .types) i noTask))
+
+kind-sizes-test : (y : System) → Test (KindWithin y) 8 (kindSizes (y .second))
+kind-sizes-test y =
+    kind-test (λ (k : Kind). (k .timecap ≤ 1000000) × (k .memorycap ≤ 1000000)) kindSizes refl (λ k. size-test (k .timecap) (k .memorycap)) (y .second)
 
 pub sizes-test : (y : System) → Test (SizesWithin y) 8 (sizesFault y)
-sizes-test y = asked (told, back) (both (omega arith) (size-test (y .timecap) (y .memorycap)) (types-test (y .typecount) (typeLimit - y .typecount) (y .types)))
+sizes-test y =
+    asked (told, back)
+    (both (omega arith) (both (omega arith) (size-test (y .timecap) (y .memorycap)) (kind-sizes-test y)) (types-test (y .typecount) (typeLimit - y .typecount) (y .types)))
   where
     told : AllWithin y → SizesWithin y
-    told h = record { capacities = h .0; costs = λ t low high. h .1 (t - 1) (omega arith) }
+    told h = record {
+      capacities = h .0 .0;
+      costs = λ t low high. h .1 (t - 1) (omega arith) .0;
+      second = record { capacities = h .0 .1; costs = λ t c low high is. h .1 (t - 1) (omega arith) .1 c is };
+    }
 
     back : SizesWithin y → AllWithin y
-    back w = (w .capacities, λ i less. let same : suc i - 1 ≡ i = omega arith in subst (λ (j : ℕ). Within (getD (y .types) j noTask)) same (w .costs (suc i) (omega arith) (omega arith)))
+    back w = (
+      (w .capacities, w .second .capacities),
+      λ i less.
+          let same : suc i - 1 ≡ i = omega arith in
+          subst (λ (j : ℕ). TaskWithin (getD (y .types) j noTask)) same
+          (w .costs (suc i) (omega arith) (omega arith), λ c is. w .second .costs (suc i) c (omega arith) (omega arith) is),
+    )
 
 -- 31: q of types 1 to k
 

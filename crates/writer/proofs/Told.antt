@@ -2,7 +2,7 @@
 -- A file with a zero tag 3 is longer.
 use Prim.Native.Nat.{ℕ, zero, suc, _+_, _≤_, _<_}
 use mathlib.Core.Path.{_≡_, refl, sym, ap, ap₂}
-use mathlib.Core.List.{List, [], _∷_, _++_, append-nil}
+use mathlib.Core.List.{List, [], _∷_, _++_, append-nil, append-assoc}
 use mathlib.Core.Bool.{Bool, true, false, not, cond, _&&_, and-false}
 use native.Mathlib.Omega.{arith}
 use native.Mathlib.Nat.{le-refl}
@@ -10,11 +10,12 @@ use borrow.Author.Tests.{eqb-true, leb-true, leb-false}
 use lib.ListN.{length, length-append}
 use lib.Dec.{eqb, leb}
 use Rattle.system.specs.declared.Most.the-variants.{NotGiven}
+use Rattle.system.specs.declared.There.the-variants.{Absent}
 use Rattle.system.specs.declared.TaskType.{TaskType}
 use Rattle.system.specs.declared.System.{System}
-use Rattle.system.specs.Values.{taskOf, withData, withMost}
+use Rattle.system.specs.Values.{taskOf, withData, withMost, withCosts}
 use Rattle.partition.specs.Plain.{typeNo}
-use Rattle.writer.specs.Meaning.{twoOut, fourOut, platformOut, dataOut, mostOut, typeOut, typesOut, fileWith, fileOut, NoZero, ComesBackExactly}
+use Rattle.writer.specs.Meaning.{twoOut, fourOut, platformOut, secondOut, dataOut, mostOut, costsOut, typeOut, typesOut, fileWith, fileOut, NoZero, ComesBackExactly}
 
 -- intermediate: one type
 
@@ -34,17 +35,21 @@ has-data false d = at (eqb d 0) refl
     at true q = left-out refl (eqb-true d 0 q)
     at false q = given (rw q)
 
--- its bytes with a tag 3: those without, and then the field of d; and so with a tag 4
-pub type-given : (t : TaskType) (d : ℕ) → t .data ≡ 0 → t .most ≡ NotGiven → typeOut true (withData d t) ≡ typeOut false t ++ (3 ∷ 0 ∷ 4 ∷ fourOut d)
-type-given t d none free = rw (none, free, data-given d)
+-- its bytes with a tag 3: those without, and then the field of d; and so with a tag 4, and with a tag 7
+pub type-given : (t : TaskType) (d : ℕ) → t .data ≡ 0 → t .most ≡ NotGiven → t .there ≡ Absent → typeOut true (withData d t) ≡ typeOut false t ++ (3 ∷ 0 ∷ 4 ∷ fourOut d)
+type-given t d none free alone = rw (none, free, alone, data-given d)
 
-pub type-limited : (told : Bool) (t : TaskType) (q : ℕ) → t .most ≡ NotGiven → typeOut told (withMost q t) ≡ typeOut told t ++ (4 ∷ 0 ∷ 2 ∷ twoOut q)
-type-limited told t q free = rw (free, append-nil (dataOut told (t .data)))
+pub type-limited : (told : Bool) (t : TaskType) (q : ℕ) → t .most ≡ NotGiven → t .there ≡ Absent → typeOut told (withMost q t) ≡ typeOut told t ++ (4 ∷ 0 ∷ 2 ∷ twoOut q)
+type-limited told t q free alone = rw (free, alone, append-nil (dataOut told (t .data)))
+
+pub type-costed : (told : Bool) (t : TaskType) (u s : ℕ) → t .there ≡ Absent → typeOut told (withCosts u s t) ≡ typeOut told t ++ (7 ∷ 0 ∷ 8 ∷ (fourOut u ++ fourOut s))
+type-costed told t u s alone =
+    rw (alone, append-nil (mostOut (t .most)), append-assoc (dataOut told (t .data)) (mostOut (t .most)) (7 ∷ 0 ∷ 8 ∷ (fourOut u ++ fourOut s)))
 
 -- where a d of 0 is not told, nothing is
 same-type : (told : Bool) (t : TaskType) → (t .data ≡ 0 → told ≡ false) → typeOut false t ≡ typeOut told t
 same-type told t quiet =
-    ap (λ (l : List ℕ). typeOut false (taskOf (t .time) (t .memory) (t .ceiling)) ++ (l ++ mostOut (t .most))) (at (eqb (t .data) 0) refl)
+    ap (λ (l : List ℕ). typeOut false (taskOf (t .time) (t .memory) (t .ceiling)) ++ (l ++ (mostOut (t .most) ++ costsOut (t .there)))) (at (eqb (t .data) 0) refl)
   where
     field : List ℕ
     field = 3 ∷ 0 ∷ 4 ∷ fourOut (t .data)
@@ -54,8 +59,9 @@ same-type told t quiet =
     at false q = refl
 
 -- a zero tag 3 takes room, and no choice takes less than none
-type-length : (told : Bool) (t : TaskType) → length (typeOut told t) ≡ 13 + length (dataOut told (t .data)) + length (mostOut (t .most))
-type-length told t = omega (arith, length-append (dataOut told (t .data)) (mostOut (t .most)))
+type-length : (told : Bool) (t : TaskType) → length (typeOut told t) ≡ 13 + length (dataOut told (t .data)) + length (mostOut (t .most)) + length (costsOut (t .there))
+type-length told t =
+    omega (arith, length-append (dataOut told (t .data)) (mostOut (t .most) ++ costsOut (t .there)), length-append (mostOut (t .most)) (costsOut (t .there)))
 
 longer-data : (told : Bool) (d : ℕ) → length (dataOut false d) ≤ length (dataOut told d)
 longer-data false d = le-refl (length (dataOut false d))
@@ -126,10 +132,18 @@ comes-back-exactly told y = (there, back)
     there e t low high none = at (told t) refl
       where
         at : (b : Bool) → told t ≡ b → b ≡ false
-        at true q = absurd (omega (arith, ap length e, zero-told told y (y .typecount) t low high none q))
+        at true q =
+            absurd
+            (omega (
+              arith,
+              ap length e,
+              length-append (secondOut (y .second)) (quiet told y (y .typecount)),
+              length-append (secondOut (y .second)) (typesOut told y (y .typecount)),
+              zero-told told y (y .typecount) t low high none q,
+            ))
         at false q = refl
 
     back : NoZero told y → fileOut y ≡ fileWith told y
     back quiet =
-        ap (λ (l : List ℕ). platformOut y ++ l)
+        ap (λ (l : List ℕ). platformOut y ++ (secondOut (y .second) ++ l))
         (types-same (λ (t : ℕ). false) told y y (y .typecount) (λ t low high. same-type (told t) (typeNo y t) (quiet t low high)))

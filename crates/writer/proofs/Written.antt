@@ -1,5 +1,6 @@
--- What is written reads, and so does every file of the system: the reader goes over its fields one by one. After the platform and some types it holds them, with 0 past them;
--- a type's d is set by the tag 3 after it, and is 0 where there is none; its q is set by the tag 4 after both, and is not given where there is none. At the end 9 and 10 pass, since the writer asked them.
+-- What is written reads, and so does every file of the system: the reader goes over its fields one by one. After the platform, any second kind and some types it holds them, with 0 past them;
+-- a type's d is set by the tag 3 after it, and is 0 where there is none; its q is set by the tag 4 after both, and its u and s on the second kind by the tag 7 after these; neither is given where there is none.
+-- At the end 9, 41 and 10 pass, since the writer asked them.
 use Prim.Native.Nat.{ℕ, zero, suc, _+_, _-_, _≤_, _<_}
 use mathlib.Core.Path.{_≡_, refl, sym, ap, _∙_, subst}
 use mathlib.Core.List.{List, [], _∷_, _++_, append-nil, append-assoc}
@@ -12,25 +13,31 @@ use lib.Seq.{append-snoc, set-append-seam, set-set, getD-set-same, take-suc, len
 use Rattle.buffer.proofs.Laws.{bytes2-read, bytes4-read}
 use Rattle.system.specs.declared.Most.{Most}
 use Rattle.system.specs.declared.Most.the-variants.{NotGiven, AtMost}
+use Rattle.system.specs.declared.There.{There}
+use Rattle.system.specs.declared.There.the-variants.{Absent, Takes}
+use Rattle.system.specs.declared.Kind.{Kind}
+use Rattle.system.specs.declared.Second.{Second}
+use Rattle.system.specs.declared.Second.the-variants.{OneKind, TwoKinds}
 use Rattle.system.specs.declared.TaskType.{TaskType}
 use Rattle.system.specs.declared.System.{System}
 use Rattle.system.specs.declared.rules.FieldRule.{FieldRule}
 use Rattle.system.specs.declared.reader.Head.{Head}
 use Rattle.system.specs.declared.reader.Head.the-variants.{Ruled}
-use Rattle.system.specs.Values.{taskOf, withData, withMost, noTask, blank, withPlatform, withType, lastType, withLast, cleared}
-use Rattle.system.specs.Limits.{typeLimit, platformFault, typeFault, mostFault, columnsFault}
-use Rattle.system.specs.Rules.{platformRule, typeRule, dataRule, mostRule, ruleOf, follows, mayFollow, headSize}
-use Rattle.system.specs.Layout.{Reading, opened, word4, headOf, ruledHead, bodyPart, bodyOf, platformFrom, typeFrom, dataFrom, mostFrom}
-use Rattle.system.specs.Layout.{unlessFault, ruledField, fieldOf, endOf, afterField, fieldsFrom, readFile}
+use Rattle.system.specs.Values.{taskOf, withData, withMost, withCosts, noTask, blank, withPlatform, withSecond, withType, lastType, withLast, cleared}
+use Rattle.system.specs.Limits.{typeLimit, platformFault, kindFault, secondFault, typeFault, mostFault, costsFault, kindsFault, columnsFault}
+use Rattle.system.specs.Rules.{platformRule, typeRule, dataRule, mostRule, secondRule, costsRule, ruleOf, follows, mayFollow, headSize}
+use Rattle.system.specs.Layout.{Reading, opened, word4, headOf, ruledHead, bodyPart, bodyOf, platformFrom, typeFrom, dataFrom, mostFrom, secondFrom, costsFrom}
+use Rattle.system.specs.Layout.{unlessFault, ruledField, fieldOf, endOf, afterField, fieldsFrom, readCard}
 use Rattle.system.proofs.Laws.{sized-task, sized-test, type-later, fieldsFrom-nil}
 use Rattle.partition.specs.Plain.{typeNo}
 use Rattle.writer.specs.File.{fileOf}
-use Rattle.writer.specs.Writing.{systemFault}
-use Rattle.writer.specs.Meaning.{twoOut, fourOut, platformOut, dataOut, mostOut, typeOut, typesOut, fileWith}
+use Rattle.writer.specs.Writing.{orElse, systemFault}
+use Rattle.writer.specs.Meaning.{twoOut, fourOut, platformOut, secondOut, dataOut, mostOut, costsOut, typeOut, typesOut, fileWith}
 use Rattle.writer.proofs.Bytes.{four-out, file-out}
 use Rattle.writer.proofs.Told.{HasData, left-out, given, has-data}
-use Rattle.writer.proofs.Cleared.{same-to-k}
+use Rattle.writer.proofs.Cleared.{same-to-k, kinds-cleared}
 use Rattle.writer.proofs.Writable.{types-each, mosts-each, faultless-of}
+use Rattle.writer.proofs.Faults.{none-or}
 
 -- intermediate: one field
 
@@ -65,7 +72,31 @@ module _ (y : System) (rest : List ℕ) (z : System) (sound : platformFault (y .
       ap (λ (x : Reading). afterField x (λ (next : System). fieldsFrom f rest 1 next))
       (field-ruled (platformOut y ++ rest) 0 z platformRule platform-head ∙ platform-body)
 
--- u, s and n of a type, after a platform, a type, a d or a q
+-- a second kind of engine, after the platform
+module _ (k : Kind) (rest : List ℕ) (z : System) (sound : kindFault (z .engines) (k .number) (k .timecap) (k .memorycap) ≡ 0) where
+  abbrev second-field : List ℕ
+  second-field = secondOut (TwoKinds k) ++ rest
+
+  abbrev with-second : System
+  with-second = withSecond (k .number) (k .timecap) (k .memorycap) z
+
+  second-head : headOf second-field 1 ≡ Ruled secondRule
+  unfolding ruleOf headOf ruledHead
+  second-head = rw (le-leb headSize (length second-field) (omega arith), le-leb 12 (length second-field) (omega arith))
+
+  second-body : bodyOf secondRule (bodyPart second-field) z ≡ opened with-second
+  unfolding bodyOf secondFrom
+  second-body =
+      rw (le-leb 12 (length second-field) (omega arith), four-read (k .timecap), four-read (k .memorycap))
+      (unless-none (kindFault (z .engines) (k .number) (k .timecap) (k .memorycap)) with-second sound)
+
+  second-step : (f : ℕ) → fieldsFrom (suc f) second-field 1 z ≡ fieldsFrom f rest 6 with-second
+  unfolding fieldsFrom
+  second-step f =
+      ap (λ (x : Reading). afterField x (λ (next : System). fieldsFrom f rest 6 next))
+      (field-ruled second-field 1 z secondRule second-head ∙ second-body)
+
+-- u, s and n of a type, after a platform, a second kind, a type, or what belongs to one
 module _ (u s n : ℕ) (rest : List ℕ) (last : ℕ) (z : System) (place : mayFollow follows last (typeRule .tag) ≡ true) (few : z .typecount < typeLimit) (sound : typeFault (taskOf u s n) ≡ 0) where
   abbrev type-field : List ℕ
   type-field = typeOut false (taskOf u s n) ++ rest
@@ -128,14 +159,38 @@ module _ (q : ℕ) (rest : List ℕ) (last : ℕ) (z : System) (place : mayFollo
       ap (λ (x : Reading). afterField x (λ (next : System). fieldsFrom f rest 4 next))
       (field-ruled most-field last z mostRule most-head ∙ most-body)
 
--- intermediate: a type with its d and its q, where it has a tag 3 or 4 and where not
+-- u and s of the last type on the second kind, after it, its d or its q
+module _ (u s : ℕ) (rest : List ℕ) (last : ℕ) (z : System) (place : mayFollow follows last (costsRule .tag) ≡ true) (sound : costsFault (Takes (record { time = u; memory = s })) ≡ 0) where
+  abbrev costs-field : List ℕ
+  costs-field = 7 ∷ 0 ∷ 8 ∷ ((fourOut u ++ fourOut s) ++ rest)
 
--- what may follow a tag: a type, and before that a q
+  costs-head : headOf costs-field last ≡ Ruled costsRule
+  unfolding ruleOf headOf ruledHead
+  costs-head = rw (le-leb headSize (length costs-field) (omega arith), place, le-leb 11 (length costs-field) (omega arith))
+
+  costs-body : bodyOf costsRule (bodyPart costs-field) z ≡ opened (withLast (withCosts u s (lastType z)) z)
+  unfolding bodyOf costsFrom
+  costs-body =
+      rw (le-leb 11 (length costs-field) (omega arith), four-read u, four-read s)
+      (unless-none (costsFault (Takes (record { time = u; memory = s }))) (withLast (withCosts u s (lastType z)) z) sound)
+
+  costs-step : (f : ℕ) → fieldsFrom (suc f) costs-field last z ≡ fieldsFrom f rest 7 (withLast (withCosts u s (lastType z)) z)
+  unfolding fieldsFrom
+  costs-step f =
+      ap (λ (x : Reading). afterField x (λ (next : System). fieldsFrom f rest 7 next))
+      (field-ruled costs-field last z costsRule costs-head ∙ costs-body)
+
+-- intermediate: a type with its d, its q, and its u and s on the second kind, where it has a tag 3, 4 or 7 and where not
+
+-- what may follow a tag: a type, before that u and s on the second kind, and before these a q
 abbrev TypeMay : ℕ → Type 0
 TypeMay tag = mayFollow follows tag (typeRule .tag) ≡ true
 
+abbrev CostsMay : ℕ → Type 0
+CostsMay tag = TypeMay tag × (mayFollow follows tag (costsRule .tag) ≡ true)
+
 abbrev MostMay : ℕ → Type 0
-MostMay tag = TypeMay tag × (mayFollow follows tag (mostRule .tag) ≡ true)
+MostMay tag = CostsMay tag × (mayFollow follows tag (mostRule .tag) ≡ true)
 
 -- the reader has come to `rest`, where P tells what may stand there, with steps enough for it, and holds `next`
 record Comes (P : ℕ → Type 0) (f : ℕ) (s : List ℕ) (last : ℕ) (z : System) (rest : List ℕ) (next : System) : Type 0 where
@@ -164,7 +219,7 @@ module _ (z : System) (six : length (z .types) ≡ typeLimit) (few : z .typecoun
       let back : suc (z .typecount) - 1 ≡ z .typecount = omega arith in
       let types : set (withType t z .types) (suc (z .typecount) - 1) (change (lastType (withType t z))) ≡ set (z .types) (z .typecount) (change t) =
       (λ i. set (withType t z .types) (back i) (change (last-of i))) ∙ set-set (z .types) (z .typecount) t (change t) in
-      λ i. record { engines = z .engines; rule = z .rule; timecap = z .timecap; memorycap = z .memorycap; typecount = suc (z .typecount); types = types i }
+      λ i. record { engines = z .engines; rule = z .rule; timecap = z .timecap; memorycap = z .memorycap; typecount = suc (z .typecount); types = types i; second = z .second }
 
   -- its d
   data-comes : (told : Bool) (d : ℕ) → t .data ≡ 0 → typeFault (withData d t) ≡ 0 → (rest : List ℕ) (f : ℕ) → length (dataOut told d ++ rest) ≤ f
@@ -182,7 +237,7 @@ module _ (z : System) (six : length (z .types) ≡ typeLimit) (few : z .typecoun
             steps = f;
             enough = omega (arith, long);
             tag = 2;
-            place = (refl, refl);
+            place = ((refl, refl), refl);
             goes = ap (λ (l : List ℕ). fieldsFrom f (l ++ rest) 2 (withType t z)) nothing ∙ ap (λ (x : TaskType). fieldsFrom f rest 2 (withType x z)) same;
           }
       at (given e) zero enough = absurd (omega (arith, long, ap length e))
@@ -190,7 +245,7 @@ module _ (z : System) (six : length (z .types) ≡ typeLimit) (few : z .typecoun
         steps = f;
         enough = omega (arith, long, ap length e);
         tag = 3;
-        place = (refl, refl);
+        place = ((refl, refl), refl);
         goes =
             ap (λ (l : List ℕ). fieldsFrom (suc f) (l ++ rest) 2 (withType t z)) e
             ∙ data-step d rest (withType t z) (ap (λ (x : TaskType). typeFault (withData d x)) last-of ∙ sound) f
@@ -199,10 +254,10 @@ module _ (z : System) (six : length (z .types) ≡ typeLimit) (few : z .typecoun
 
   -- its q
   abbrev limited : Most → TaskType
-  limited m = record { time = t .time; memory = t .memory; ceiling = t .ceiling; «data» = t .data; most = m }
+  limited m = record { time = t .time; memory = t .memory; ceiling = t .ceiling; «data» = t .data; most = m; there = t .there }
 
   most-comes : (m : Most) → t .most ≡ NotGiven → mostFault m ≡ 0 → (rest : List ℕ) (f tag : ℕ) → length (mostOut m ++ rest) ≤ f → MostMay tag
-      → Comes TypeMay f (mostOut m ++ rest) tag (withType t z) rest (withType (limited m) z)
+      → Comes CostsMay f (mostOut m ++ rest) tag (withType t z) rest (withType (limited m) z)
   most-comes NotGiven free sound rest f tag enough place = record {
     steps = f;
     enough = enough;
@@ -215,13 +270,35 @@ module _ (z : System) (six : length (z .types) ≡ typeLimit) (few : z .typecoun
     steps = f;
     enough = omega arith;
     tag = 4;
-    place = refl;
+    place = (refl, refl);
     goes = most-step q rest tag (withType t z) (place .1) sound f ∙ ap (fieldsFrom f rest 4) (last-set (withMost q));
   }
 
+  -- its u and s on the second kind
+  abbrev costing : There → TaskType
+  costing x = record { time = t .time; memory = t .memory; ceiling = t .ceiling; «data» = t .data; most = t .most; there = x }
+
+  costs-comes : (x : There) → t .there ≡ Absent → costsFault x ≡ 0 → (rest : List ℕ) (f tag : ℕ) → length (costsOut x ++ rest) ≤ f → CostsMay tag
+      → Comes TypeMay f (costsOut x ++ rest) tag (withType t z) rest (withType (costing x) z)
+  costs-comes Absent alone sound rest f tag enough place = record {
+    steps = f;
+    enough = enough;
+    tag = tag;
+    place = place .0;
+    goes = let same : t ≡ costing Absent = λ i. costing (alone i) in ap (λ (x : TaskType). fieldsFrom f rest tag (withType x z)) same;
+  }
+  costs-comes (Takes c) alone sound rest zero tag enough place = absurd (omega arith)
+  costs-comes (Takes c) alone sound rest (suc f) tag enough place = record {
+    steps = f;
+    enough = omega arith;
+    tag = 7;
+    place = refl;
+    goes = costs-step (c .time) (c .memory) rest tag (withType t z) (place .1) sound f ∙ ap (fieldsFrom f rest 7) (last-set (withCosts (c .time) (c .memory)));
+  }
+
 module _ (told : Bool) (t : TaskType) (rest : List ℕ) (last : ℕ) (z : System) (place : TypeMay last) where
-  module _ (six : length (z .types) ≡ typeLimit) (few : z .typecount < typeLimit) (sound : typeFault t ≡ 0) (apart : mostFault (t .most) ≡ 0) where
-    -- the type as it stands before its d and its q are read
+  module _ (six : length (z .types) ≡ typeLimit) (few : z .typecount < typeLimit) (sound : typeFault t ≡ 0) (apart : mostFault (t .most) ≡ 0) (there : costsFault (t .there) ≡ 0) where
+    -- the type as it stands before its d, its q, and its u and s on the second kind are read
     abbrev bare : TaskType
     bare = taskOf (t .time) (t .memory) (t .ceiling)
 
@@ -229,7 +306,7 @@ module _ (told : Bool) (t : TaskType) (rest : List ℕ) (last : ℕ) (z : System
     bare-sound = let s = sized-task t sound in eqb-true (typeFault bare) 0 (sized-test bare (record { time = s .time; memory = s .memory; «data» = omega arith }))
 
     abbrev tail : List ℕ
-    tail = dataOut told (t .data) ++ (mostOut (t .most) ++ rest)
+    tail = dataOut told (t .data) ++ (mostOut (t .most) ++ (costsOut (t .there) ++ rest))
 
     bare-comes : (f : ℕ) → length (typeOut false bare ++ tail) ≤ f → Comes (λ (tag : ℕ). tag ≡ 2) f (typeOut false bare ++ tail) last z tail (withType bare z)
     bare-comes zero enough = absurd (omega arith)
@@ -244,14 +321,20 @@ module _ (told : Bool) (t : TaskType) (rest : List ℕ) (last : ℕ) (z : System
     one-type : (f : ℕ) → length (typeOut told t ++ rest) ≤ f → Comes TypeMay f (typeOut told t ++ rest) last z rest (withType t z)
     one-type f enough =
         let joined : typeOut false bare ++ tail ≡ typeOut told t ++ rest =
-        ap (λ (l : List ℕ). typeOut false bare ++ l) (sym (append-assoc (dataOut told (t .data)) (mostOut (t .most)) rest)) in
+        ap (λ (l : List ℕ). typeOut false bare ++ l)
+        (ap (λ (l : List ℕ). dataOut told (t .data) ++ l) (sym (append-assoc (mostOut (t .most)) (costsOut (t .there)) rest))
+        ∙ sym (append-assoc (dataOut told (t .data)) (mostOut (t .most) ++ costsOut (t .there)) rest)) in
         subst (λ (s : List ℕ). Comes TypeMay f s last z rest (withType t z)) joined
         (comes-then (bare-comes f (omega (arith, ap length joined)))
         (λ steps tag more is.
         comes-then
-        (subst (λ (n : ℕ). Comes MostMay steps tail n (withType bare z) (mostOut (t .most) ++ rest) (withType (withData (t .data) bare) z)) (sym is)
-        (data-comes z six few bare told (t .data) refl sound (mostOut (t .most) ++ rest) steps more))
-        (λ steps tag more place. most-comes z six few (withData (t .data) bare) (t .most) refl apart rest steps tag more place)))
+        (subst
+        (λ (n : ℕ). Comes MostMay steps tail n (withType bare z) (mostOut (t .most) ++ (costsOut (t .there) ++ rest)) (withType (withData (t .data) bare) z))
+        (sym is)
+        (data-comes z six few bare told (t .data) refl sound (mostOut (t .most) ++ (costsOut (t .there) ++ rest)) steps more))
+        (λ steps tag more place.
+        comes-then (most-comes z six few (withData (t .data) bare) (t .most) refl apart (costsOut (t .there) ++ rest) steps tag more place)
+        (λ steps tag more place. costs-comes z six few (limited z six few (withData (t .data) bare) (t .most)) (t .there) refl there rest steps tag more place))))
 
 -- intermediate: the system that the reader holds after the platform of y and some types
 
@@ -264,6 +347,7 @@ holding y done =
       memorycap = y .memorycap;
       typecount = length done;
       types = done ++ replicate (typeLimit - length done) noTask;
+      second = y .second;
     }
 
 holding-more : (y : System) (done : List TaskType) (t : TaskType) → length done < typeLimit → withType t (holding y done) ≡ holding y (done ++ (t ∷ []))
@@ -275,10 +359,36 @@ holding-more y done t few =
     ∙ set-append-seam done noTask (replicate (typeLimit - suc (length done)) noTask) t
     ∙ sym (append-snoc done t (replicate (typeLimit - suc (length done)) noTask)) in
     let all = types ∙ ap (λ (n : ℕ). (done ++ (t ∷ [])) ++ replicate (typeLimit - n) noTask) count in
-    λ i. record { engines = y .engines; rule = y .rule; timecap = y .timecap; memorycap = y .memorycap; typecount = count i; types = all i }
+    λ i. record { engines = y .engines; rule = y .rule; timecap = y .timecap; memorycap = y .memorycap; typecount = count i; types = all i; second = y .second }
 
 holding-six : (y : System) (done : List TaskType) → length done ≤ typeLimit → length (holding y done .types) ≡ typeLimit
 holding-six y done few = omega (arith, length-append done (replicate (typeLimit - length done) noTask), length-replicate (typeLimit - length done) noTask)
+
+-- after the platform and any second kind
+
+abbrev equipped : System → Second → System
+equipped y s =
+    record {
+      engines = y .engines;
+      rule = y .rule;
+      timecap = y .timecap;
+      memorycap = y .memorycap;
+      typecount = 0;
+      types = replicate typeLimit noTask;
+      second = s;
+    }
+
+second-comes : (y : System) (s : Second) → secondFault (y .engines) s ≡ 0 → (rest : List ℕ) (f : ℕ) → length (secondOut s ++ rest) ≤ f
+    → Comes TypeMay f (secondOut s ++ rest) 1 (equipped y OneKind) rest (equipped y s)
+second-comes y OneKind sound rest f enough = record { steps = f; enough = enough; tag = 1; place = refl; goes = refl }
+second-comes y (TwoKinds k) sound rest zero enough = absurd (omega arith)
+second-comes y (TwoKinds k) sound rest (suc f) enough = record {
+  steps = f;
+  enough = omega arith;
+  tag = 6;
+  place = refl;
+  goes = second-step k rest (equipped y OneKind) sound f;
+}
 
 -- at the end it does not matter which field was the last
 end-later : (last : ℕ) (z : System) → (last ≡ 0 → ⊥) → endOf last z ≡ endOf 2 z
@@ -295,7 +405,11 @@ module _ (told : ℕ → Bool) (y : System) (six : length (y .types) ≡ 6) (non
   first-types n h = length-take-le n (y .types) (omega (arith, few-types))
 
   each-sound : (t : ℕ) → 1 ≤ t → t ≤ y .typecount → typeFault (typeNo y t) ≡ 0
-  each-sound t low high = ap typeFault (sym (same-to-k y six few-types .types t low high)) ∙ types-each (cleared y .types) (faultless-of y none .types) (t - 1)
+  each-sound t low high = ap typeFault (sym (same-to-k y six few-types .types t low high)) ∙ types-each (cleared y .types) (faultless-of y none .types) (t - 1) .0
+
+  each-costs : (t : ℕ) → 1 ≤ t → t ≤ y .typecount → costsFault (typeNo y t .there) ≡ 0
+  each-costs t low high =
+      ap (λ (x : TaskType). costsFault (x .there)) (sym (same-to-k y six few-types .types t low high)) ∙ types-each (cleared y .types) (faultless-of y none .types) (t - 1) .1
 
   each-apart : (t : ℕ) → 1 ≤ t → t ≤ y .typecount → mostFault (typeNo y t .most) ≡ 0
   each-apart t low high =
@@ -308,20 +422,22 @@ module _ (told : ℕ → Bool) (y : System) (six : length (y .types) ≡ 6) (non
       ∙ ap (λ (j : ℕ). holding y (take n (y .types) ++ (getD (y .types) j noTask ∷ []))) back
       ∙ ap (holding y) (sym (take-suc (y .types) n noTask (omega (arith, few-types))))
 
-  types-read : (n : ℕ) → n ≤ y .typecount → (f : ℕ) (rest : List ℕ) → length (typesOut told y n ++ rest) ≤ f
-      → Comes TypeMay f (typesOut told y n ++ rest) 1 (holding y []) rest (holding y (take n (y .types)))
+  types-read : (n : ℕ) → n ≤ y .typecount → (first : ℕ) → TypeMay first → (f : ℕ) (rest : List ℕ) → length (typesOut told y n ++ rest) ≤ f
+      → Comes TypeMay f (typesOut told y n ++ rest) first (holding y []) rest (holding y (take n (y .types)))
   unfolding typesOut
-  types-read zero h f rest enough = record { steps = f; enough = enough; tag = 1; place = refl; goes = refl }
-  types-read (suc n) h f rest enough =
+  types-read zero h first start f rest enough = record { steps = f; enough = enough; tag = first; place = start; goes = refl }
+  types-read (suc n) h first start f rest enough =
       let t = typeNo y (suc n) in
       let done = take n (y .types) in
       let joined : typesOut told y n ++ (typeOut (told (suc n)) t ++ rest) ≡ (typesOut told y n ++ typeOut (told (suc n)) t) ++ rest =
       sym (append-assoc (typesOut told y n) (typeOut (told (suc n)) t) rest) in
       let few : length done < typeLimit = omega (arith, few-types, first-types n (omega arith)) in
-      subst (λ (s : List ℕ). Comes TypeMay f s 1 (holding y []) rest (holding y (take (suc n) (y .types)))) joined
-      (subst (Comes TypeMay f (typesOut told y n ++ (typeOut (told (suc n)) t ++ rest)) 1 (holding y []) rest) (next-type n h)
-      (comes-then (types-read n (omega arith) f (typeOut (told (suc n)) t ++ rest) (omega (arith, ap length joined)))
-      (λ steps tag more place. one-type (told (suc n)) t rest tag (holding y done) place (holding-six y done (omega arith)) few (each-sound (suc n) (omega arith) h) (each-apart (suc n) (omega arith) h) steps more)))
+      subst (λ (s : List ℕ). Comes TypeMay f s first (holding y []) rest (holding y (take (suc n) (y .types)))) joined
+      (subst (Comes TypeMay f (typesOut told y n ++ (typeOut (told (suc n)) t ++ rest)) first (holding y []) rest) (next-type n h)
+      (comes-then (types-read n (omega arith) first start f (typeOut (told (suc n)) t ++ rest) (omega (arith, ap length joined)))
+      (λ steps tag more place.
+      one-type (told (suc n)) t rest tag (holding y done) place (holding-six y done (omega arith)) few (each-sound (suc n) (omega arith) h) (each-apart (suc n) (omega arith) h)
+      (each-costs (suc n) (omega arith) h) steps more)))
 
   reads-cleared : holding y (take (y .typecount) (y .types)) ≡ cleared y
   reads-cleared =
@@ -333,33 +449,39 @@ module _ (told : ℕ → Bool) (y : System) (six : length (y .types) ≡ 6) (non
         memorycap = y .memorycap;
         typecount = count i;
         types = take (y .typecount) (y .types) ++ replicate (typeLimit - count i) noTask;
+        second = y .second;
       }
 
   ends-well : endOf 2 (cleared y) ≡ opened (cleared y)
   unfolding endOf
   ends-well =
       let f = faultless-of y none in
-      rw (ne-eqb (y .typecount) 0 (λ e. omega arith)) (unless-none (columnsFault (cleared y .types)) (cleared y) (f .columns))
+      let kinds : kindsFault (cleared y) ≡ 0 = kinds-cleared y (omega (arith, few-types)) ∙ f .kinds in
+      rw (ne-eqb (y .typecount) 0 (λ e. omega arith))
+      (unless-none (orElse (kindsFault (cleared y)) (columnsFault (cleared y .types))) (cleared y) (none-or (kindsFault (cleared y)) (columnsFault (cleared y .types)) kinds (f .columns)))
 
   fields-read : (f : ℕ) → length (fileWith told y) ≤ f → fieldsFrom f (fileWith told y) 0 blank ≡ opened (cleared y)
   fields-read zero enough = absurd (omega arith)
   fields-read (suc f) enough =
       let k = y .typecount in
       let all = append-nil (typesOut told y k) in
-      let p = types-read k (le-refl k) f [] (omega (arith, ap length all)) in
-      platform-step y (typesOut told y k) blank (faultless-of y none .platform) f
-      ∙ ap (λ (s : List ℕ). fieldsFrom f s 1 (holding y [])) (sym all)
+      let both : secondOut (y .second) ++ (typesOut told y k ++ []) ≡ secondOut (y .second) ++ typesOut told y k = ap (λ (l : List ℕ). secondOut (y .second) ++ l) all in
+      let p =
+      comes-then (second-comes y (y .second) (faultless-of y none .second) (typesOut told y k ++ []) f (omega (arith, ap length both)))
+      (λ steps tag more place. types-read k (le-refl k) tag place steps [] more) in
+      platform-step y (secondOut (y .second) ++ typesOut told y k) blank (faultless-of y none .platform) f
+      ∙ ap (λ (s : List ℕ). fieldsFrom f s 1 (equipped y OneKind)) (sym both)
       ∙ p .goes
       ∙ fieldsFrom-nil (p .steps) (p .tag) (holding y (take k (y .types)))
       ∙ ap (endOf (p .tag)) reads-cleared
       ∙ end-later (p .tag) (cleared y) (type-later (p .tag) (p .place))
       ∙ ends-well
 
-  pub told-reads : readFile (fileWith told y) ≡ opened (cleared y)
-  unfolding readFile
+  pub told-reads : readCard (fileWith told y) ≡ opened (cleared y)
+  unfolding readCard
   told-reads = fields-read (length (fileWith told y)) (le-refl (length (fileWith told y)))
 
-pub written-reads : (y : System) → length (y .types) ≡ 6 → systemFault y ≡ 0 → readFile (fileOf y) ≡ opened (cleared y)
+pub written-reads : (y : System) → length (y .types) ≡ 6 → systemFault y ≡ 0 → readCard (fileOf y) ≡ opened (cleared y)
 written-reads y six none =
     let few = faultless-of y none .count in
-    ap readFile (file-out y (omega arith)) ∙ told-reads (λ (t : ℕ). false) y six none
+    ap readCard (file-out y (omega arith)) ∙ told-reads (λ (t : ℕ). false) y six none

@@ -7,11 +7,15 @@ use lib.Dec.{eqb}
 use Rattle.buffer.specs.Bytes.{bytes2, bytes4}
 use Rattle.system.specs.declared.Most.{Most}
 use Rattle.system.specs.declared.Most.the-variants.{NotGiven, AtMost}
+use Rattle.system.specs.declared.There.{There}
+use Rattle.system.specs.declared.There.the-variants.{Absent, Takes}
+use Rattle.system.specs.declared.Second.{Second}
+use Rattle.system.specs.declared.Second.the-variants.{OneKind, TwoKinds}
 use Rattle.system.specs.declared.TaskType.{TaskType}
 use Rattle.system.specs.declared.System.{System}
 use Rattle.system.specs.declared.rules.RuleFound.{RuleFound}
 use Rattle.system.specs.declared.rules.RuleFound.the-variants.{Known, Unknown}
-use Rattle.system.specs.Rules.{platformRule, typeRule, dataRule, mostRule, fieldRules, ruledSize}
+use Rattle.system.specs.Rules.{platformRule, typeRule, dataRule, mostRule, secondRule, costsRule, fieldRules, ruledSize}
 unfoldable use Rattle.system.specs.Rules.{ruleOf}
 
 -- "tag (1 byte), body length (2 bytes)", as the table's rule has them; nothing for a tag that it does not have
@@ -41,16 +45,25 @@ abbrev pub mostBytes : Most → List ℕ
 mostBytes NotGiven = []
 mostBytes (AtMost q) = fieldBytes (mostRule .tag) (bytes2 q)
 
--- a type: u (4), s (4), n (2); then its d, then its q
+-- "the writer emits tags 6 and 7 where given" (request 2026-13): the second kind's number (1), U (4), S (4), and a type's u (4), s (4) there
+abbrev pub secondBytes : Second → List ℕ
+secondBytes OneKind = []
+secondBytes (TwoKinds k) = fieldBytes (secondRule .tag) (k .number ∷ (bytes4 (k .timecap) ++ bytes4 (k .memorycap)))
+
+abbrev pub costsBytes : There → List ℕ
+costsBytes Absent = []
+costsBytes (Takes c) = fieldBytes (costsRule .tag) (bytes4 (c .time) ++ bytes4 (c .memory))
+
+-- a type: u (4), s (4), n (2); then its d, its q, and its u and s on the second kind
 abbrev pub typeBytes : TaskType → List ℕ
 typeBytes t =
-    fieldBytes (typeRule .tag) (bytes4 (t .time) ++ (bytes4 (t .memory) ++ bytes2 (t .ceiling))) ++ (dataBytes (t .data) ++ mostBytes (t .most))
+    fieldBytes (typeRule .tag) (bytes4 (t .time) ++ (bytes4 (t .memory) ++ bytes2 (t .ceiling))) ++ (dataBytes (t .data) ++ (mostBytes (t .most) ++ costsBytes (t .there)))
 
 -- the fields of some types, one after another
 unfoldable pub typesBytes : List TaskType → List ℕ
 typesBytes [] = []
 typesBytes (t ∷ ts) = typeBytes t ++ typesBytes ts
 
--- the file: the platform, then types 1 to k. What stands past k is not written
+-- the file: the platform, any second kind, then types 1 to k. What stands past k is not written
 unfoldable pub fileOf : System → List ℕ
-fileOf y = platformBytes y ++ typesBytes (take (y .typecount) (y .types))
+fileOf y = platformBytes y ++ (secondBytes (y .second) ++ typesBytes (take (y .typecount) (y .types)))

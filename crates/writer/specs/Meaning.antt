@@ -9,13 +9,17 @@ use lib.ListN.{length, getD, take, drop}
 use lib.Dec.{eqb}
 use Rattle.system.specs.declared.Most.{Most}
 use Rattle.system.specs.declared.Most.the-variants.{NotGiven, AtMost}
+use Rattle.system.specs.declared.There.{There}
+use Rattle.system.specs.declared.There.the-variants.{Absent, Takes}
+use Rattle.system.specs.declared.Second.{Second}
+use Rattle.system.specs.declared.Second.the-variants.{OneKind, TwoKinds}
 use Rattle.system.specs.declared.TaskType.{TaskType}
 use Rattle.system.specs.declared.System.{System}
 use Rattle.system.specs.declared.Answer.{Answer}
-use Rattle.system.specs.Layout.{readFile, opened}
+use Rattle.system.specs.Layout.{readCard, readFile, opened}
 use Rattle.system.specs.Outcome.{Outcome, Source, accepted, refused, fromInput, outcomeOf}
 use Rattle.partition.specs.OwnWords.{noType}
-use Rattle.partition.specs.Plain.{typeNo, ceilingNo, LimitsOut}
+use Rattle.partition.specs.Plain.{typeNo, ceilingNo, LimitsOut, SecondWithin, SecondSizes, AllOrNone, CardOut}
 use Rattle.writer.specs.Writing.{writeOutcome, writtenTo}
 
 -- The layout
@@ -40,10 +44,19 @@ abbrev pub mostOut : Most → List ℕ
 mostOut NotGiven = []
 mostOut (AtMost q) = 4 ∷ 0 ∷ 2 ∷ twoOut q
 
--- type t, counted from 1: tag 2, length 10, u, s, n; then its d, then its q
+-- request 2026-13: tag 6, length 9, the second kind's number, U and S; and tag 7, length 8, u and s there; nothing where they are not given
+abbrev pub secondOut : Second → List ℕ
+secondOut OneKind = []
+secondOut (TwoKinds k) = 6 ∷ 0 ∷ 9 ∷ k .number ∷ (fourOut (k .timecap) ++ fourOut (k .memorycap))
+
+abbrev pub costsOut : There → List ℕ
+costsOut Absent = []
+costsOut (Takes c) = 7 ∷ 0 ∷ 8 ∷ (fourOut (c .time) ++ fourOut (c .memory))
+
+-- type t, counted from 1: tag 2, length 10, u, s, n; then its d, its q, and last its u and s on the second kind
 abbrev pub typeOut : Bool → TaskType → List ℕ
 typeOut told t =
-    2 ∷ 0 ∷ 10 ∷ (fourOut (t .time) ++ (fourOut (t .memory) ++ (twoOut (t .ceiling) ++ (dataOut told (t .data) ++ mostOut (t .most)))))
+    2 ∷ 0 ∷ 10 ∷ (fourOut (t .time) ++ (fourOut (t .memory) ++ (twoOut (t .ceiling) ++ (dataOut told (t .data) ++ (mostOut (t .most) ++ costsOut (t .there))))))
 
 -- types 1 to n, in order of their number; `told t` says whether type t has a tag 3 where its d is 0
 unfoldable pub typesOut : (ℕ → Bool) → System → ℕ → List ℕ
@@ -52,7 +65,7 @@ typesOut told y (suc n) = typesOut told y n ++ typeOut (told (suc n)) (typeNo y 
 
 -- the files of a system: they differ in the zero tags 3 alone
 abbrev pub fileWith : (ℕ → Bool) → System → List ℕ
-fileWith told y = platformOut y ++ typesOut told y (y .typecount)
+fileWith told y = platformOut y ++ (secondOut (y .second) ++ typesOut told y (y .typecount))
 
 -- its file without a zero tag 3, which is the one that is written
 abbrev pub fileOut : System → List ℕ
@@ -70,6 +83,10 @@ IsBytes file = (i : ℕ) → getD file i 0 < 256
 abbrev pub ReadsExactly : List ℕ → System → Type 0
 ReadsExactly file y = (readFile file ≡ opened y) ↔ (((told : ℕ → Bool) × (file ≡ fileWith told y)) × LimitsOut y)
 
+-- the same of cards of one kind of engine or two (request 2026-13)
+abbrev pub CardExactly : List ℕ → System → Type 0
+CardExactly file y = (readCard file ≡ opened y) ↔ (((told : ℕ → Bool) × (file ≡ fileWith told y)) × CardOut y)
+
 -- "byte equality holds for files without a zero tag 3", and for no others
 abbrev pub ComesBackExactly : (ℕ → Bool) → System → Type 0
 ComesBackExactly told y = (fileOut y ≡ fileWith told y) ↔ NoZero told y
@@ -78,7 +95,7 @@ ComesBackExactly told y = (fileOut y ≡ fileWith told y) ↔ NoZero told y
 pub record Given (y : System) : Type 0 where
   pub file : List ℕ
   pub bytes : IsBytes file
-  pub reads : readFile file ≡ opened y
+  pub reads : readCard file ≡ opened y
 
 -- each q of types 1 to k fits the two bytes of its field, as every q of the code does, which has 16 bits
 abbrev pub ReplicasFit : System → Type 0
@@ -94,19 +111,22 @@ pub record SameToK (y z : System) : Type 0 where
   pub six : length (z .types) ≡ 6
   pub types : (t : ℕ) → 1 ≤ t → t ≤ y .typecount → typeNo z t ≡ typeNo y t
   pub past : (t : ℕ) → y .typecount < t → typeNo z t ≡ noType
+  pub second : z .second ≡ y .second
 
 -- The order of the refusals: each number is said exactly where its row says so and all that stand before it pass
 
--- 7 and 9: k is 1 to 6. 5: m is 1 to 16. 8: U, S, and u, s and d of types 1 to k are at most 1,000,000
+-- 7 and 9: k is 1 to 6. 41: all of a second kind or none. 5: m is 1 to 16, and a second kind has at least 1 engine, both together at most 16.
+-- 8: U, S, and u, s and d of types 1 to k are at most 1,000,000, those of a second kind too
 abbrev pub CountWithin : System → Type 0
 CountWithin y = (1 ≤ y .typecount) × (y .typecount ≤ 6)
 
 abbrev pub EnginesWithin : System → Type 0
-EnginesWithin y = (1 ≤ y .engines) × (y .engines ≤ 16)
+EnginesWithin y = (1 ≤ y .engines) × (y .engines ≤ 16) × SecondWithin y
 
 pub record SizesWithin (y : System) : Type 0 where
   pub capacities : (y .timecap ≤ 1000000) × (y .memorycap ≤ 1000000)
   pub costs : (t : ℕ) → 1 ≤ t → t ≤ y .typecount → (typeNo y t .time ≤ 1000000) × (typeNo y t .memory ≤ 1000000) × (typeNo y t .data ≤ 1000000)
+  pub second : SecondSizes y
 
 -- 31: no q of types 1 to k is 0
 abbrev pub ReplicasWithin : System → Type 0
@@ -120,6 +140,7 @@ columnsTo y (suc n) = columnsTo y n * (ceilingNo y (suc n) + 1)
 -- every limit that the writer asks: nothing is said of what stands past k
 pub record MayBeWritten (y : System) : Type 0 where
   pub count : CountWithin y
+  pub kinds : AllOrNone y
   pub engines : EnginesWithin y
   pub rule : y .rule ≤ 1
   pub sizes : SizesWithin y
@@ -129,11 +150,12 @@ pub record MayBeWritten (y : System) : Type 0 where
 pub record WritesInOrder (y : System) (room : ℕ) (o : Outcome) : Type 0 where
   pub sevenFirst : (o ≡ refused fromInput 7) ↔ (6 < y .typecount)
   pub thenNine : y .typecount ≤ 6 → (o ≡ refused fromInput 9) ↔ (y .typecount ≡ 0)
-  pub thenFive : CountWithin y → (o ≡ refused fromInput 5) ↔ (EnginesWithin y → ⊥)
-  pub thenSix : CountWithin y → EnginesWithin y → (o ≡ refused fromInput 6) ↔ (1 < y .rule)
-  pub thenEight : CountWithin y → EnginesWithin y → y .rule ≤ 1 → (o ≡ refused fromInput 8) ↔ (SizesWithin y → ⊥)
-  pub thenThirtyOne : CountWithin y → EnginesWithin y → y .rule ≤ 1 → SizesWithin y → (o ≡ refused fromInput 31) ↔ (ReplicasWithin y → ⊥)
-  pub thenTen : CountWithin y → EnginesWithin y → y .rule ≤ 1 → SizesWithin y → ReplicasWithin y → (o ≡ refused fromInput 10) ↔ (4096 < columnsTo y (y .typecount))
+  pub thenFortyOne : CountWithin y → (o ≡ refused fromInput 41) ↔ (AllOrNone y → ⊥)
+  pub thenFive : CountWithin y → AllOrNone y → (o ≡ refused fromInput 5) ↔ (EnginesWithin y → ⊥)
+  pub thenSix : CountWithin y → AllOrNone y → EnginesWithin y → (o ≡ refused fromInput 6) ↔ (1 < y .rule)
+  pub thenEight : CountWithin y → AllOrNone y → EnginesWithin y → y .rule ≤ 1 → (o ≡ refused fromInput 8) ↔ (SizesWithin y → ⊥)
+  pub thenThirtyOne : CountWithin y → AllOrNone y → EnginesWithin y → y .rule ≤ 1 → SizesWithin y → (o ≡ refused fromInput 31) ↔ (ReplicasWithin y → ⊥)
+  pub thenTen : CountWithin y → AllOrNone y → EnginesWithin y → y .rule ≤ 1 → SizesWithin y → ReplicasWithin y → (o ≡ refused fromInput 10) ↔ (4096 < columnsTo y (y .typecount))
   pub thenThirty : MayBeWritten y → (o ≡ refused fromInput 30) ↔ (room < length (fileOut y))
   pub orWritten : MayBeWritten y → length (fileOut y) ≤ room → o ≡ accepted (length (fileOut y) ∷ [])
 
@@ -144,6 +166,6 @@ pub record WritePromises (y : System) (old new : List ℕ) (r : Answer) : Type 0
   pub order : WritesInOrder y (length old) (outcomeOf r)
   pub asLent : (s : Source) (n : ℕ) → outcomeOf r ≡ refused s n → new ≡ old
   pub writes : (n : ℕ) → outcomeOf r ≡ accepted (n ∷ []) → (MayBeWritten y) × (n ≡ length (fileOut y)) × (new ≡ fileOut y ++ drop n old)
-  pub readsBack : (n : ℕ) → outcomeOf r ≡ accepted (n ∷ []) → (z : System) × (readFile (take n new) ≡ opened z) × SameToK y z
-  pub comesBack : (file : List ℕ) (told : ℕ → Bool) → IsBytes file → readFile file ≡ opened y → file ≡ fileWith told y → NoZero told y → length file ≤ length old
+  pub readsBack : (n : ℕ) → outcomeOf r ≡ accepted (n ∷ []) → (z : System) × (readCard (take n new) ≡ opened z) × SameToK y z × (y .second ≡ OneKind → readFile (take n new) ≡ opened z)
+  pub comesBack : (file : List ℕ) (told : ℕ → Bool) → IsBytes file → readCard file ≡ opened y → file ≡ fileWith told y → NoZero told y → length file ≤ length old
       → (outcomeOf r ≡ accepted (length file ∷ [])) × (new ≡ file ++ drop (length file) old)

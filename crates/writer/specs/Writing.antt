@@ -1,4 +1,4 @@
--- When a system is written, and what the lent buffer then holds: request 2026-01, with 31 of request 2026-04. A test gives the number of the refusal that it calls for, 0 for none.
+-- When a system is written, and what the lent buffer then holds: request 2026-01, with 31 of request 2026-04 and 41 of 2026-13. A test gives the number of the refusal that it calls for, 0 for none.
 use Prim.Native.Nat.{ℕ}
 use mathlib.Core.List.{List, [], _∷_, _++_}
 use mathlib.Core.Bool.{cond}
@@ -7,40 +7,48 @@ use lib.Dec.{ltb, eqb}
 use Rattle.system.specs.declared.TaskType.{TaskType}
 use Rattle.system.specs.declared.System.{System}
 use Rattle.system.specs.Values.{cleared}
-use Rattle.system.specs.Limits.{typeLimit, platformFault, typeFault, mostFault, columnsFault}
+pub use Rattle.system.specs.Limits.{orElse}
+use Rattle.system.specs.Limits.{typeLimit, platformFault, secondFault, typeFault, mostFault, costsFault, kindsFault, columnsFault}
 use Rattle.system.specs.Outcome.{Outcome, accepted, refused, fromInput}
 use Rattle.writer.specs.File.{fileOf}
-
--- one test after another: the first that finds a fault decides
-abbrev pub orElse : ℕ → ℕ → ℕ
-orElse fault later = cond (eqb fault 0) later fault
 
 -- k: 7, 9
 abbrev pub countFault : ℕ → ℕ
 countFault k = cond (ltb typeLimit k) 7 (cond (eqb k 0) 9 0)
 
--- u, s and d of some types: 8
+-- u, s and d of a type, and its u and s on the second kind: 8
+abbrev pub taskFault : TaskType → ℕ
+taskFault t = orElse (typeFault t) (costsFault (t .there))
+
+-- of some types
 unfoldable pub typesFault : List TaskType → ℕ
 typesFault [] = 0
-typesFault (t ∷ ts) = orElse (typeFault t) (typesFault ts)
+typesFault (t ∷ ts) = orElse (taskFault t) (typesFault ts)
 
 -- q of some types: 31
 unfoldable pub mostsFault : List TaskType → ℕ
 mostsFault [] = 0
 mostsFault (t ∷ ts) = orElse (mostFault (t .most)) (mostsFault ts)
 
+-- the types' limits: 8, then 31, then 10
+abbrev pub typesLimits : List TaskType → ℕ
+typesLimits ts = orElse (typesFault ts) (orElse (mostsFault ts) (columnsFault ts))
+
 -- the buffer's length: 30
 abbrev pub roomFault : ℕ → ℕ → ℕ
 roomFault size room = cond (ltb room size) 30 0
 
--- "in the order 7, 9, 5, 6, 8, 10", and 31 after every 8 (request 2026-04): "types past k .. are not judged", so the system is judged as it is with 0 there
+-- the numbers of engines of both kinds, the rule, and U and S of both: 5, 6, 8. The platform's fault comes first, but that a 5 of the second kind comes before its 6 and its 8
+abbrev pub enginesFault : ℕ → ℕ → ℕ
+enginesFault platform second = cond (eqb second 5) second (orElse platform second)
+
+-- "in the order 7, 9, 5, 6, 8, 10", 31 after every 8 (request 2026-04), and 41 "after 9" (2026-13): "types past k .. are not judged", so the system is judged as it is with 0 there
 unfoldable pub systemFault : System → ℕ
 systemFault y =
     orElse (countFault (y .typecount))
-    (orElse (platformFault (y .engines) (y .rule) (y .timecap) (y .memorycap))
-    (orElse (typesFault (cleared y .types))
-    (orElse (mostsFault (cleared y .types))
-    (columnsFault (cleared y .types)))))
+    (orElse (kindsFault y)
+    (orElse (enginesFault (platformFault (y .engines) (y .rule) (y .timecap) (y .memorycap)) (secondFault (y .engines) (y .second)))
+    (typesLimits (cleared y .types))))
 
 -- "30, when the buffer is shorter than the file, after 10"
 unfoldable pub writeFault : System → ℕ → ℕ

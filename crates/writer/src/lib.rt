@@ -1,4 +1,4 @@
-// The writer of system files: request 2026-01, with the d of request 2026-03 and the q of 2026-04. A system within document 01's limits becomes the bytes that the reader reads as it.
+// The writer of system files: request 2026-01, with the d of request 2026-03, the q of 2026-04 and the second kind of 2026-13. A system within document 01's limits becomes the bytes that the reader reads as it.
 //
 // The functions that put something into the buffer answer the place after it. Tag and length of a field are asked of the reader's own table of field rules.
 ghost use mathlib.Core.Path.{_≡_};
@@ -7,13 +7,15 @@ ghost use lib.ListN.{length, take};
 ghost use Rattle.buffer.specs.Written.{Puts};
 ghost use Rattle.system.specs.Limits.{engineLimit, typeLimit};
 ghost use Rattle.system.specs.Rules.{platformRule, fieldRules, ruleOf, headSize, ruledSize};
-ghost use Rattle.writer.specs.File.{headBytes, foundSize, platformBytes, dataBytes, mostBytes, typeBytes, typesBytes, fileOf};
-ghost use Rattle.writer.specs.Writing.{countFault, typesFault, mostsFault, systemFault, writeFault};
+ghost use Rattle.writer.specs.File.{headBytes, foundSize, platformBytes, secondBytes, dataBytes, mostBytes, costsBytes, typeBytes, typesBytes, fileOf};
+ghost use Rattle.writer.specs.Writing.{countFault, enginesFault, taskFault, typesFault, mostsFault, typesLimits, systemFault, writeFault};
+ghost use Rattle.writer.specs.Inner.{SecondFits};
 ghost use Rattle.writer.specs.Meaning.{WritePromises};
 use buffer::put_byte;
 use buffer::put_four;
 use buffer::put_two;
 use system::Answer;
+use system::COSTS;
 use system::DATA;
 use system::HEAD_SIZE;
 use system::MOST;
@@ -21,15 +23,21 @@ use system::Most;
 use system::PLATFORM;
 use system::Refusal;
 use system::RuleFound;
+use system::SECOND;
+use system::Second;
 use system::System;
 use system::TYPE;
 use system::TYPE_LIMIT;
 use system::TaskType;
+use system::There;
 use system::cleared;
 use system::columns_fault;
+use system::costs_fault;
+use system::kinds_fault;
 use system::most_fault;
 use system::platform_fault;
 use system::rule_of;
+use system::second_fault;
 use system::type_fault;
 
 // The number of types: 7, 9.
@@ -45,13 +53,25 @@ fn count_fault(typecount: usize) -> u8
     0
 }
 
+// A type's u, s and d, and its u and s on the second kind: 8.
+fn task_fault(t: TaskType) -> u8
+    ensures { λ r. ⌜ r ≡ taskFault t ⌝ }
+{
+    let fault = type_fault(t);
+    if fault != 0 {
+        return fault;
+    }
+    let there = t.there;
+    costs_fault(there)
+}
+
 // The first fault among six types: 8.
 fn types_fault(types: [TaskType; TYPE_LIMIT]) -> u8
     ensures { λ r. ⌜ r ≡ typesFault types ⌝ }
 {
     for i in 0..TYPE_LIMIT {
         let t = types[i];
-        let fault = type_fault(t);
+        let fault = task_fault(t);
         if fault != 0 {
             return fault;
         }
@@ -74,20 +94,23 @@ fn mosts_fault(types: [TaskType; TYPE_LIMIT]) -> u8
     0
 }
 
-// The limits of a system, in the order 7, 9, 5, 6, 8, 31, 10; 0 where it keeps them. What stands past k is not judged: it is cleared first.
-fn system_fault(y: System) -> u8
-    ensures { λ r. ⌜ r ≡ systemFault y ⌝ }
+// The faults of the platform and of the second kind as one: 5, 6, 8. A 5 of the second kind comes before the platform's 6 and 8.
+fn engines_fault(platform: u8, second: u8) -> u8
+    ensures { λ r. ⌜ r ≡ enginesFault platform second ⌝ }
 {
-    let counted = count_fault(y.typecount);
-    if counted != 0 {
-        return counted;
+    if second == 5 {
+        return second;
     }
-    let platform = platform_fault(y.engines, y.rule, y.timecap, y.memorycap);
     if platform != 0 {
         return platform;
     }
-    let z = cleared(y);
-    let types = z.types;
+    second
+}
+
+// The limits of the types, in the order 8, 31, 10.
+fn types_limits(types: [TaskType; TYPE_LIMIT]) -> u8
+    ensures { λ r. ⌜ r ≡ typesLimits types ⌝ }
+{
     let sized = types_fault(types);
     if sized != 0 {
         return sized;
@@ -97,6 +120,29 @@ fn system_fault(y: System) -> u8
         return limited;
     }
     columns_fault(types)
+}
+
+// The limits of a system, in the order 7, 9, 41, 5, 6, 8, 31, 10; 0 where it keeps them. What stands past k is not judged: it is cleared first.
+fn system_fault(y: System) -> u8
+    ensures { λ r. ⌜ r ≡ systemFault y ⌝ }
+{
+    let counted = count_fault(y.typecount);
+    if counted != 0 {
+        return counted;
+    }
+    let kinds = kinds_fault(y);
+    if kinds != 0 {
+        return kinds;
+    }
+    let platform = platform_fault(y.engines, y.rule, y.timecap, y.memorycap);
+    let second = y.second;
+    let equipped = engines_fault(platform, second_fault(y.engines, second));
+    if equipped != 0 {
+        return equipped;
+    }
+    let z = cleared(y);
+    let types = z.types;
+    types_limits(types)
 }
 
 // The bytes of a whole field of this tag; none where the table has no rule for it.
@@ -130,12 +176,33 @@ fn most_size(most: Most) -> usize
     }
 }
 
-// The bytes of a type, with those of its d and its q.
+// The bytes of a type's u and s on the second kind, which have a field where they are given.
+fn costs_size(there: There) -> usize
+    ensures { λ r. ⌜ r ≡ length (costsBytes there) ⌝ }
+{
+    match there {
+        There::Absent => 0,
+        There::Takes(c) => field_size(COSTS),
+    }
+}
+
+// The bytes of a second kind of engine, which has a field where it is given.
+fn second_size(second: Second) -> usize
+    ensures { λ r. ⌜ r ≡ length (secondBytes second) ⌝ }
+{
+    match second {
+        Second::OneKind => 0,
+        Second::TwoKinds(k) => field_size(SECOND),
+    }
+}
+
+// The bytes of a type, with those of its d, its q, and its u and s on the second kind.
 fn type_size(t: TaskType) -> usize
     ensures { λ r. ⌜ r ≡ length (typeBytes t) ⌝ }
 {
     let most = t.most;
-    field_size(TYPE) + data_size(t.data) + most_size(most)
+    let there = t.there;
+    field_size(TYPE) + data_size(t.data) + most_size(most) + costs_size(there)
 }
 
 // The bytes of the first `typecount` types.
@@ -156,7 +223,8 @@ fn file_size(y: System) -> usize
     ensures { λ r. ⌜ r ≡ length (fileOf y) ⌝ }
 {
     let types = y.types;
-    field_size(PLATFORM) + types_size(types, y.typecount)
+    let second = y.second;
+    field_size(PLATFORM) + second_size(second) + types_size(types, y.typecount)
 }
 
 // All that refuses a system, with 30 for a buffer of `room` bytes that is too short; 0 where it is written.
@@ -198,6 +266,20 @@ fn put_platform(out: &mut [u8], y: System) -> usize
     put_four(out, timed, y.memorycap)
 }
 
+// Puts a second kind of engine: its number, U, S; nothing where it is not given.
+fn put_second(out: &mut [u8], at: usize, second: Second) -> usize
+    requires { ⌜ SecondFits second × (at + length (secondBytes second) ≤ length (now out)) ⌝ }
+    ensures { λ r. ⌜ Puts (secondBytes second) at (now (out .entry)) (now (out .exit)) r ⌝ }
+{
+    let Second::TwoKinds(k) = second else {
+        return at;
+    };
+    let headed = put_head(out, at, SECOND);
+    let counted = put_byte(out, headed, k.number as u8);
+    let timed = put_four(out, counted, k.timecap);
+    put_four(out, timed, k.memorycap)
+}
+
 // Puts the d of a type; nothing where it is 0.
 fn put_data(out: &mut [u8], at: usize, d: u32) -> usize
     requires { ⌜ at + length (dataBytes d) ≤ length (now out) ⌝ }
@@ -222,7 +304,20 @@ fn put_most(out: &mut [u8], at: usize, most: Most) -> usize
     put_two(out, headed, q)
 }
 
-// Puts one type: u, s, n, and then its d and its q.
+// Puts the u and s of a type on the second kind; nothing where they are not given.
+fn put_costs(out: &mut [u8], at: usize, there: There) -> usize
+    requires { ⌜ at + length (costsBytes there) ≤ length (now out) ⌝ }
+    ensures { λ r. ⌜ Puts (costsBytes there) at (now (out .entry)) (now (out .exit)) r ⌝ }
+{
+    let There::Takes(c) = there else {
+        return at;
+    };
+    let headed = put_head(out, at, COSTS);
+    let timed = put_four(out, headed, c.time);
+    put_four(out, timed, c.memory)
+}
+
+// Puts one type: u, s, n, and then its d, its q, and its u and s on the second kind.
 fn put_type(out: &mut [u8], at: usize, t: TaskType) -> usize
     requires { ⌜ at + length (typeBytes t) ≤ length (now out) ⌝ }
     ensures { λ r. ⌜ Puts (typeBytes t) at (now (out .entry)) (now (out .exit)) r ⌝ }
@@ -233,7 +328,9 @@ fn put_type(out: &mut [u8], at: usize, t: TaskType) -> usize
     let limited = put_two(out, stored, t.ceiling);
     let loaded = put_data(out, limited, t.data);
     let most = t.most;
-    put_most(out, loaded, most)
+    let there = t.there;
+    let kept = put_most(out, loaded, most);
+    put_costs(out, kept, there)
 }
 
 // Puts the first `typecount` types.
@@ -250,15 +347,17 @@ fn put_types(out: &mut [u8], at: usize, types: [TaskType; TYPE_LIMIT], typecount
 
 // Puts the file of a system at the start of the buffer.
 fn put_file(out: &mut [u8], y: System) -> usize
-    requires { ⌜ (y .engines ≤ engineLimit) × (y .typecount ≤ typeLimit) × (length (fileOf y) ≤ length (now out)) ⌝ }
+    requires { ⌜ (y .engines ≤ engineLimit) × SecondFits (y .second) × (y .typecount ≤ typeLimit) × (length (fileOf y) ≤ length (now out)) ⌝ }
     ensures { λ r. ⌜ Puts (fileOf y) 0 (now (out .entry)) (now (out .exit)) r ⌝ }
 {
-    let next = put_platform(out, y);
+    let equipped = put_platform(out, y);
+    let second = y.second;
+    let next = put_second(out, equipped, second);
     let types = y.types;
     put_types(out, next, types, y.typecount)
 }
 
-// Writes the file of a system at the start of the buffer, and answers its length; or 7, 9, 5, 6, 8, 31, 10, 30 in this order, and nothing is written.
+// Writes the file of a system at the start of the buffer, and answers its length; or 7, 9, 41, 5, 6, 8, 31, 10, 30 in this order, and nothing is written.
 // Types past k are neither judged nor written. Bytes past the file stay as they were.
 pub fn write_system(y: System, out: &mut [u8]) -> Answer
     ensures { λ r. ⌜ WritePromises y (now (out .entry)) (now (out .exit)) r ⌝ }

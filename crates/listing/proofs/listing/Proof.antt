@@ -30,11 +30,11 @@ returns c =
     let wrote = c .write-listing .ensures in
     record {
       written = rw text at (wrote .written);
-      leavesTable = promises .leavesTable;
+      leavesTable = promises .whole .leavesTable;
       refuses = rw text at (listing-refuses (args .file .now) table (planned .plan-of .result) after promises (wrote .given));
       demand2 = rw text at (listing-demand2 (args .file .now) table (planned .plan-of .result) after promises (wrote .given));
       samePlan = λ p after promised. listing-planned promised;
-      sameTable = λ p after promised. promises .leavesTable ∙ sym (promised .leavesTable);
+      sameTable = λ p after promised. promises .whole .leavesTable ∙ sym (promised .whole .leavesTable);
     }
 
 pub listing-spec : {M : Type 1} → statement M

@@ -1,4 +1,4 @@
--- `put_engines`. The loop's invariant: the lines of the first i engines stand at `at`, each within its room.
+-- `put_engines`. The loop's invariant: the lines of the first i engines, each under its own number, stand at `at`, each within its room.
 use borrow.Author.Needs.{needs}
 use Prim.Native.Nat.{ℕ, _+_, _-_, _*_, _≤_, _<_, min}
 use mathlib.Core.Path.{_≡_, refl, sym, ap, _∙_}
@@ -6,9 +6,9 @@ use mathlib.Core.List.{[]}
 use native.Mathlib.Nat.{min-le-right}
 use native.Mathlib.Omega.{arith}
 use lib.ListN.{length, take}
-use Rattle.planner.specs.Plan.{recordsOf}
+use Rattle.planner.specs.Plan.{recordsWith}
 use Rattle.loads.specs.declared.EngineLoad.{EngineLoad}
-use Rattle.planner.proofs.Records.{length-recordsFrom}
+use Rattle.planner.proofs.Records.{length-recordsWith}
 use Rattle.system.specs.Limits.{engineLimit}
 use Rattle.listing.specs.Listing.{recordLines}
 use Rattle.listing.specs.Room.{engineRoom}
@@ -23,11 +23,11 @@ abbrev past : EngineLoad
 past = record { time = 0; memory = 0; counts = [] }
 
 abbrev Inv-loop : tie.InvT-loop
-Inv-loop out₀ at used typecount loads end next₀ i₀ out next i =
-    (i ≤ end) × (length out ≡ length out₀) × (next ≤ at + engineRoom * i) × Puts (recordLines typecount (take i (recordsOf loads))) at out₀ out next
+Inv-loop out₀ at used typecount numbers loads end next₀ i₀ out next i =
+    (i ≤ end) × (length out ≡ length out₀) × (next ≤ at + engineRoom * i) × Puts (recordLines typecount (take i (recordsWith numbers loads))) at out₀ out next
 
 abbrev μ-loop : tie.MeasureT-loop
-μ-loop out₀ at used typecount loads end next₀ i₀ out next i = end - i
+μ-loop out₀ at used typecount numbers loads end next₀ i₀ out next i = end - i
 
 least-requires : tie.Need-least-requires Inv-loop μ-loop
 least-requires c κs = search needs
@@ -36,11 +36,14 @@ loop-holds : tie.Need-loop-holds Inv-loop μ-loop
 unfolding recordLines
 loop-holds c = (search needs, refl, search needs, puts-none (c .before .before .args .at) (c .before .before .args .out .now))
 
-add-put-engine : tie.Need-add-put-engine Inv-loop μ-loop
-add-put-engine c = search needs
-
 mul-put-engine : tie.Need-mul-put-engine Inv-loop μ-loop
 mul-put-engine c = search needs
+
+array-read-put-engine : tie.Need-array-read-put-engine Inv-loop μ-loop
+array-read-put-engine c = search needs
+
+mul-put-engine-2 : tie.Need-mul-put-engine-2 Inv-loop μ-loop
+mul-put-engine-2 c = search needs
 
 array-copy-out-put-engine : tie.Need-array-copy-out-put-engine Inv-loop μ-loop
 array-copy-out-put-engine c = search needs
@@ -59,12 +62,15 @@ loop-again c =
     let engine = c .before .before in
     let turn = engine .before .before .before .before in
     let start = turn .before .before .before in
-    let l : length (start .args .t3) ≡ engineLimit = search needs in
-    let more : turn .loop .i < length (start .args .t3) = omega (arith, min-le-right (start .args .used) engineLimit) in (
+    let numbers = start .args .t3 in
+    let loads = start .args .t4 in
+    let named : length numbers ≡ engineLimit = search needs in
+    let l : length loads ≡ engineLimit = search needs in
+    let more : turn .loop .i < engineLimit = omega (arith, min-le-right (start .args .used) engineLimit) in (
       omega arith,
       engine .put-engine .kept .0 ∙ turn .loop .inv .1,
       omega arith,
-      rw (lines-suc (start .args .typecount) (start .args .t3) (turn .loop .i) past more) (puts-then (omega arith) (turn .loop .inv .3) (engine .put-engine .ensures .0)),
+      rw (lines-suc (start .args .typecount) numbers loads (turn .loop .i) past (omega arith) (omega arith)) (puts-then (omega arith) (turn .loop .inv .3) (engine .put-engine .ensures .0)),
     )
 
 same-length : tie.Need-same-length Inv-loop μ-loop
@@ -73,11 +79,14 @@ same-length c = search needs
 returns : tie.Need-returns Inv-loop μ-loop
 returns c =
     let start = c .before .before .before .before in
+    let numbers = start .args .t3 in
+    let loads = start .args .t4 in
     let turns : c .before .loop .i ≡ min (start .args .used) engineLimit = omega arith in
-    let l : length (start .args .t3) ≡ engineLimit = search needs in
-    let records : length (recordsOf (start .args .t3)) ≡ engineLimit = length-recordsFrom 1 (start .args .t3) ∙ l in
-    let whole : take (c .before .loop .i) (recordsOf (start .args .t3)) ≡ take (start .args .used) (recordsOf (start .args .t3)) =
-    ap (λ (n : ℕ). take n (recordsOf (start .args .t3))) (turns ∙ ap (min (start .args .used)) (sym records)) ∙ take-min (start .args .used) (recordsOf (start .args .t3)) in
+    let named : length numbers ≡ engineLimit = search needs in
+    let l : length loads ≡ engineLimit = search needs in
+    let records : length (recordsWith numbers loads) ≡ engineLimit = length-recordsWith numbers loads (named ∙ sym l) ∙ l in
+    let whole : take (c .before .loop .i) (recordsWith numbers loads) ≡ take (start .args .used) (recordsWith numbers loads) =
+    ap (λ (n : ℕ). take n (recordsWith numbers loads)) (turns ∙ ap (min (start .args .used)) (sym records)) ∙ take-min (start .args .used) (recordsWith numbers loads) in
     (rw whole at (c .before .loop .inv .3), omega (arith, min-le-right (start .args .used) engineLimit))
 
 pub put-engines-spec : {M : Type 1} → statement M
@@ -88,8 +97,9 @@ put-engines-spec =
     μ-loop
     least-requires
     loop-holds
-    add-put-engine
     mul-put-engine
+    array-read-put-engine
+    mul-put-engine-2
     array-copy-out-put-engine
     put-engine-requires
     add-i

@@ -42,17 +42,16 @@ use denote.Triple.Clauses.{ensured, lasts}
 use denote.Triple.Table.{entered, cited}
 use denote.Triple.Walked.{says, Stays, stay-none-slice, gave-slice, walkOf, goes-none-slice, goes-gave-slice, Walks, ends-at, walked, walk-meets}
 use denote.Exit.{yes}
-use Rattle.system.specs.Layout.{readFile}
+use Rattle.system.specs.Layout.{readCard}
+use Rattle.system.specs.Card.{cardOf}
 use Rattle.system.proofs.Answer as E
 use Rattle.system.proofs.Answer.Laws as E′
 use Rattle.partition.specs.Lent.{Lent, lent}
 use Rattle.planner.specs.declared.EngineRecord.{EngineRecord}
 use Rattle.planner.specs.declared.ListPlan.{ListPlan}
-use Rattle.planner.specs.Plan.{verdictOf}
-use Rattle.planner.specs.Demands.{ListPromises}
+use Rattle.planner.specs.MixedDemands.{ListCall}
 use Rattle.planner.specs.Inner.{Lists}
-use Rattle.planner.proofs.Demands.{used-within}
-use Rattle.planner.proofs.Listed.{list-promises-of, list-written}
+use Rattle.planner.proofs.Calls.{card-within, lists-call}
 use Rattle.planner.proofs.RecordType.{R, Rs, recordVals, recordsVal, answerVal, field-records}
 use Rattle.planner.proofs.EngineRecord as T
 use Rattle.planner.proofs.EngineRecord.Laws as T′
@@ -175,7 +174,7 @@ module _ {M : Type 1} (𝓤 : URA M) (H : Heap 𝓤) (A : Atoms 𝓤) (W : Given
 
     -- ---- the exit
     exits : (ts ds : List ℕ) (zs : List EngineRecord) → length ts ≡ length (t .now) → length ds ≡ length (d .now) → length zs ≡ n
-        → ListPromises (readFile (f .now)) parts (l .now) (p .answer) (lent ts ds) zs
+        → ListCall (cardOf (readCard (f .now))) parts (l .now) (p .answer) (lent ts ds) zs
         → ent 𝓤 (⋆ 𝓤 H A ((‵ (flft κ₀ q₀) ⊛ ‵ (flft κ₁ q₁) ⊛ ‵ (flft κ₂ q₂) ⊛ ‵ ftrue) ∷ (‵ (flft κ₃ q₃) ⊛ ‵ ftrue) ∷ ‵ (ShrSlice (named 0) κ₀ u8 .own f (fVal ∷ []))
         ∷ ‵ (finally u16 (t .name) ts) ∷ ‵ (finally u16 (d .name) ds) ∷ ‵ (finally R (l .name) zs) ∷ []))
         (Post (answerVal (p .answer)))
@@ -212,8 +211,8 @@ module _ {M : Type 1} (𝓤 : URA M) (H : Heap 𝓤) (A : Atoms 𝓤) (W : Given
         use1 W (later (some (λ (p : ListPlan). ((‵ (flft κ₀ q₀) ⊛ ‵ (flft κ₁ q₁) ⊛ ‵ (flft κ₂ q₂) ⊛ ‵ ftrue) ⊛ ‵ (L.the-row .own p (w ∷ [])))
         ⊛ raw (ensured 𝓤 H A plan-records.ended (plan-records.clauses 𝓤 H A mem run) (κ₀, (κ₁, (κ₂, tt))) (f, (t, (d, (n, tt)))) tt p)))) (id⊢ 𝓤 _) $ await ! tt $ pick ! (λ p.
         split ! $ move ! (1 ∷ []) $ use1 W (some (λ (ws : Unit {0} × (List ℕ × (List ℕ × (Unit {0} × Unit {0})))). ‵ (lasts plan-records.ended (κ₀, (κ₁, (κ₂, tt))) (f, (t, (d, (n, tt)))) ws)
-        ⊛ raw (fact 𝓤 (Lists (readFile (f .now)) parts n p (lent (ws .1 .0) (ws .1 .1 .0)))))) (id⊢ 𝓤 _) $ pick ! (λ ws.
-        split ! $ move ! (1 ∷ []) $ heard ! (Lists (readFile (f .now)) parts n p (lent (ws .1 .0) (ws .1 .1 .0))) (λ e. fsplit ! $ move ! (1 ∷ []) $ fsplit ! $ fsplit ! $ move ! (1 ∷ []) $ feqL ! (λ same-t.
+        ⊛ raw (fact 𝓤 (Lists (cardOf (readCard (f .now))) parts n p (lent (ws .1 .0) (ws .1 .1 .0)))))) (id⊢ 𝓤 _) $ pick ! (λ ws.
+        split ! $ move ! (1 ∷ []) $ heard ! (Lists (cardOf (readCard (f .now))) parts n p (lent (ws .1 .0) (ws .1 .1 .0))) (λ e. fsplit ! $ move ! (1 ∷ []) $ fsplit ! $ fsplit ! $ move ! (1 ∷ []) $ feqL ! (λ same-t.
         move ! (1 ∷ []) $ fsplit ! $ fsplit ! $ move ! (1 ∷ []) $ feqL ! (λ same-d.
         -- [the predecessors' last list; true; the rows'; true; the three tokens and the plan (4); κ₃'s; …]
         move ! (4 ∷ []) $ split ! $ move ! (1 ∷ []) $ peeks ! L.the-row (Is L.the-row) (shows 𝓤 H A L.the-row) p (w ∷ []) (λ is.
@@ -238,12 +237,12 @@ module _ {M : Type 1} (𝓤 : URA M) (H : Heap 𝓤) (A : Atoms 𝓤) (W : Given
         move ! (22 ∷ 23 ∷ []) $ free1 ! $ move ! (20 ∷ 21 ∷ []) $ free1 ! $ move ! (18 ∷ 19 ∷ []) $ free1 ! $ move ! (16 ∷ 17 ∷ []) $ free1 ! $ move ! (14 ∷ 15 ∷ []) $ free1 ! $ move ! (12 ∷ 13 ∷ []) $ free1 ! $ move ! (10 ∷ 11 ∷ []) $ free1 ! $ free0 ! $
         keep ! (3 ∷ 0 ∷ 9 ∷ 6 ∷ 4 ∷ 1 ∷ []) $ by ! (exits p w is (ws .1 .0) (ws .1 .1 .0) (zs .0) same-t same-d same-l (promised p (lent (ws .1 .0) (ws .1 .1 .0)) (zs .0) e put)))))))))))))))))))))))))))))
       where
-        few : (p : ListPlan) (after : Lent) → Lists (readFile (f .now)) parts n p after → (p .used ≤ 16) × (p .used ≤ n)
-        few p after e = rw (e .used) (used-within (f .now) parts n)
+        few : (p : ListPlan) (after : Lent) → Lists (cardOf (readCard (f .now))) parts n p after → (p .used ≤ 16) × (p .used ≤ n)
+        few p after e = rw (e .used) (card-within (f .now) parts n)
 
-        promised : (p : ListPlan) (after : Lent) (zs : List EngineRecord) → Lists (readFile (f .now)) parts n p after → zs ≡ take (p .used) (p .records) ++ drop (p .used) (l .now)
-            → ListPromises (readFile (f .now)) parts (l .now) (p .answer) after zs
-        promised p after zs e put = list-promises-of (f .now) parts (l .now) (p .answer) after zs (e .answer) (e .left) (put ∙ list-written (verdictOf (readFile (f .now)) parts n) (l .now) (p .used) (p .records) (e .used) (e .records))
+        promised : (p : ListPlan) (after : Lent) (zs : List EngineRecord) → Lists (cardOf (readCard (f .now))) parts n p after → zs ≡ take (p .used) (p .records) ++ drop (p .used) (l .now)
+            → ListCall (cardOf (readCard (f .now))) parts (l .now) (p .answer) after zs
+        promised p after zs e put = lists-call (f .now) parts (l .now) p after zs e put
 
 module _ {M : Type 1} (𝓤 : URA M) (H : Heap 𝓤) (A : Atoms 𝓤) (W : Given 𝓤 H A) (mem : Memory → SProp 𝓤) (run : Routine → Fun 𝓤) (𝓣 : Tables 𝓤 H)
     (known-core : Triple 𝓤 (𝓣 .C #planner·plan-records) (Core 𝓤 H A mem run)) (known-put : Triple 𝓤 (𝓣 .C #planner·put-records) (Put 𝓤 H A mem run)) where

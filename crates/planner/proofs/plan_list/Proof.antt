@@ -50,13 +50,14 @@ use denote.Triple.Table.{entered, cited}
 use denote.Triple.Walked.{says, Stays, stay-none, stay-none-slice, gave-slice, walkOf, goes-none, goes-none-slice, goes-gave-slice, Walks, ends-at, walked, walk-meets}
 use denote.Exit.{yes}
 use Rattle.system.specs.declared.Answer.{Answer}
-use Rattle.system.specs.Layout.{readFile}
+use Rattle.system.specs.Layout.{readCard}
+use Rattle.system.specs.Card.{cardOf}
 use Rattle.system.proofs.Answer as E
 use Rattle.system.proofs.Answer.Laws as E′
 use Rattle.partition.specs.Lent.{Lent, lent}
 use Rattle.planner.specs.declared.EngineRecord.{EngineRecord}
 use Rattle.planner.specs.declared.PlannedList.{PlannedList}
-use Rattle.planner.specs.Demands.{ListPromises}
+use Rattle.planner.specs.MixedDemands.{ListCall}
 use Rattle.planner.proofs.RecordType.{R, Rs, recordVals, recordsVal, answerVal, records-field}
 use Rattle.planner.proofs.EngineRecord as T
 use Rattle.planner.proofs.EngineRecord.Laws as T′
@@ -162,7 +163,7 @@ module _ {M : Type 1} (𝓤 : URA M) (H : Heap 𝓤) (A : Atoms 𝓤) (W : Given
 
   -- ---- the exit
   exits : (a : Answer) (ts ds : List ℕ) (zs : List EngineRecord) → Is E.the-row a (answerVal a ∷ []) → Is Rs zs (recordsVal zs ∷ []) → length ts ≡ length (t .now) → length ds ≡ length (d .now)
-      → ListPromises (readFile (f .now)) parts rs a (lent ts ds) zs
+      → ListCall (cardOf (readCard (f .now))) parts rs a (lent ts ds) zs
       → ent 𝓤 (⋆ 𝓤 H A (‵ (flft κ₀ q₀) ∷ ‵ (flft κ₁ q₁) ∷ ‵ (flft κ₂ q₂) ∷ ‵ (ShrSlice (named 0) κ₀ u8 .own f (fVal ∷ [])) ∷ ‵ (finally u16 (t .name) ts) ∷ ‵ (finally u16 (d .name) ds) ∷ [])) (Post (resultVal a zs))
   exits a ts ds zs is-a is-zs same-t same-d e =
       qed W (‵ (flft κ₀ q₀) ∷ ‵ (flft κ₁ q₁) ∷ ‵ (flft κ₂ q₂) ∷ ‵ (ShrSlice (named 0) κ₀ u8 .own f (fVal ∷ [])) ∷ ‵ (finally u16 (t .name) ts) ∷ ‵ (finally u16 (d .name) ds) ∷ []) ∵
@@ -208,8 +209,8 @@ module _ {M : Type 1} (𝓤 : URA M) (H : Heap 𝓤) (A : Atoms 𝓤) (W : Given
         use1 W (later (some (λ (a : Answer). ((‵ (flft κ₀ q₀) ⊛ ‵ (flft κ₁ q₁) ⊛ ‵ (flft κ₂ q₂) ⊛ ‵ (flft (α ∷ []) fullShare) ⊛ ‵ ftrue) ⊛ ‵ (E.the-row .own a (w ∷ [])))
         ⊛ raw (ensured 𝓤 H A plan-into.ended (plan-into.clauses 𝓤 H A mem′ run) (κ₀, (κ₁, (κ₂, (α ∷ [], tt)))) (f, (t, (d, (l (α ∷ []) l₅ γ, tt)))) tt a)))) (id⊢ 𝓤 _) $ await ! tt $ pick ! (λ a.
         split ! $ move ! (1 ∷ []) $ use1 W (some (λ (ws : Unit {0} × (List ℕ × (List ℕ × (List EngineRecord × Unit {0})))). ‵ (lasts plan-into.ended (κ₀, (κ₁, (κ₂, (α ∷ [], tt)))) (f, (t, (d, (l (α ∷ []) l₅ γ, tt)))) ws)
-        ⊛ raw (fact 𝓤 (ListPromises (readFile (f .now)) parts rs a (lent (ws .1 .0) (ws .1 .1 .0)) (ws .1 .1 .1 .0))))) (id⊢ 𝓤 _) $ pick ! (λ ws.
-        split ! $ move ! (1 ∷ []) $ heard ! (ListPromises (readFile (f .now)) parts rs a (lent (ws .1 .0) (ws .1 .1 .0)) (ws .1 .1 .1 .0)) (λ e. fsplit ! $ move ! (1 ∷ []) $ fsplit ! $ fsplit ! $ move ! (1 ∷ []) $ feqL ! (λ same-t.
+        ⊛ raw (fact 𝓤 (ListCall (cardOf (readCard (f .now))) parts rs a (lent (ws .1 .0) (ws .1 .1 .0)) (ws .1 .1 .1 .0))))) (id⊢ 𝓤 _) $ pick ! (λ ws.
+        split ! $ move ! (1 ∷ []) $ heard ! (ListCall (cardOf (readCard (f .now))) parts rs a (lent (ws .1 .0) (ws .1 .1 .0)) (ws .1 .1 .1 .0)) (λ e. fsplit ! $ move ! (1 ∷ []) $ fsplit ! $ fsplit ! $ move ! (1 ∷ []) $ feqL ! (λ same-t.
         move ! (1 ∷ []) $ fsplit ! $ fsplit ! $ move ! (1 ∷ []) $ feqL ! (λ same-d. move ! (1 ∷ []) $ fsplit ! $ fsplit ! $ move ! (1 ∷ []) $ feqL ! (λ same-l.
         -- [the list's last list; true; the predecessors'; the rows'; true; the tokens and the answer (5); true; the lender's part; true; what the file owns; _13 (10); …]
         move ! (5 ∷ []) $ split ! $ move ! (1 ∷ []) $ peeks ! E.the-row (Is E.the-row) (shows 𝓤 H A E.the-row) a (w ∷ []) (λ is.

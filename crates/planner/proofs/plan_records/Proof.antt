@@ -1,7 +1,7 @@
--- `planner::plan_records`: the plan of `plan_for`, with its loads as records.
-use mathlib.Core.Path.{ap, _∙_}
+-- `planner::plan_records`: the plan of `plan_for`, with its numbers and loads as records.
+use mathlib.Core.Path.{ap₂, _∙_}
 use borrow.Author.Needs.{needs}
-use Rattle.planner.specs.Plan.{recordsOf}
+use Rattle.planner.specs.Plan.{recordsWith}
 use Rattle.planner.proofs.plan_records.Statement.{statement}
 use Rattle.planner.proofs.plan_records.Tie as tie
 
@@ -19,8 +19,8 @@ same-length-2 c = search needs
 
 returns : tie.Need-returns
 returns c =
-    let p = c .before .before .before .before .before .before .plan-for .ensures in
-    record { answer = p .answers; used = p .uses; records = c .records-of .ensures ∙ ap recordsOf (p .places); left = p .leavesTable }
+    let p = c .before .before .before .before .before .before .before .plan-for .ensures .whole in
+    record { answer = p .answers; used = p .uses; records = c .records-of .ensures ∙ ap₂ recordsWith (p .numbers) (p .places); left = p .leavesTable }
 
 pub plan-records-spec : {M : Type 1} → statement M
 plan-records-spec = tie.close (tie.spec plan-for-requires records-of-requires same-length same-length-2 returns)

@@ -22,8 +22,8 @@ use Rattle.table.proofs.place.Tie as tie
 sixteen-at : (c : tie.Start) → length (c .args .engines .numbers) ≡ engineLimit
 sixteen-at c = search needs
 
-fill-requires : tie.Need-fill-requires
-fill-requires c κs =
+fill-parts-requires : tie.Need-fill-parts-requires
+fill-parts-requires c κs =
     let start = c .before .before .before .before in
     let room = parts-room (start .args .y) (lent (start .args .rows .now) (start .args .predecessors .now)) (start .pre .room) in
     (start .pre .limits, start .pre .few, room .0, room .1)
@@ -31,7 +31,7 @@ fill-requires c κs =
 placed-by-requires : tie.Need-placed-by-requires
 placed-by-requires c κs =
     let start = c .before .before .before .before .before .before .before .before .before .before .before in
-    let filled = c .before .before .before .before .before .before .fill in
+    let filled = c .before .before .before .before .before .before .fill-parts in
     let y = start .args .y in
     let rows = start .args .rows .now in
     let predecessors = start .args .predecessors .now in
@@ -74,7 +74,7 @@ returns c =
     let start = c .before .before .before .before .before .before .before .before .before .before .before .before .before .before in
     let y = start .args .y in
     let engines = start .args .engines in
-    let done = c .before .before .before .before .before .before .before .before .before .fill in
+    let done = c .before .before .before .before .before .before .before .before .before .fill-parts in
     let found = c .before .before .placed-by in
     let sixteen = sixteen-at start in
     let count : length (listed engines) ≡ engines .count = length-take-le (engines .count) (engines .numbers) (omega (arith, sixteen, start .pre .engines .few)) in (
@@ -84,4 +84,4 @@ returns c =
 
 pub place-spec : {M : Type 1} → statement M
 place-spec =
-    tie.close (tie.spec fill-requires placed-by-requires on-engines-requires same-length same-length-2 returns)
+    tie.close (tie.spec fill-parts-requires placed-by-requires on-engines-requires same-length same-length-2 returns)

@@ -3,6 +3,8 @@ use mathlib.Core.Path.{_≡_, sym, _∙_}
 use lib.ListN.{length}
 use borrow.Author.Needs.{needs}
 use Rattle.system.specs.Limits.{typeLimit}
+use Rattle.writer.specs.Inner.{SecondFits}
+use native.Mathlib.Omega.{arith}
 use Rattle.loads.proofs.Steps.{length-mapped}
 use Rattle.writer.proofs.Order.{fault-none, may-be-written}
 use Rattle.writer.proofs.Promises.{promised-refusal, promised-file}
@@ -27,7 +29,8 @@ put-file-requires c κs =
     let start = judged .before .before .before in
     let none = sym (judged .before .write-fault .ensures) ∙ judged .if1 .left in
     let may = may-be-written (start .args .y) (length (start .args .out .now)) (six start) none in
-    (may .engines .1, may .count .1, fault-none (start .args .y) (length (start .args .out .now)) none .1)
+    let fits : SecondFits (start .args .y .second) = λ k is. let few = may .engines .2 k is in omega arith in
+    (may .engines .1, fits, may .count .1, fault-none (start .args .y) (length (start .args .out .now)) none .1)
 
 same-length : tie.Need-same-length
 same-length c = search needs

@@ -7,7 +7,7 @@ use Rattle.system.proofs.Checks.{check-passed, fails-andThen, passes-andThen}
 use Rattle.board.specs.Truth.{trueBoard}
 use Rattle.board.specs.Calls.{boardCheck, knownType, typeCheck, checkNewcomer}
 use Rattle.table.specs.Table.{roomCheck}
-use Rattle.board.proofs.Ready.{true-keeps}
+use Rattle.board.proofs.Ready.{columns-most}
 use Rattle.board.proofs.checks.check_newcomer.Statement.{statement}
 use Rattle.board.proofs.checks.check_newcomer.Tie as tie
 
@@ -60,7 +60,7 @@ enum-told-2 : tie.Need-enum-told-2
 enum-told-2 c = search needs
 
 table-check-requires : tie.Need-table-check-requires
-table-check-requires c κs = true-keeps _ (is-true (c .before .before .before .before))
+table-check-requires c κs = columns-most _ (is-true (c .before .before .before .before))
 
 enum-known-table : tie.Need-enum-known-table
 enum-known-table c = search needs

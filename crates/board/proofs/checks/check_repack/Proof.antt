@@ -4,7 +4,7 @@ use borrow.Author.Needs.{needs}
 use Rattle.system.specs.Outcome.{passes, fromState, checkedOf}
 use Rattle.system.proofs.Checks.{check-passed, fails-andThen, passes-andThen}
 use Rattle.board.specs.Calls.{boardCheck, checkRepack}
-use Rattle.board.proofs.Ready.{true-keeps}
+use Rattle.board.proofs.Ready.{columns-most}
 use Rattle.board.proofs.checks.check_repack.Statement.{statement}
 use Rattle.board.proofs.checks.check_repack.Tie as tie
 
@@ -29,7 +29,7 @@ enum-told : tie.Need-enum-told
 enum-told c = search needs
 
 table-check-requires : tie.Need-table-check-requires
-table-check-requires c κs = true-keeps _ (check-passed _ fromState 20 (board-passed c))
+table-check-requires c κs = columns-most _ (check-passed _ fromState 20 (board-passed c))
 
 returns-2 : tie.Need-returns-2
 unfolding checkRepack

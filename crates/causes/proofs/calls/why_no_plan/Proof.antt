@@ -53,7 +53,7 @@ few : (c : tie.After-y) → c .before .before .read-system .result .system .engi
 few c = limits-of _ (keeps c) .engines
 
 table-check-requires : tie.Need-table-check-requires
-table-check-requires c κs = keeps c
+table-check-requires c κs = limits-of _ (keeps c) .columns
 
 enum-known-room : tie.Need-enum-known-room
 enum-known-room c = search needs

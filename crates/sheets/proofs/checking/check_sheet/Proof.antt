@@ -51,7 +51,7 @@ keeps : (c : tie.After-y) → keepsLimits (c .before .before .read-system .resul
 keeps c = read-keeps-limits (c .before .before .before .before .before .before .before .args .file .now) (c .before .before .read-system .result .system) (is-opened c)
 
 table-check-requires : tie.Need-table-check-requires
-table-check-requires c κs = keeps c
+table-check-requires c κs = limits-of _ (keeps c) .columns
 
 enum-known-room : tie.Need-enum-known-room
 enum-known-room c = search needs

@@ -1,14 +1,14 @@
--- The loop's invariant: `field` is at most 20.
+-- The loop's invariant: `field` is at most 27.
 use Prim.Native.Nat.{_-_, _≤_}
 use borrow.Author.Needs.{needs}
 use Rattle.trial.proofs.files.reading_of.Statement.{statement}
 use Rattle.trial.proofs.files.reading_of.Tie as tie
 
 abbrev Inv-loop : tie.InvT-loop
-Inv-loop file r₀ field₀ r field = field ≤ 20
+Inv-loop file r₀ field₀ r field = field ≤ 27
 
 abbrev μ-loop : tie.MeasureT-loop
-μ-loop file r₀ field₀ r field = 20 - field
+μ-loop file r₀ field₀ r field = 27 - field
 
 blank-system-requires : tie.Need-blank-system-requires Inv-loop μ-loop
 blank-system-requires c κs = search needs

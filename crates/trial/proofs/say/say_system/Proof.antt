@@ -5,10 +5,10 @@ use Rattle.trial.proofs.say.say_system.Statement.{statement}
 use Rattle.trial.proofs.say.say_system.Tie as tie
 
 abbrev Inv-loop : tie.InvT-loop
-Inv-loop name y t₀ t6 t = t ≤ 6
+Inv-loop name y t₀ t7 t = t ≤ 6
 
 abbrev μ-loop : tie.MeasureT-loop
-μ-loop name y t₀ t6 t = 6 - t
+μ-loop name y t₀ t7 t = 6 - t
 
 say-requires : tie.Need-say-requires Inv-loop μ-loop
 say-requires c κs = search needs
@@ -33,6 +33,9 @@ cast-say-also-3 c = search needs
 
 say-also-requires-4 : tie.Need-say-also-requires-4 Inv-loop μ-loop
 say-also-requires-4 c κs = search needs
+
+say-second-requires : tie.Need-say-second-requires Inv-loop μ-loop
+say-second-requires c κs = search needs
 
 loop-holds : tie.Need-loop-holds Inv-loop μ-loop
 loop-holds c = search needs
@@ -78,6 +81,7 @@ say-system-spec =
     say-also-requires-3
     cast-say-also-3
     say-also-requires-4
+    say-second-requires
     loop-holds
     mul-task
     element-copy-out-task

@@ -10,6 +10,9 @@ Inv-loop a b same₀ t₀ same t = t ≤ 6
 abbrev μ-loop : tie.MeasureT-loop
 μ-loop a b same₀ t₀ same t = 6 - t
 
+same-second-requires : tie.Need-same-second-requires Inv-loop μ-loop
+same-second-requires c κs = search needs
+
 loop-holds : tie.Need-loop-holds Inv-loop μ-loop
 loop-holds c = search needs
 
@@ -46,6 +49,7 @@ same-system-spec =
     (tie.spec
     Inv-loop
     μ-loop
+    same-second-requires
     loop-holds
     mul-x
     element-copy-out-x

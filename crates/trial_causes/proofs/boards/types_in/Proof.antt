@@ -28,6 +28,9 @@ rest-at-requires c κs = search needs
 task-in-requires : tie.Need-task-in-requires Inv-loop μ-loop
 task-in-requires c κs = search needs
 
+with-there-requires : tie.Need-with-there-requires Inv-loop μ-loop
+with-there-requires c κs = search needs
+
 mul-types : tie.Need-mul-types Inv-loop μ-loop
 mul-types c = search needs
 
@@ -58,6 +61,7 @@ types-in-spec =
     add-at
     rest-at-requires
     task-in-requires
+    with-there-requires
     mul-types
     array-set-from-types
     add-i

@@ -1,14 +1,14 @@
--- The loop's invariant: `i` is at most 32.
+-- The loop's invariant: `i` is at most 64.
 use Prim.Native.Nat.{_-_, _≤_}
 use borrow.Author.Needs.{needs}
 use Rattle.trial_writer.proofs.made.made_at.Statement.{statement}
 use Rattle.trial_writer.proofs.made.made_at.Tie as tie
 
 abbrev Inv-loop : tie.InvT-loop
-Inv-loop text start m₀ i₀ m i = i ≤ 32
+Inv-loop text start m₀ i₀ m i = i ≤ 64
 
 abbrev μ-loop : tie.MeasureT-loop
-μ-loop text start m₀ i₀ m i = 32 - i
+μ-loop text start m₀ i₀ m i = 64 - i
 
 blank-system-requires : tie.Need-blank-system-requires Inv-loop μ-loop
 blank-system-requires c κs = search needs

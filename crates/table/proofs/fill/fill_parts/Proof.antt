@@ -17,8 +17,8 @@ use Rattle.table.specs.Parts.{rowAt, predecessorAt}
 use Rattle.table.specs.Scan.{columnCounted}
 use Rattle.table.proofs.Counted.{countedTo, countedTo-none, countedTo-more, countedTo-all}
 use Rattle.table.proofs.FilledParts.{stored-again, stored, part-starts, part-ends, rows-to, counted-more}
-use Rattle.table.proofs.fill.fill.Statement.{statement}
-use Rattle.table.proofs.fill.fill.Tie as tie
+use Rattle.table.proofs.fill.fill_parts.Statement.{statement}
+use Rattle.table.proofs.fill.fill_parts.Tie as tie
 
 abbrev Inv-loop : tie.InvT-loop
 Inv-loop rows₀ befores₀ y engines columns ceilings none load₀ counted₀ column₀ rows predecessors load counted column =
@@ -36,7 +36,7 @@ six-ceilings : (c : tie.Start Inv-loop μ-loop) → length (ceilingsOf (c .args 
 six-ceilings c = length-map (c .args .y .types) (λ (t : TaskType). t .ceiling) ∙ limits-of (c .args .y) (c .pre .0) .six
 
 columns-of-requires : tie.Need-columns-of-requires Inv-loop μ-loop
-columns-of-requires c κs = c .before .before .pre .0
+columns-of-requires c κs = limits-of _ (c .before .before .pre .0) .columns
 
 ceilings-of-requires : tie.Need-ceilings-of-requires Inv-loop μ-loop
 ceilings-of-requires c κs = search needs
@@ -183,8 +183,8 @@ returns c =
       here .inv .4 ∙ ap (countedTo (a .y) (a .engines)) all ∙ countedTo-all (a .y) (a .engines),
     )
 
-pub fill-spec : {M : Type 1} → statement M
-fill-spec =
+pub fill-parts-spec : {M : Type 1} → statement M
+fill-parts-spec =
     tie.close
     (tie.spec
     Inv-loop
