@@ -223,8 +223,8 @@ module _ (file : List ℕ) {table : Lent} {old : List ℕ} {answer : Answer} {af
   pub never-accepted : answer ≡ Accepted → ⊥
   never-accepted is = no-accepted (sheetVerdict (readFile file) table) (length old) (rw is at (p .answers))
 
--- main: the first 256 bytes decide
-pub prefix-promised : {front file old new : List ℕ} {r : ℕ} → front ≡ take 256 file → SheetPromises front old new r → SheetPromises file old new r
+-- main: the first 384 bytes decide
+pub prefix-promised : {front file old new : List ℕ} {r : ℕ} → front ≡ take 384 file → SheetPromises front old new r → SheetPromises file old new r
 prefix-promised {front = front} {file = file} first p =
     let text : sheetText front ≡ sheetText file = ap sheetText first ∙ ap (λ (x : Reading). verdictSheet (readingVerdict x)) (read-prefix file) in
     sheet-promised file (rw text at (p .written))

@@ -31,7 +31,7 @@ abbrev pub lineOf : SheetOutcome → List ℕ
 lineOf (right fewer) = rightText fewer
 lineOf (wrong s n) = refusalLine n
 
--- the table is the function's own and long enough, so 11 does not arise: 1 to 10, 31, 41 and 42, then 32, 33, 34, or right
+-- the table is the function's own and long enough, so 11 does not arise: 1 to 10, 31 and 41 to 43, then 32, 33, 34, or right
 unfoldable pub readingCheck : Reading → List ℕ → SheetOutcome
 readingCheck (unread n) sheet = wrong fromInput n
 readingCheck (opened y) sheet = judgedSheet (recordsCheck y sheet (statedLoads y sheet)) (fewerDo y sheet)

@@ -48,8 +48,8 @@ pub record SheetPromises (file old new : List ℕ) (r : ℕ) : Type 0 where
   pub samePlan : OfPlan (readFile file) (sheetText file)
 
 -- what the call `sheet_read` promises: the same of every file, whatever its length, of whose first bytes, as many as `front` has room for, just these were read;
--- request 2026-03: there is room for 256
+-- request 2026-14: there is room for 384
 pub record ReadPromises (front : List ℕ) (read : ℕ) (old new : List ℕ) (r : ℕ) : Type 0 where
-  pub size : length front ≡ 256
+  pub size : length front ≡ 384
   pub within : Counts r new
   pub ofFile : (file : List ℕ) → take (length front) file ≡ take read front → SheetPromises file old new r

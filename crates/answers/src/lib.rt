@@ -21,7 +21,7 @@ use system::two_bytes;
 // The bytes in which a file's length stands before the file.
 const LENGTH_BYTES: usize = 2;
 
-// The most bytes of a file, and of a sheet, that are joined. They decide: what any file reads as is decided by its first 256, and no sheet of more than 389 is right.
+// The most bytes of a file, and of a sheet, that are joined. They decide: what any file reads as is decided by its first 384, and no sheet of more than 389 is right.
 const PART_BYTES: usize = 4096;
 
 // The most bytes of a file and a sheet that are joined, the file's length in front.

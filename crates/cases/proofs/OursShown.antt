@@ -1,6 +1,6 @@
 -- The worked examples of our own hold of the definitions: by computation, one theorem for each of their tables.
 use mathlib.Core.Path.{refl}
-use Rattle.system.specs.Limits.{columnsOf, kindsAgree, typesKeep, keepsCard, keepsLimits}
+use Rattle.system.specs.Limits.{pacesFault, columnsOf, kindsAgree, typesKeep, keepsCard, keepsLimits}
 use Rattle.system.specs.Layout.{ruleOf, platformFrom, typeFrom, dataFrom, mostFrom, ruledHead, headOf, bodyOf, ruledField, fieldOf, endOf, fieldsFrom, readCard, ofOneKind, readFile}
 use Rattle.loads.specs.Load.{sumOver, apart, fitsEngine, holdsNone, within, plus, less}
 use Rattle.loads.specs.Column.{columnFrom, loadOf}
@@ -18,7 +18,7 @@ use Rattle.cases.specs.Cases.{AllHold}
 use Rattle.cases.specs.Ours.{ours, ourPairs, ourParts}
 
 pub ours-shown : AllHold ours
-unfolding columnsOf kindsAgree typesKeep keepsCard keepsLimits ruleOf platformFrom typeFrom dataFrom mostFrom ruledHead headOf bodyOf ruledField fieldOf endOf fieldsFrom readCard ofOneKind readFile sumOver apart fitsEngine holdsNone within plus less columnFrom loadOf countOn among every anyOf good numbersFrom eachBefore placesOf assignmentsOf someGood lowest precedes cell lowestRow recover recovery upTo verdictOf trueLoads trueMarks trueBoard firstOf checkNewcomer admitted admitOf reseated seatOf checkRetire retireOf checkRepack repackOf checkRestore checkWithdraw withdrawOf restoreOf sumOf rowOn passing countedOn admitEntry seatEntry retireEntry repackEntry withdrawEntry restoreEntry step ledgerAfter ledgerAnswers boardAfter played ours
+unfolding pacesFault columnsOf kindsAgree typesKeep keepsCard keepsLimits ruleOf platformFrom typeFrom dataFrom mostFrom ruledHead headOf bodyOf ruledField fieldOf endOf fieldsFrom readCard ofOneKind readFile sumOver apart fitsEngine holdsNone within plus less columnFrom loadOf countOn among every anyOf good numbersFrom eachBefore placesOf assignmentsOf someGood lowest precedes cell lowestRow recover recovery upTo verdictOf trueLoads trueMarks trueBoard firstOf checkNewcomer admitted admitOf reseated seatOf checkRetire retireOf checkRepack repackOf checkRestore checkWithdraw withdrawOf restoreOf sumOf rowOn passing countedOn admitEntry seatEntry retireEntry repackEntry withdrawEntry restoreEntry step ledgerAfter ledgerAnswers boardAfter played ours
 ours-shown = refl
 
 pub pairs-shown : AllHold ourPairs

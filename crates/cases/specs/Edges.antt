@@ -1,5 +1,5 @@
 -- Document 01's "Edges" with request 2026-10's columns, and a file for every row of "From the input" that a file can be refused by: what it reads as against the number that 01 writes,
--- and the same of tag 3 (request 2026-03), tag 4 (2026-04), and tags 6 and 7 (2026-13). One kind of engine is wanted of each file; the same table says what it comes to as a card of one kind or two.
+-- and the same of tag 3 (request 2026-03), tag 4 (2026-04), tags 6 and 7 (2026-13), and tag 5 (2026-14). One kind of engine is wanted of each file; the same table says what it comes to as a card of one kind or two.
 use Prim.Native.Nat.{ℕ, zero, suc, _/_, _%_}
 use mathlib.Core.List.{List, [], _∷_, _++_, map}
 use mathlib.Core.Bool.{cond}
@@ -7,6 +7,7 @@ use mathlib.Core.Path.{_≡_}
 use lib.ListN.{replicate}
 use lib.Dec.{eqb}
 use Rattle.system.specs.declared.Most.{Most}
+use Rattle.system.specs.declared.Pace.{Pace}
 use Rattle.system.specs.declared.There.{There}
 use Rattle.system.specs.declared.Second.{Second}
 use Rattle.system.specs.declared.TaskType.{TaskType}
@@ -36,6 +37,9 @@ dataWith d = field 3 4 (four d)
 abbrev pub mostWith : ℕ → List ℕ
 mostWith q = field 4 2 (two q)
 
+abbrev pub paceWith : ℕ → ℕ → List ℕ
+paceWith c t = field 5 8 (four c ++ four t)
+
 abbrev pub secondWith : ℕ → ℕ → ℕ → List ℕ
 secondWith n u s = field 6 9 ((n ∷ []) ++ (four u ++ four s))
 
@@ -64,6 +68,13 @@ goodThere = goodType ++ costsWith 2 1
 
 abbrev pub goodLast : List ℕ
 goodLast = goodAll ++ costsWith 2 1
+
+-- a good type with its C and T, where u × T is just C × U; and one with all that a type may have
+abbrev pub goodPaced : List ℕ
+goodPaced = goodType ++ paceWith 2 5
+
+abbrev pub goodWhole : List ℕ
+goodWhole = goodAll ++ (paceWith 2 5 ++ costsWith 2 1)
 
 -- the file with these types
 unfoldable pub typesOf : List (List ℕ) → List ℕ
@@ -112,7 +123,7 @@ edges =
     ∷ edge (withTypes (goodBoth ∷ (4 ∷ 0 ∷ []) ∷ [])) 1
     ∷ edge (withTypes (goodType ∷ field 4 2 (1 ∷ []) ∷ [])) 1
     ∷ edge (field 0 10 [] ++ goodType) 2
-    ∷ edge (withTypes (goodAll ∷ field 5 2 (two 1) ∷ [])) 2
+    ∷ edge (withTypes (goodAll ∷ field 8 2 (two 1) ∷ [])) 2
     ∷ edge goodType 3
     ∷ edge (goodPlatform ++ goodPlatform) 3
     ∷ edge (withTypes (goodType ∷ goodPlatform ∷ [])) 3
@@ -152,17 +163,17 @@ edges =
     ∷ edge (withTypes (typeWith 4 3 4096 ∷ mostWith 0 ∷ typeWith 1000001 3 1 ∷ [])) 31
     -- "Fields are judged in file order": what an earlier field is refused with comes before any fault of a later one
     ∷ edge (platformWith 17 2 1000001 8 ++ (2 ∷ [])) 5
-    ∷ edge (platformWith 0 0 10 8 ++ field 5 2 []) 5
+    ∷ edge (platformWith 0 0 10 8 ++ field 8 2 []) 5
     ∷ edge (platformWith 3 2 10 8 ++ goodPlatform) 6
     ∷ edge (platformWith 3 0 10 1000001 ++ field 2 11 []) 8
     ∷ edge (platformWith 17 0 10 8 ++ typeWith 1000001 3 1) 5
     ∷ edge (platformWith 17 0 10 8) 5
-    ∷ edge (withTypes (typeWith 1000001 3 1 ∷ field 5 2 [] ∷ [])) 8
+    ∷ edge (withTypes (typeWith 1000001 3 1 ∷ field 8 2 [] ∷ [])) 8
     ∷ edge (withTypes (typeWith 4 1000001 1 ∷ (2 ∷ []) ∷ [])) 8
     ∷ edge (withTypes (goodType ∷ dataWith 1000001 ∷ dataWith 5 ∷ [])) 8
     -- "at the end 9, 10": a fault of a later field comes before them
     ∷ edge (withTypes (typeWith 4 3 4096 ∷ typeWith 1000001 3 1 ∷ [])) 8
-    ∷ edge (goodPlatform ++ field 5 2 []) 2
+    ∷ edge (goodPlatform ++ field 8 2 []) 2
     -- request 2026-13: a file of two kinds of engine is refused 42 where one is wanted. "at least 1, total still at most 16"; u and s of 0 are given ones
     ∷ edge (withKinds (goodThere ∷ [])) 42
     ∷ edge (withKinds (replicate 6 goodLast)) 42
@@ -215,10 +226,63 @@ edges =
     ∷ edge (withKinds (goodType ∷ costsWith 1000001 1 ∷ [])) 8
     ∷ edge (withKinds (goodAll ∷ costsWith 2 1000001 ∷ [])) 8
     -- and in file order: what such a field is refused with comes before any fault of a later one, and before 41
-    ∷ edge (goodPlatform ++ (secondWith 0 6 5 ++ field 5 2 [])) 5
+    ∷ edge (goodPlatform ++ (secondWith 0 6 5 ++ field 8 2 [])) 5
     ∷ edge (goodPlatform ++ (secondWith 2 1000001 5 ++ goodPlatform)) 8
     ∷ edge (withTypes (goodType ∷ costsWith 2 1000001 ∷ (2 ∷ []) ∷ [])) 8
     ∷ edge (withTypes (goodType ∷ mostWith 0 ∷ costsWith 2 1 ∷ [])) 31
+    ∷ []
+
+-- request 2026-14, C and T of a type: U is 10 and u is 4 where nothing else is written
+unfoldable pub paceEdges : List Edge
+paceEdges =
+    -- "after any tag 4, at most one": after the type, its tag 3 or its tag 4, and before a tag 7. The file of 307 bytes, the longest
+    edge (withTypes (goodPaced ∷ [])) 0
+    ∷ edge (withTypes (goodBoth ∷ paceWith 1 3 ∷ goodType ∷ [])) 0
+    ∷ edge (withTypes (goodType ∷ mostWith 1 ∷ paceWith 1 3 ∷ goodPaced ∷ [])) 0
+    ∷ edge (withTypes (replicate 6 (goodAll ++ paceWith 2 5))) 0
+    ∷ edge (withKinds (goodPaced ∷ costsWith 2 1 ∷ [])) 42
+    ∷ edge (withKinds (replicate 6 goodWhole)) 42
+    ∷ edge (paceWith 2 5) 3
+    ∷ edge (withTypes (field 5 9 [] ∷ [])) 3
+    ∷ edge (withKinds (paceWith 2 5 ∷ goodThere ∷ [])) 3
+    ∷ edge (withTypes (goodPaced ∷ dataWith 5 ∷ [])) 3
+    ∷ edge (withTypes (goodPaced ∷ mostWith 1 ∷ [])) 3
+    ∷ edge (withTypes (goodPaced ∷ paceWith 2 5 ∷ [])) 3
+    ∷ edge (withTypes (goodPaced ∷ goodPlatform ∷ [])) 3
+    ∷ edge (withTypes (goodPaced ∷ goodSecond ∷ [])) 3
+    ∷ edge (withKinds (goodThere ∷ paceWith 2 5 ∷ [])) 3
+    ∷ edge (withTypes (goodAll ∷ (5 ∷ 0 ∷ []) ∷ [])) 1
+    ∷ edge (withTypes (goodType ∷ field 5 8 (four 2 ++ (0 ∷ two 5)) ∷ [])) 1
+    ∷ edge (withTypes (goodType ∷ field 5 9 [] ∷ [])) 4
+    ∷ edge (withTypes (goodType ∷ field 5 4 (two 2 ++ two 5) ∷ [])) 4
+    -- "1 to 65,535, C at most T": each bound alone, its last good number first
+    ∷ edge (platformWith 3 0 4 8 ++ (goodType ++ paceWith 65535 65535)) 0
+    ∷ edge (platformWith 3 0 4 8 ++ (goodType ++ paceWith 1 65536)) 43
+    ∷ edge (platformWith 3 0 4 8 ++ (goodType ++ paceWith 65536 65536)) 43
+    ∷ edge (withTypes (typeWith 10 3 1 ∷ paceWith 1 1 ∷ [])) 0
+    ∷ edge (withTypes (typeWith 10 3 1 ∷ paceWith 0 1 ∷ [])) 43
+    ∷ edge (withTypes (typeWith 10 3 1 ∷ paceWith 0 0 ∷ [])) 43
+    ∷ edge (withTypes (typeWith 100 3 1 ∷ paceWith 5 5 ∷ [])) 0
+    ∷ edge (withTypes (typeWith 100 3 1 ∷ paceWith 6 5 ∷ [])) 43
+    -- "U is 0"
+    ∷ edge (platformWith 3 0 0 8 ++ (goodType ++ paceWith 1 1)) 43
+    -- "u × T is less than C × U": by one, and with products of 36 bits, of which u 16,945 would pass by their lower 32; of a card of two kinds it is the first kind's u and U that count
+    ∷ edge (withTypes (typeWith 9 3 1 ∷ paceWith 1 1 ∷ [])) 43
+    ∷ edge (withTypes (typeWith 3 3 1 ∷ paceWith 2 7 ∷ [])) 0
+    ∷ edge (withTypes (typeWith 3 3 1 ∷ paceWith 2 6 ∷ [])) 43
+    ∷ edge (platformWith 3 0 1000000 8 ++ (typeWith 1000000 3 1 ++ paceWith 65535 65535)) 0
+    ∷ edge (platformWith 3 0 1000000 8 ++ (typeWith 999999 3 1 ++ paceWith 65535 65535)) 43
+    ∷ edge (platformWith 3 0 1000000 8 ++ (typeWith 16945 3 1 ++ paceWith 65535 65535)) 43
+    ∷ edge (withKinds (goodType ∷ paceWith 1 2 ∷ costsWith 6 1 ∷ [])) 43
+    -- "after 31", in file order, and before 41 and 10
+    ∷ edge (withTypes (replicate 6 goodPaced ++ (goodType ∷ paceWith 0 5 ∷ []))) 7
+    ∷ edge (withTypes (goodType ∷ dataWith 1000001 ∷ paceWith 0 5 ∷ [])) 8
+    ∷ edge (withTypes (goodType ∷ mostWith 0 ∷ paceWith 0 5 ∷ [])) 31
+    ∷ edge (withTypes (goodType ∷ paceWith 0 5 ∷ costsWith 1000001 1 ∷ [])) 43
+    ∷ edge (withTypes (goodType ∷ paceWith 0 5 ∷ (2 ∷ []) ∷ [])) 43
+    ∷ edge (withTypes (typeWith 4 3 4096 ∷ paceWith 0 5 ∷ [])) 43
+    ∷ edge (withTypes (goodPaced ∷ costsWith 2 1 ∷ [])) 41
+    ∷ edge (withTypes (typeWith 4 3 4096 ∷ paceWith 2 5 ∷ [])) 10
     ∷ []
 
 -- the number as an outcome
@@ -244,6 +308,10 @@ DataRead file ds = map (λ (t : TaskType). t .data) (readSystem (readFile file) 
 -- and these q, none past k
 abbrev pub MostRead : List ℕ → List Most → Type 0
 MostRead file qs = map (λ (t : TaskType). t .most) (readSystem (readFile file) .types) ≡ qs
+
+-- and these C and T, none past k
+abbrev pub PaceRead : List ℕ → List Pace → Type 0
+PaceRead file paces = map (λ (t : TaskType). t .pace) (readSystem (readFile file) .types) ≡ paces
 
 -- the card has this second kind, and its types these u and s there, none past k
 abbrev pub SecondRead : List ℕ → Second → Type 0

@@ -109,7 +109,7 @@ pub record CauseMeans (y : System) (E : ℕ → Type 0) (r : ℕ) (count : ℕ �
 
 -- The call from a file
 
--- 1 to 10, 31, 41 and 42 as the file is read, then 11, for a part of the table that is shorter than the columns
+-- 1 to 10, 31 and 41 to 43 as the file is read, then 11, for a part of the table that is shorter than the columns
 pub record PlanChecksInOrder (x : Reading) (table : Lent) (o : Outcome) : Type 0 where
   pub fileFirst : (n : ℕ) → x ≡ unread n → o ≡ refused fromInput n
   pub thenTable : (y : System) → x ≡ opened y → (o ≡ refused fromInput 11) ↔ TooShort y table

@@ -37,7 +37,7 @@ totalCheck y = check (leb (totalCount y) greatest) fromInput 37
 abbrev pub partCheck : System → ℕ → Checked
 partCheck y entries = check (leb (2 * columns y) entries) fromInput 38
 
--- "in this order", after 1 to 10, 31, 41 and 42 as the file is read; accepted with both numbers
+-- "in this order", after 1 to 10, 31 and 41 to 43 as the file is read; accepted with both numbers
 abbrev pub countOutcome : Reading → ℕ → Outcome
 countOutcome (unread n) entries = refused fromInput n
 countOutcome (opened y) entries = unlessFails (andThen (totalCheck y) (partCheck y entries)) (accepted (goodCount y ∷ totalCount y ∷ []))

@@ -8,7 +8,7 @@ use crate::total::total_of;
 use system::Answer;
 use system::Refusal;
 
-// Counts the good assignments of a system file, and all: refused 1 to 10, 31, 41 and 42 as the file is read, 37 where the total passes 64 bits, 38 where the lent part is too short.
+// Counts the good assignments of a system file, and all: refused 1 to 10, 31 and 41 to 43 as the file is read, 37 where the total passes 64 bits, 38 where the lent part is too short.
 pub fn count_assignments(file: &[u8], part: &mut [u64]) -> CountAnswer
     ensures { λ r. ⌜ CountPromises (readFile (now (file .entry))) (now (part .entry)) r (now (part .exit)) ⌝ }
 {

@@ -1,5 +1,5 @@
 -- The listing of a file over any table that is long enough is the file's text, and what a reader finds in it. Where 11 and 15 pass, what is listed does not know the table: of one kind of engine the verdict
--- is that of the reading, and the engines are numbered from 1; of two kinds only 12 is left to be judged. The first 256 bytes decide, since they read as the whole file.
+-- is that of the reading, and the engines are numbered from 1; of two kinds only 12 is left to be judged. The first 384 bytes decide, since they read as the whole file.
 use Prim.Native.Nat.{ℕ, _+_, _≤_}
 use mathlib.Core.Path.{_≡_, refl, sym, ap, subst, _∙_}
 use mathlib.Core.Bool.{true}
@@ -134,12 +134,12 @@ text-promised {file = file} {table = table} size promises =
       samePlan = λ p other after enough promised. listing-planned promised ∙ listing-any-table file other enough;
     }
 
--- the first 256 bytes decide: their text is that of the whole file
-pub text-prefix : (file : List ℕ) → fileText (take 256 file) ≡ fileText file
+-- the first 384 bytes decide: their text is that of the whole file
+pub text-prefix : (file : List ℕ) → fileText (take 384 file) ≡ fileText file
 text-prefix file = ap (λ (x : Reading). cardText (cardOf x)) (read-prefix-card file)
 
 -- and so is all that is said of it
-pub prefix-promised : {front file old new : List ℕ} {r : ℕ} → front ≡ take 256 file → TextPromises front old new r → TextPromises file old new r
+pub prefix-promised : {front file old new : List ℕ} {r : ℕ} → front ≡ take 384 file → TextPromises front old new r → TextPromises file old new r
 prefix-promised {front = front} {file = file} first promises =
     let card : readCard front ≡ readCard file = ap readCard first ∙ read-prefix-card file in
     let same : readFile front ≡ readFile file = ap readFile first ∙ read-prefix file in

@@ -24,7 +24,7 @@ use Rattle.planner.specs.MixedDemands.{PlanCall}
 use Rattle.listing.specs.Listing.{listingOf, planListing, verdictListing}
 use Rattle.listing.specs.Demands.{TellsRefusal, TellsPlan, TellsMixed}
 
--- the table is the function's own and long enough, so 11 and 15 do not arise: 1 to 10, 31 and 41, 12, or a plan
+-- the table is the function's own and long enough, so 11 and 15 do not arise: 1 to 10, 31, 41 and 43, 12, or a plan
 unfoldable pub readingVerdict : Reading → Verdict
 readingVerdict (unread n) = unplanned fromInput n
 readingVerdict (opened y) = judged y (placeCheck y)
@@ -58,8 +58,8 @@ pub record TextPromises (file old new : List ℕ) (r : ℕ) : Type 0 where
   pub samePlan : (p : Plan) (table after : Lent) → ((y : System) → readCard file ≡ opened y → LongEnough y table) → PlanCall (cardOf (readCard file)) table engineLimit p after → planListing p ≡ fileText file
 
 -- what the call `listing_read` promises: the same of every file, whatever its length, of whose first bytes, as many as `front` has room for, just these were read;
--- request 2026-03: there is room for 256
+-- request 2026-14: there is room for 384
 pub record ReadPromises (front : List ℕ) (read : ℕ) (old new : List ℕ) (r : ℕ) : Type 0 where
-  pub size : length front ≡ 256
+  pub size : length front ≡ 384
   pub within : Counts r new
   pub ofFile : (file : List ℕ) → take (length front) file ≡ take read front → TextPromises file old new r

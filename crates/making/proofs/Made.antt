@@ -10,6 +10,7 @@ use lib.ListN.{length, getD, set, length-append}
 use lib.Seq.{getD-set-same, getD-set-other, ext-getD}
 use lib.Dec.{leb, eqb}
 use Rattle.system.specs.declared.Most.the-variants.{NotGiven}
+use Rattle.system.specs.declared.Pace.the-variants.{Unpaced}
 use Rattle.system.specs.declared.There.the-variants.{Absent}
 use Rattle.system.specs.declared.Second.{Second}
 use Rattle.system.specs.declared.Second.the-variants.{OneKind}
@@ -110,7 +111,7 @@ module _ (w : Recipe) (short : w .seed < 2 ^ 64) (few : w .typecount ≤ 6) wher
         ceilings = λ t some known. ap (λ (task : TaskType). task .ceiling) (type-at t some known) ∙ ap (λ (x : ℕ). x % (w .top + 1)) (value-third (w .seed) t some);
         bare = λ t some known.
             let is = type-at t some known in
-            (ap (λ (task : TaskType). task .data) is, ap (λ (task : TaskType). task .most) is, ap (λ (task : TaskType). task .there) is);
+            (ap (λ (task : TaskType). task .data) is, ap (λ (task : TaskType). task .most) is, ap (λ (task : TaskType). task .pace) is, ap (λ (task : TaskType). task .there) is);
         second = drawn-second w (w .typecount);
         six = drawn-six w (w .typecount);
         past = λ t over. drawn-past w (w .typecount) (t - 1) (omega arith);
@@ -156,7 +157,7 @@ module _ (w : Recipe) (y : System) (made : Made w y) (within : NumbersWithin w) 
       subst (λ (j : ℕ). getD (y .types) j noTask .there ≡ Absent) same (go (leb (suc i) (w .typecount)) refl)
     where
       go : (b : Bool) → leb (suc i) (w .typecount) ≡ b → typeNo y (suc i) .there ≡ Absent
-      go true q = made .bare (suc i) (omega arith) (leb-true (suc i) (w .typecount) q) .2
+      go true q = made .bare (suc i) (omega arith) (leb-true (suc i) (w .typecount) q) .3
       go false q = ap (λ (task : TaskType). task .there) (made .past (suc i) (leb-false (suc i) (w .typecount) q))
 
   -- main: within every limit, where 39 and 40 pass
@@ -176,6 +177,9 @@ module _ (w : Recipe) (y : System) (made : Made w y) (within : NumbersWithin w) 
     replicas = λ t q some known given.
         let none = made .bare t some (omega (arith, made .typecount)) .1 in
         let z : _≡_ {A = ℕ} 0 1 = cc in absurd (omega arith);
+    paces = λ t c some known given.
+        let none = made .bare t some (omega (arith, made .typecount)) .2 in
+        let z : _≡_ {A = ℕ} 0 1 = cc in absurd (omega arith);
     past = λ t over.
         let none = made .past t (omega (arith, made .typecount)) in (
           ap (λ (task : TaskType). task .time) none,
@@ -183,6 +187,7 @@ module _ (w : Recipe) (y : System) (made : Made w y) (within : NumbersWithin w) 
           ap (λ (task : TaskType). task .ceiling) none,
           ap (λ (task : TaskType). task .data) none,
           ap (λ (task : TaskType). task .most) none,
+          ap (λ (task : TaskType). task .pace) none,
         );
     columns = rw (columns-out y (made .six)) (omega (arith, made-columns, power));
     oneKind = made .second;
@@ -191,8 +196,8 @@ module _ (w : Recipe) (y : System) (made : Made w y) (within : NumbersWithin w) 
 
 -- main: the bytes of its file
 
-type-length : (t : TaskType) → t .data ≡ 0 → t .most ≡ NotGiven → t .there ≡ Absent → length (typeOut false t) ≡ 13
-type-length t none bare alone = rw (none, bare, alone)
+type-length : (t : TaskType) → t .data ≡ 0 → t .most ≡ NotGiven → t .pace ≡ Unpaced → t .there ≡ Absent → length (typeOut false t) ≡ 13
+type-length t none bare idle alone = rw (none, bare, idle, alone)
 
 module _ (w : Recipe) (y : System) (made : Made w y) where
   types-length : (n : ℕ) → n ≤ w .typecount → length (typesOut (λ (t : ℕ). false) y n) ≡ 13 * n
@@ -201,7 +206,7 @@ module _ (w : Recipe) (y : System) (made : Made w y) where
   types-length (suc n) h =
       let bare = made .bare (suc n) (omega arith) h in
       length-append (typesOut (λ (t : ℕ). false) y n) (typeOut false (typeNo y (suc n)))
-      ∙ omega (arith, types-length n (omega arith), type-length (typeNo y (suc n)) (bare .0) (bare .1) (bare .2))
+      ∙ omega (arith, types-length n (omega arith), type-length (typeNo y (suc n)) (bare .0) (bare .1) (bare .2) (bare .3))
 
   pub made-length : length (fileOut y) ≡ sizeOut w
   made-length =
@@ -224,8 +229,9 @@ module _ (w : Recipe) (y z : System) (a : Made w y) (b : Made w z) where
       let ceiling = a .ceilings t some known ∙ ap (λ (x : ℕ). x % (w .top + 1)) (same-value (3 * t)) ∙ sym (b .ceilings t some known) in
       let none = a .bare t some known .0 ∙ sym (b .bare t some known .0) in
       let free = a .bare t some known .1 ∙ sym (b .bare t some known .1) in
-      let alone = a .bare t some known .2 ∙ sym (b .bare t some known .2) in
-      λ i. record { time = time i; memory = memory i; ceiling = ceiling i; «data» = none i; most = free i; there = alone i }
+      let idle = a .bare t some known .2 ∙ sym (b .bare t some known .2) in
+      let alone = a .bare t some known .3 ∙ sym (b .bare t some known .3) in
+      λ i. record { time = time i; memory = memory i; ceiling = ceiling i; «data» = none i; most = free i; pace = idle i; there = alone i }
 
   same-type : (t : ℕ) → 1 ≤ t → typeNo y t ≡ typeNo z t
   same-type t some = go (leb t (w .typecount)) refl

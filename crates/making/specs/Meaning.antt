@@ -6,6 +6,7 @@ use mathlib.Core.Path.{_≡_}
 use mathlib.Core.Logic.{_↔_}
 use lib.ListN.{length, take, drop}
 use Rattle.system.specs.declared.Most.the-variants.{NotGiven}
+use Rattle.system.specs.declared.Pace.the-variants.{Unpaced}
 use Rattle.system.specs.declared.There.the-variants.{Absent}
 use Rattle.system.specs.declared.Second.the-variants.{OneKind}
 use Rattle.system.specs.declared.System.{System}
@@ -58,8 +59,8 @@ pub record Made (w : Recipe) (y : System) : Type 0 where
   pub times : (t : ℕ) → 1 ≤ t → t ≤ w .typecount → typeNo y t .time ≡ 1 + value (3 * t - 2) % w .timecap
   pub memories : (t : ℕ) → 1 ≤ t → t ≤ w .typecount → typeNo y t .memory ≡ 1 + value (3 * t - 1) % w .memorycap
   pub ceilings : (t : ℕ) → 1 ≤ t → t ≤ w .typecount → typeNo y t .ceiling ≡ value (3 * t) % (w .top + 1)
-  -- no d, no q, and nothing on a second kind of engine, which there is not
-  pub bare : (t : ℕ) → 1 ≤ t → t ≤ w .typecount → (typeNo y t .data ≡ 0) × (typeNo y t .most ≡ NotGiven) × (typeNo y t .there ≡ Absent)
+  -- no d, no q, no C and T, and nothing on a second kind of engine, which there is not
+  pub bare : (t : ℕ) → 1 ≤ t → t ≤ w .typecount → (typeNo y t .data ≡ 0) × (typeNo y t .most ≡ NotGiven) × (typeNo y t .pace ≡ Unpaced) × (typeNo y t .there ≡ Absent)
   pub second : y .second ≡ OneKind
   pub six : length (y .types) ≡ 6
   pub past : (t : ℕ) → w .typecount < t → typeNo y t ≡ noType

@@ -9,6 +9,8 @@ use native.Mathlib.Omega.{arith}
 use borrow.Author.Tests.{ltb-true, ltb-false}
 use lib.ListN.{length, getD, length-map, List·getD-map}
 use lib.Dec.{eqb, ltb}
+use Rattle.system.specs.declared.Cycle.{Cycle}
+use Rattle.system.specs.declared.Pace.the-variants.{Paced}
 use Rattle.system.specs.declared.Costs.{Costs}
 use Rattle.system.specs.declared.There.the-variants.{Absent, Takes}
 use Rattle.system.specs.declared.Kind.{Kind}
@@ -17,8 +19,8 @@ use Rattle.system.specs.declared.Second.the-variants.{OneKind, TwoKinds}
 use Rattle.system.specs.declared.TaskType.{TaskType}
 use Rattle.system.specs.declared.System.{System}
 use Rattle.system.specs.Values.{noTask, ceilingsOf}
-use Rattle.system.specs.Limits.{typeLimit, mostFault, costsFault, given, isOneKind, kindsAgree, columnsOf, columns, keepsCard, keepsLimits}
-use Rattle.system.proofs.Laws.{KindLimits, CardLimits, Limits, Sized, some-replica, replicas-keep, costs-sized, costs-keep, second-limits, second-keep, given-takes}
+use Rattle.system.specs.Limits.{typeLimit, mostFault, paceFault, costsFault, given, isOneKind, kindsAgree, columnsOf, columns, keepsCard, keepsLimits}
+use Rattle.system.proofs.Laws.{KindLimits, CardLimits, Limits, Sized, CycleLimits, some-replica, replicas-keep, cycle-limits, cycle-keep, costs-sized, costs-keep, second-limits, second-keep, given-takes}
 use Rattle.system.proofs.Laws.{kinds-absent, kinds-given, absent-kinds, given-kinds, card-of, card-keep, card-limits, limits-card, limits-of, limits-keep}
 use Rattle.loads.specs.declared.EngineLoad.{EngineLoad}
 use Rattle.loads.specs.Load.{fitsEngine, holdsNone, engineWith, idleEngine, memoryOf}
@@ -26,7 +28,7 @@ use Rattle.loads.proofs.Order.{cons-path}
 use Rattle.partition.specs.Assignment.{Assignment, countOn, loadOn, assigned, among, every, anyOf, usedOf, numbersFrom, enginesTo}
 use Rattle.partition.specs.Shares.{distinct}
 use Rattle.partition.specs.ForSystem.{goodOn, FeasibleOn, Placed, OnFewest}
-use Rattle.partition.specs.Plain.{typeNo, ceilingNo, columnsOut, LimitsOut, CardOut, Partition, Impossible, hosts, usedTo, RecordIs, recordNo, Stands, StandsOnFewest}
+use Rattle.partition.specs.Plain.{typeNo, ceilingNo, columnsOut, PaceWithin, LimitsOut, CardOut, Partition, Impossible, hosts, usedTo, RecordIs, recordNo, Stands, StandsOnFewest}
 use Rattle.partition.proofs.Lists.{among-counted, distinct-enginesTo, enginesTo-last, getD-inside}
 use Rattle.partition.proofs.Shares.{good-parts}
 use Rattle.partition.proofs.Engines.{usedOf-wider}
@@ -55,6 +57,18 @@ columns-out y l = six-columns (y .types) l
 pub ceiling-out : (y : System) (t : ℕ) → getD (ceilingsOf y) (t - 1) 0 ≡ ceilingNo y t
 ceiling-out y t = List·getD-map (λ (task : TaskType). task .ceiling) (y .types) (t - 1) noTask
 
+-- C and T: that C is at most 65,535 and T at least 1 follows from C at most T
+module _ (whole u : ℕ) (c : Cycle) where
+  pace-told : CycleLimits whole u c → PaceWithin whole u c
+  pace-told l =
+      let some = l .some-run in
+      let runs = l .runs in
+      let period = l .period in
+      record { run = (some, omega arith); period = (omega arith, period); runs = runs; some = l .some-time; share = l .share }
+
+  pace-back : PaceWithin whole u c → CycleLimits whole u c
+  pace-back l = record { some-run = l .run .0; runs = l .runs; period = l .period .1; some-time = l .some; share = l .share }
+
 module _ (y : System) where
   card-told : CardLimits y → CardOut y
   card-told l = record {
@@ -65,6 +79,7 @@ module _ (y : System) where
     six = l .six;
     costs = λ t low high. (l .sized (t - 1) .time, l .sized (t - 1) .memory, l .sized (t - 1) .data);
     replicas = λ t q low high given. some-replica (typeNo y t .most) q (l .replicas (t - 1)) given;
+    paces = λ t c low high is. pace-told (y .timecap) (typeNo y t .time) c (cycle-limits (y .timecap) (typeNo y t .time) (typeNo y t .pace) c (l .paces (t - 1)) is);
     past = λ t h. l .past (t - 1) (omega arith);
     columns = rw (columns-out y (l .six)) (l .columns);
     second = λ k is. let w = within k is in (w .some-engine, w .engines);
@@ -100,6 +115,7 @@ module _ (y : System) where
     past = none;
     sized = each Sized (record { time = omega arith; memory = omega arith; «data» = omega arith }) sizes;
     replicas = each (λ (task : TaskType). mostFault (task .most) ≡ 0) refl (λ t low high. replicas-keep (typeNo y t .most) (λ q. l .replicas t q low high));
+    paces = each (λ (task : TaskType). paceFault (y .timecap) (task .time) (task .pace) ≡ 0) refl paced;
     costs = each (λ (task : TaskType). costsFault (task .there) ≡ 0) refl (λ t low high. costs-keep (typeNo y t .there) (λ c. l .secondSizes .costs t c low high));
     second = second-keep (y .engines) (y .second) within;
     kinds = agree (y .second) refl;
@@ -125,6 +141,10 @@ module _ (y : System) where
 
       sizes : (t : ℕ) → 1 ≤ t → t ≤ y .typecount → Sized (typeNo y t)
       sizes t low high = let c = l .costs t low high in record { time = c .0; memory = c .1; «data» = c .2 }
+
+      paced : (t : ℕ) → 1 ≤ t → t ≤ y .typecount → paceFault (y .timecap) (typeNo y t .time) (typeNo y t .pace) ≡ 0
+      paced t low high =
+          cycle-keep (y .timecap) (typeNo y t .time) (typeNo y t .pace) (λ c is. pace-back (y .timecap) (typeNo y t .time) c (l .paces t c low high is))
 
       within : (k : Kind) → y .second ≡ TwoKinds k → KindLimits (y .engines) k
       within k is =
@@ -156,6 +176,7 @@ module _ (y : System) where
         six = c .six;
         costs = c .costs;
         replicas = c .replicas;
+        paces = c .paces;
         past = λ t h.
             let none = c .past t h in (
               ap (λ (task : TaskType). task .time) none,
@@ -163,6 +184,7 @@ module _ (y : System) where
               ap (λ (task : TaskType). task .ceiling) none,
               ap (λ (task : TaskType). task .data) none,
               ap (λ (task : TaskType). task .most) none,
+              ap (λ (task : TaskType). task .pace) none,
             );
         columns = c .columns;
         oneKind = l .oneKind;
@@ -187,10 +209,11 @@ module _ (y : System) where
         six = l .six;
         costs = l .costs;
         replicas = l .replicas;
+        paces = l .paces;
         past = λ t h.
             let p = l .past t h in
             let a = l .absent t in
-            λ z. record { time = p .0 z; memory = p .1 z; ceiling = p .2 z; «data» = p .3 z; most = p .4 z; there = a z };
+            λ z. record { time = p .0 z; memory = p .1 z; ceiling = p .2 z; «data» = p .3 z; most = p .4 z; pace = p .5 z; there = a z };
         columns = l .columns;
         second = λ k is. absurd (never k is);
         secondSizes = record {

@@ -1,4 +1,4 @@
--- Request 2026-09 for files that differ: in their n alone, so that the numbers of two sheets bound that of both; and in their rule alone, so that shared code never needs more engines than own copies.
+-- Request 2026-09 for files that differ: in their n (C and T, which no plan asks, may differ too), so that the numbers of two sheets bound that of both; and in their rule alone, so that shared code never needs more engines than own copies.
 -- A partition asks no n, and under rule 0 it is one under rule 1; so systems are compared by their partitions and not by their columns.
 use Prim.Native.Nat.{ℕ, suc, _+_, _-_, _≤_}
 use mathlib.Core.Path.{_≡_, refl, sym, ap, subst, _∙_}

@@ -7,6 +7,7 @@ use mathlib.Core.Path.{_≡_}
 use lib.ListN.{length, getD}
 use lib.Dec.{eqb}
 use Rattle.system.specs.declared.Most.the-variants.{NotGiven, AtMost}
+use Rattle.system.specs.declared.Pace.the-variants.{Unpaced}
 use Rattle.system.specs.declared.There.the-variants.{Absent}
 use Rattle.system.specs.declared.TaskType.{TaskType}
 use Rattle.system.specs.declared.System.{System}
@@ -45,7 +46,7 @@ sharedMemoryOn e types χ = codeOn e types χ + dataOn e types χ
 
 -- type t of the system, from 0; where there is none, a type of nothing
 abbrev pub noType : TaskType
-noType = record { time = 0; memory = 0; ceiling = 0; «data» = 0; most = NotGiven; there = Absent }
+noType = record { time = 0; memory = 0; ceiling = 0; «data» = 0; most = NotGiven; pace = Unpaced; there = Absent }
 
 abbrev pub typeAt : System → ℕ → TaskType
 typeAt y t = getD (y .types) t noType

@@ -8,6 +8,8 @@ use mathlib.Core.Path.{_≡_}
 use mathlib.Core.Logic.{_⊎_}
 use lib.ListN.{length, getD}
 use Rattle.system.specs.declared.Most.the-variants.{NotGiven, AtMost}
+use Rattle.system.specs.declared.Cycle.{Cycle}
+use Rattle.system.specs.declared.Pace.the-variants.{Unpaced, Paced}
 use Rattle.system.specs.declared.Costs.{Costs}
 use Rattle.system.specs.declared.There.the-variants.{Absent, Takes}
 use Rattle.system.specs.declared.Kind.{Kind}
@@ -19,7 +21,7 @@ use Rattle.partition.specs.Assignment.{Assignment, among, anyOf}
 use Rattle.partition.specs.Lent.{Lent}
 use Rattle.partition.specs.OwnWords.{overInstances, timeOn, memoryOn, sharedMemoryOn, noType, typeAt, Definition1}
 
--- type t, counted from 1: its u, s, n, d and q, and its u and s on a second kind; all 0 and nothing given where there is no such type
+-- type t, counted from 1: its u, s, n, d, q, C and T, and its u and s on a second kind; all 0 and nothing given where there is no such type
 abbrev pub typeNo : System → ℕ → TaskType
 typeNo y t = typeAt y (t - 1)
 
@@ -39,6 +41,18 @@ LongEnough y table = (columnsOut y ≤ length (table .rows)) × (columnsOut y �
 abbrev pub TooShort : System → Lent → Type 0
 TooShort y table = (length (table .rows) < columnsOut y) ⊎ (length (table .predecessors) < columnsOut y)
 
+-- Request 2026-14: C and T, of a type with this u on an engine with this U, are "1 to 65,535, C at most T", U is not 0, and u × T is not less than C × U
+pub record PaceWithin (whole u : ℕ) (c : Cycle) : Type 0 where
+  pub run : (1 ≤ c .run) × (c .run ≤ 65535)
+  pub period : (1 ≤ c .period) × (c .period ≤ 65535)
+  pub runs : c .run ≤ c .period
+  pub some : 1 ≤ whole
+  pub share : c .run * whole ≤ u * c .period
+
+-- those of types 1 to k, where they are given
+abbrev pub PacesWithin : System → Type 0
+PacesWithin y = (t : ℕ) (c : Cycle) → 1 ≤ t → t ≤ y .typecount → typeNo y t .pace ≡ Paced c → PaceWithin (y .timecap) (typeNo y t .time) c
+
 -- the limits of document 01, number by number. That there are six types is what an array of the code always has
 pub record LimitsOut (y : System) : Type 0 where
   pub engines : (1 ≤ y .engines) × (y .engines ≤ 16)
@@ -49,8 +63,10 @@ pub record LimitsOut (y : System) : Type 0 where
   pub costs : (t : ℕ) → 1 ≤ t → t ≤ y .typecount → (typeNo y t .time ≤ 1000000) × (typeNo y t .memory ≤ 1000000) × (typeNo y t .data ≤ 1000000)
   -- a q that is given is not 0 (request 2026-04)
   pub replicas : (t q : ℕ) → 1 ≤ t → t ≤ y .typecount → typeNo y t .most ≡ AtMost q → 1 ≤ q
-  -- "an entry for .. a type past k (the system's own u, s and n too)" is 0, and so is its d, and it has no q
-  pub past : (t : ℕ) → y .typecount < t → (typeNo y t .time ≡ 0) × (typeNo y t .memory ≡ 0) × (typeNo y t .ceiling ≡ 0) × (typeNo y t .data ≡ 0) × (typeNo y t .most ≡ NotGiven)
+  -- C and T that are given (request 2026-14)
+  pub paces : PacesWithin y
+  -- "an entry for .. a type past k (the system's own u, s and n too)" is 0, and so is its d, and it has no q, no C and no T
+  pub past : (t : ℕ) → y .typecount < t → (typeNo y t .time ≡ 0) × (typeNo y t .memory ≡ 0) × (typeNo y t .ceiling ≡ 0) × (typeNo y t .data ≡ 0) × (typeNo y t .most ≡ NotGiven) × (typeNo y t .pace ≡ Unpaced)
   pub columns : columnsOut y ≤ 4096
   -- one kind of engine, and of no type anything on a second (request 2026-13)
   pub oneKind : y .second ≡ OneKind
@@ -81,6 +97,7 @@ pub record CardOut (y : System) : Type 0 where
   pub six : length (y .types) ≡ 6
   pub costs : (t : ℕ) → 1 ≤ t → t ≤ y .typecount → (typeNo y t .time ≤ 1000000) × (typeNo y t .memory ≤ 1000000) × (typeNo y t .data ≤ 1000000)
   pub replicas : (t q : ℕ) → 1 ≤ t → t ≤ y .typecount → typeNo y t .most ≡ AtMost q → 1 ≤ q
+  pub paces : PacesWithin y
   pub past : (t : ℕ) → y .typecount < t → typeNo y t ≡ noType
   pub columns : columnsOut y ≤ 4096
   pub second : SecondWithin y

@@ -80,7 +80,7 @@ pub record TwoReleases (y : System) (es : List ℕ) : Type 0 where
   pub plainly : (a b both : List ℕ) (first second : ℕ) → AddsWithin y a b both → Fewest y (On es) (instancesIn a) first → Fewest y (On es) (instancesIn b) second → TogetherAtMost first second (length es)
       → (together : ℕ) × Fewest y (On es) (instancesIn both) together × Bounds first second together
 
--- two systems that differ in their n alone
+-- two systems that differ in their n, and perhaps in their C and T, which no plan asks
 pub record SameButCeilings (y z : System) : Type 0 where
   pub engines : z .engines ≡ y .engines
   pub rule : z .rule ≡ y .rule
@@ -94,7 +94,7 @@ pub record SameButCeilings (y z : System) : Type 0 where
   pub theres : (t : ℕ) → 1 ≤ t → typeNo z t .there ≡ typeNo y t .there
   pub second : z .second ≡ y .second
 
--- the systems of two releases and of both: they differ in their n alone, and n of both is the sum
+-- the systems of two releases and of both: no plan sees them differ but in their n, and n of both is the sum
 pub record BothReleases (first second both : System) : Type 0 where
   pub alikeFirst : SameButCeilings both first
   pub alikeSecond : SameButCeilings both second

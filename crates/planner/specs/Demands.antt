@@ -19,7 +19,7 @@ use Rattle.planner.specs.declared.Plan.{Plan}
 use Rattle.planner.specs.declared.EngineRecord.{EngineRecord}
 use Rattle.planner.specs.Plan.{verdictOf, usedEngines, planOutcome, plannedTypes, planLoads, planTable, planList}
 
--- "Plan continues 11, 15, 12": 1 to 10, 31, 41 and 42 are judged before 11, which is for a part of the table shorter than the columns, and 11 before 15, which is for a list shorter than m.
+-- "Plan continues 11, 15, 12": 1 to 10, 31 and 41 to 43 are judged before 11, which is for a part of the table shorter than the columns, and 11 before 15, which is for a list shorter than m.
 -- Demand 2 says when it is 12
 pub record InOrder (x : Reading) (table : Lent) (room : ℕ) (outcome : Outcome) : Type 0 where
   pub fileFirst : (n : ℕ) → x ≡ unread n → outcome ≡ refused fromInput n

@@ -1,4 +1,4 @@
--- Document 01's "Plan": the recovery of n(t) instances of each type, with refusals 1 to 10, 31, 41 and 42, then 11, 15, 12 in this order.
+-- Document 01's "Plan": the recovery of n(t) instances of each type, with refusals 1 to 10, 31 and 41 to 43, then 11, 15, 12 in this order.
 -- `room` is the length of the lent list; a plan by value has room for every engine that a system can have. Here a file has one kind of engine; `Mixed` has the plan of two.
 use Prim.Native.Nat.{ℕ, suc}
 use mathlib.Core.List.{List, [], _∷_, _++_, map}
@@ -43,7 +43,7 @@ abbrev pub judged : System → Checked → Verdict
 judged y passes = planned y
 judged y (fails s n) = unplanned s n
 
--- 1 to 10, 31, 41 and 42 as the file is read, then 11, 15, 12
+-- 1 to 10, 31 and 41 to 43 as the file is read, then 11, 15, 12
 unfoldable pub verdictOf : Reading → Lent → ℕ → Verdict
 verdictOf (unread n) table room = unplanned fromInput n
 verdictOf (opened y) table room = judged y (andThen (lentCheck y table room) (placeCheck y))
@@ -73,7 +73,7 @@ abbrev pub tableLeft : Checked → Lent → Lent → Lent
 tableLeft (fails s n) lent done = lent
 tableLeft passes lent done = done
 
--- "The table is left filled": after a plan and after 12; 1 to 10, 31, 41, 42, 11 and 15 leave it as lent
+-- "The table is left filled": after a plan and after 12; 1 to 10, 31, 41 to 43, 11 and 15 leave it as lent
 abbrev pub planTable : Reading → Lent → ℕ → Lent
 planTable (unread n) table room = table
 planTable (opened y) table room = tableLeft (lentCheck y table room) table (filled y (planEngines y) table)

@@ -22,7 +22,7 @@ pub record Asked (file : List ℕ) (y : System) (outcome : Outcome) : Type 0 whe
   pub listLong : y .engines ≤ room
   pub keeps : Demand2 (readFile file) table room outcome loads
 
--- two files that differ in their n alone and a third with the sums: where the plans of the two use a and b engines, and a + b is at most m, the third has a plan, within the bounds
+-- two files that differ in their n, and perhaps in their C and T, and a third with the sums of n: where the plans of the two use a and b engines, and a + b is at most m, the third has a plan, within the bounds
 abbrev pub PlansAdd : (first second both : System) (one two three : Outcome) → Type 0
 PlansAdd first second both one two three =
     (a b : ℕ) → BothReleases first second both → one ≡ accepted (a ∷ []) → two ≡ accepted (b ∷ []) → TogetherAtMost a b (both .engines)

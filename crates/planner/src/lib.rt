@@ -122,7 +122,7 @@ fn lent_check(y: System, rows: usize, predecessors: usize, room: usize) -> Check
     list_check(y, room)
 }
 
-// The plan of a file of which one kind of engine is wanted, where the list that is to hold it has room for `room` records: refusals 1 to 10, 31, 41 and 42, then 11, 15, 12.
+// The plan of a file of which one kind of engine is wanted, where the list that is to hold it has room for `room` records: refusals 1 to 10, 31 and 41 to 43, then 11, 15, 12.
 fn plan_one(file: &[u8], rows: &mut [u16], predecessors: &mut [u16], room: usize) -> Plan
     ensures { λ r. ⌜ PlanPromises (readFile (now (file .entry))) (lent (now (rows .entry)) (now (predecessors .entry))) room r (lent (now (rows .exit)) (now (predecessors .exit))) ⌝ }
 {

@@ -99,8 +99,8 @@ module _ (text : List ℕ) {passed : Progress} (is : passed ≡ readFrom begun t
 
 -- a text of which as much was read as there is room for, and a shorter one
 
-module _ {front : List ℕ} {read : ℕ} {old new : List ℕ} {r : ℕ} (size : length front ≡ 256) where
-  pub filled-promised : 256 ≤ read → Written notSevenLine old new r → ReadPromises front read old new r
+module _ {front : List ℕ} {read : ℕ} {old new : List ℕ} {r : ℕ} (size : length front ≡ 384) where
+  pub filled-promised : 384 ≤ read → Written notSevenLine old new r → ReadPromises front read old new r
   filled-promised full h = record {
     size = size;
     within = h .within;
@@ -108,7 +108,7 @@ module _ {front : List ℕ} {read : ℕ} {old new : List ℕ} {r : ℕ} (size : 
     tooLong = λ text long same. h;
   }
 
-  pub partly-promised : read < 256 → RecipePromises (take read front) old new r → ReadPromises front read old new r
+  pub partly-promised : read < 384 → RecipePromises (take read front) old new r → ReadPromises front read old new r
   partly-promised part p = record {
     size = size;
     within = p .written .within;

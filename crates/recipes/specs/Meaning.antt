@@ -68,10 +68,10 @@ pub record RecipePromises (text old new : List ℕ) (r : ℕ) : Type 0 where
   pub written : Written (makeText text) old new r
   pub tells : TellsText text (makeText text)
 
--- what the call `make_read` promises: the same of every text that is shorter than what there is room for, 256 bytes, and of which just these were read;
--- a text of 256 bytes or more, of whose first 256 just these were read, is told to be not seven numbers, whatever it has. 7 numbers of 20 digits are 147 bytes
+-- what the call `make_read` promises: the same of every text that is shorter than what there is room for, 384 bytes, and of which just these were read;
+-- a text of 384 bytes or more, of whose first 384 just these were read, is told to be not seven numbers, whatever it has. 7 numbers of 20 digits are 147 bytes
 pub record ReadPromises (front : List ℕ) (read : ℕ) (old new : List ℕ) (r : ℕ) : Type 0 where
-  pub size : length front ≡ 256
+  pub size : length front ≡ 384
   pub within : Counts r new
-  pub ofText : (text : List ℕ) → length text < 256 → take (length front) text ≡ take read front → RecipePromises text old new r
-  pub tooLong : (text : List ℕ) → 256 ≤ length text → take (length front) text ≡ take read front → Written saysNotSeven old new r
+  pub ofText : (text : List ℕ) → length text < 384 → take (length front) text ≡ take read front → RecipePromises text old new r
+  pub tooLong : (text : List ℕ) → 384 ≤ length text → take (length front) text ≡ take read front → Written saysNotSeven old new r

@@ -74,7 +74,7 @@ abbrev pub judgedSheet : Checked → Bool → SheetOutcome
 judgedSheet (fails s n) fewer = wrong s n
 judgedSheet passes fewer = right fewer
 
--- 1 to 10, 31, 41 and 42 as the file is read, then the checks
+-- 1 to 10, 31 and 41 to 43 as the file is read, then the checks
 abbrev pub checkOutcome : Reading → List ℕ → Lent → SheetOutcome
 checkOutcome (unread n) sheet table = wrong fromInput n
 checkOutcome (opened y) sheet table = judgedSheet (sheetCheck y sheet table) (fewerDo y sheet)

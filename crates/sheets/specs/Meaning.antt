@@ -142,7 +142,7 @@ pub record GoodOnFewest (y : System) (χ : Assignment) : Type 0 where
   pub good : GoodForAll y χ
   pub fewest : (χ′ : Assignment) → GoodForAll y χ′ → usedTo (y .engines) χ ≤ usedTo (y .engines) χ′
 
--- 1 to 10, 31, 41 and 42, then 11, 12, 30: a sheet on u engines has 5 + u × (12 + 2k) bytes
+-- 1 to 10, 31 and 41 to 43, then 11, 12, 30: a sheet on u engines has 5 + u × (12 + 2k) bytes
 pub record SheetsInOrder (x : Reading) (table : Lent) (buffer : List ℕ) (o : Outcome) : Type 0 where
   pub fileFirst : (n : ℕ) → x ≡ unread n → o ≡ refused fromInput n
   pub thenTable : (y : System) → x ≡ opened y → (o ≡ refused fromInput 11) ↔ TooShort y table

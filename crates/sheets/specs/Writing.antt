@@ -11,7 +11,7 @@ use Rattle.partition.specs.Lent.{Lent}
 use Rattle.planner.specs.Plan.{Verdict, planned, unplanned, verdictOf, plannedTypes, planLoads, planTable}
 use Rattle.sheets.specs.Sheet.{sheetBytes}
 
--- a plan by value, of one kind of engine: 1 to 10, 31, 41 and 42, then 11, 12. Its list has room for every engine, so that 15 does not arise
+-- a plan by value, of one kind of engine: 1 to 10, 31 and 41 to 43, then 11, 12. Its list has room for every engine, so that 15 does not arise
 abbrev pub sheetVerdict : Reading → Lent → Verdict
 sheetVerdict x table = verdictOf x table engineLimit
 

@@ -189,7 +189,7 @@ fn records_check(sheet: &[u8], y: System, loads: [EngineLoad; ENGINE_LIMIT]) -> 
     totals_check(y, loads)
 }
 
-// Checks a sheet against its system file: right, with whether some good assignment uses fewer engines; or refused 1 to 10, 31, 41 and 42, then 11, 32, 33, 34.
+// Checks a sheet against its system file: right, with whether some good assignment uses fewer engines; or refused 1 to 10, 31 and 41 to 43, then 11, 32, 33, 34.
 // The table need not be clean, and is filled only for a sheet that is right.
 pub fn check_sheet(
     file: &[u8],

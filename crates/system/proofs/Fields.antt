@@ -1,14 +1,16 @@
--- What a field that is read does to the system so far: a type is one more, with d 0, no q and nothing of a second kind; a tag 3 sets d of the last type and nothing else (request 2026-03), a tag 4 its q and nothing else (2026-04), a tag 6 the second kind of engine and nothing else, and a tag 7 the last type's u and s there and nothing else (2026-13).
+-- What a field that is read does to the system so far: a type is one more, with d 0, no q, no C and T and nothing of a second kind; a tag 3 sets d of the last type and nothing else (request 2026-03), a tag 4 its q and nothing else (2026-04), a tag 5 its C and T and nothing else (2026-14), a tag 6 the second kind of engine and nothing else, and a tag 7 the last type's u and s there and nothing else (2026-13).
 use Prim.Native.Nat.{ℕ, suc, _-_, _≤_, _<_}
 use native.Mathlib.Omega.{arith}
 use mathlib.Core.List.{List}
-use mathlib.Core.Bool.{true}
+use mathlib.Core.Bool.{true, false}
 use mathlib.Core.Path.{_≡_, refl, ap, _∙_, subst}
 use borrow.Author.Tests.{le-leb, lt-leb, leb-false, ne-eqb}
 use lib.ListN.{length, getD}
 use lib.Seq.{getD-set-same, getD-set-other}
 use lib.Dec.{leb}
 use Rattle.system.specs.declared.Most.the-variants.{NotGiven, AtMost}
+use Rattle.system.specs.declared.Cycle.{Cycle}
+use Rattle.system.specs.declared.Pace.the-variants.{Unpaced, Paced}
 use Rattle.system.specs.declared.Costs.{Costs}
 use Rattle.system.specs.declared.There.the-variants.{Absent, Takes}
 use Rattle.system.specs.declared.Second.the-variants.{TwoKinds}
@@ -16,11 +18,11 @@ use Rattle.system.specs.declared.TaskType.{TaskType}
 use Rattle.system.specs.declared.System.{System}
 use Rattle.system.specs.declared.rules.FieldRule.{FieldRule}
 use Rattle.system.specs.declared.reader.Head.the-variants.{Ruled}
-use Rattle.system.specs.Values.{taskOf, withData, withMost, withCosts, noTask, withSecond, withType, lastType, withLast}
-use Rattle.system.specs.Limits.{typeLimit, sizeLimit, kindFault, typeFault, mostFault, costsFault}
-use Rattle.system.specs.Layout.{typeRule, dataRule, mostRule, secondRule, costsRule, follows, mayFollow, opened, unread, byteAt, word2, word4, bodyPart}
-use Rattle.system.specs.Layout.{typeFrom, typeOf, dataFrom, mostFrom, secondFrom, costsFrom, headOf, bodyOf, ruledField, fieldOf, readCard, readFile}
-use Rattle.system.proofs.Laws.{some-replica, costs-sized, passes, no-fault, Sound, OneOf, a-platform, a-type, a-data, a-most, a-second, a-costs, part-later, fieldOf-opened, read-card-limits, file-card}
+use Rattle.system.specs.Values.{taskOf, withData, withMost, withPace, withCosts, noTask, withSecond, withType, lastType, withLast}
+use Rattle.system.specs.Limits.{typeLimit, sizeLimit, kindFault, typeFault, mostFault, cycleKeeps, paceFault, costsFault}
+use Rattle.system.specs.Layout.{typeRule, dataRule, mostRule, paceRule, secondRule, costsRule, follows, mayFollow, opened, unread, byteAt, word2, word4, bodyPart}
+use Rattle.system.specs.Layout.{typeFrom, typeOf, dataFrom, mostFrom, paceFrom, secondFrom, costsFrom, headOf, bodyOf, ruledField, fieldOf, readCard, readFile}
+use Rattle.system.proofs.Laws.{some-replica, CycleLimits, cycle-limits, costs-sized, passes, no-fault, Sound, OneOf, a-platform, a-type, a-data, a-most, a-pace, a-second, a-costs, part-later, fieldOf-opened, read-card-limits, file-card}
 
 -- type t, counted from 0
 abbrev typeAt : System → ℕ → TaskType
@@ -38,7 +40,7 @@ pub record SamePlatform (y z : System) : Type 0 where
   pub first : SameFirst y z
   pub second : z .second ≡ y .second
 
--- one type more, with these u, s and n, with d 0, without q, and with nothing of a second kind
+-- one type more, with these u, s and n, with d 0, without q, without C and T, and with nothing of a second kind
 pub record AddsType (u s n : ℕ) (y z : System) : Type 0 where
   pub platform : SamePlatform y z
   pub typecount : z .typecount ≡ suc (y .typecount)
@@ -47,6 +49,7 @@ pub record AddsType (u s n : ℕ) (y z : System) : Type 0 where
   pub ceiling : typeAt z (y .typecount) .ceiling ≡ n
   pub no-data : typeAt z (y .typecount) .data ≡ 0
   pub no-most : typeAt z (y .typecount) .most ≡ NotGiven
+  pub no-pace : typeAt z (y .typecount) .pace ≡ Unpaced
   pub no-costs : typeAt z (y .typecount) .there ≡ Absent
   pub others : (i : ℕ) → (i ≡ y .typecount → ⊥) → typeAt z i ≡ typeAt y i
 
@@ -60,6 +63,7 @@ pub record SetsData (d : ℕ) (y z : System) : Type 0 where
   pub ceiling : typeAt z (y .typecount - 1) .ceiling ≡ typeAt y (y .typecount - 1) .ceiling
   pub data-set : typeAt z (y .typecount - 1) .data ≡ d
   pub most : typeAt z (y .typecount - 1) .most ≡ typeAt y (y .typecount - 1) .most
+  pub pace : typeAt z (y .typecount - 1) .pace ≡ typeAt y (y .typecount - 1) .pace
   pub there : typeAt z (y .typecount - 1) .there ≡ typeAt y (y .typecount - 1) .there
   pub others : (i : ℕ) → (i ≡ y .typecount - 1 → ⊥) → typeAt z i ≡ typeAt y i
 
@@ -73,6 +77,21 @@ pub record SetsMost (q : ℕ) (y z : System) : Type 0 where
   pub ceiling : typeAt z (y .typecount - 1) .ceiling ≡ typeAt y (y .typecount - 1) .ceiling
   pub «data» : typeAt z (y .typecount - 1) .data ≡ typeAt y (y .typecount - 1) .data
   pub most-set : typeAt z (y .typecount - 1) .most ≡ AtMost q
+  pub pace : typeAt z (y .typecount - 1) .pace ≡ typeAt y (y .typecount - 1) .pace
+  pub there : typeAt z (y .typecount - 1) .there ≡ typeAt y (y .typecount - 1) .there
+  pub others : (i : ℕ) → (i ≡ y .typecount - 1 → ⊥) → typeAt z i ≡ typeAt y i
+
+-- C and T of the last type
+pub record SetsPace (c p : ℕ) (y z : System) : Type 0 where
+  pub platform : SamePlatform y z
+  pub some-type : 0 < y .typecount
+  pub typecount : z .typecount ≡ y .typecount
+  pub time : typeAt z (y .typecount - 1) .time ≡ typeAt y (y .typecount - 1) .time
+  pub memory : typeAt z (y .typecount - 1) .memory ≡ typeAt y (y .typecount - 1) .memory
+  pub ceiling : typeAt z (y .typecount - 1) .ceiling ≡ typeAt y (y .typecount - 1) .ceiling
+  pub «data» : typeAt z (y .typecount - 1) .data ≡ typeAt y (y .typecount - 1) .data
+  pub most : typeAt z (y .typecount - 1) .most ≡ typeAt y (y .typecount - 1) .most
+  pub pace-set : typeAt z (y .typecount - 1) .pace ≡ Paced (record { run = c; period = p })
   pub there : typeAt z (y .typecount - 1) .there ≡ typeAt y (y .typecount - 1) .there
   pub others : (i : ℕ) → (i ≡ y .typecount - 1 → ⊥) → typeAt z i ≡ typeAt y i
 
@@ -86,6 +105,7 @@ pub record SetsCosts (u s : ℕ) (y z : System) : Type 0 where
   pub ceiling : typeAt z (y .typecount - 1) .ceiling ≡ typeAt y (y .typecount - 1) .ceiling
   pub «data» : typeAt z (y .typecount - 1) .data ≡ typeAt y (y .typecount - 1) .data
   pub most : typeAt z (y .typecount - 1) .most ≡ typeAt y (y .typecount - 1) .most
+  pub pace : typeAt z (y .typecount - 1) .pace ≡ typeAt y (y .typecount - 1) .pace
   pub costs-set : typeAt z (y .typecount - 1) .there ≡ Takes (record { time = u; memory = s })
   pub others : (i : ℕ) → (i ≡ y .typecount - 1 → ⊥) → typeAt z i ≡ typeAt y i
 
@@ -99,9 +119,9 @@ pub record SetsSecond (n u s : ℕ) (y z : System) : Type 0 where
 same-platform : {y z : System} → z .engines ≡ y .engines → z .rule ≡ y .rule → z .timecap ≡ y .timecap → z .memorycap ≡ y .memorycap → z .second ≡ y .second → SamePlatform y z
 same-platform a b c d e = record { first = record { engines = a; rule = b; timecap = c; memorycap = d }; second = e }
 
-adds-type : (t : TaskType) (y : System) → y .typecount < length (y .types) → t .data ≡ 0 → t .most ≡ NotGiven → t .there ≡ Absent
+adds-type : (t : TaskType) (y : System) → y .typecount < length (y .types) → t .data ≡ 0 → t .most ≡ NotGiven → t .pace ≡ Unpaced → t .there ≡ Absent
     → AddsType (t .time) (t .memory) (t .ceiling) y (withType t y)
-adds-type t y h none no-limit no-costs =
+adds-type t y h none no-limit no-cycle no-costs =
     let new = getD-set-same (y .types) (y .typecount) t noTask h in
     record {
       platform = same-platform refl refl refl refl refl;
@@ -111,6 +131,7 @@ adds-type t y h none no-limit no-costs =
       ceiling = ap (λ (x : TaskType). x .ceiling) new;
       no-data = ap (λ (x : TaskType). x .data) new ∙ none;
       no-most = ap (λ (x : TaskType). x .most) new ∙ no-limit;
+      no-pace = ap (λ (x : TaskType). x .pace) new ∙ no-cycle;
       no-costs = ap (λ (x : TaskType). x .there) new ∙ no-costs;
       others = λ i n. getD-set-other (y .types) (y .typecount) i t noTask n;
     }
@@ -128,6 +149,7 @@ sets-data d y some h =
       ceiling = ap (λ (x : TaskType). x .ceiling) new;
       data-set = ap (λ (x : TaskType). x .data) new;
       most = ap (λ (x : TaskType). x .most) new;
+      pace = ap (λ (x : TaskType). x .pace) new;
       there = ap (λ (x : TaskType). x .there) new;
       others = λ i n. getD-set-other (y .types) (y .typecount - 1) i t noTask n;
     }
@@ -145,6 +167,25 @@ sets-most q y some h =
       ceiling = ap (λ (x : TaskType). x .ceiling) new;
       «data» = ap (λ (x : TaskType). x .data) new;
       most-set = ap (λ (x : TaskType). x .most) new;
+      pace = ap (λ (x : TaskType). x .pace) new;
+      there = ap (λ (x : TaskType). x .there) new;
+      others = λ i n. getD-set-other (y .types) (y .typecount - 1) i t noTask n;
+    }
+
+sets-pace : (c p : ℕ) (y : System) → 0 < y .typecount → y .typecount ≤ length (y .types) → SetsPace c p y (withLast (withPace c p (lastType y)) y)
+sets-pace c p y some h =
+    let t = withPace c p (lastType y) in
+    let new = getD-set-same (y .types) (y .typecount - 1) t noTask (omega arith) in
+    record {
+      platform = same-platform refl refl refl refl refl;
+      some-type = some;
+      typecount = refl;
+      time = ap (λ (x : TaskType). x .time) new;
+      memory = ap (λ (x : TaskType). x .memory) new;
+      ceiling = ap (λ (x : TaskType). x .ceiling) new;
+      «data» = ap (λ (x : TaskType). x .data) new;
+      most = ap (λ (x : TaskType). x .most) new;
+      pace-set = ap (λ (x : TaskType). x .pace) new;
       there = ap (λ (x : TaskType). x .there) new;
       others = λ i n. getD-set-other (y .types) (y .typecount - 1) i t noTask n;
     }
@@ -162,6 +203,7 @@ sets-costs u s y some h =
       ceiling = ap (λ (x : TaskType). x .ceiling) new;
       «data» = ap (λ (x : TaskType). x .data) new;
       most = ap (λ (x : TaskType). x .most) new;
+      pace = ap (λ (x : TaskType). x .pace) new;
       costs-set = ap (λ (x : TaskType). x .there) new;
       others = λ i n. getD-set-other (y .types) (y .typecount - 1) i t noTask n;
     }
@@ -179,13 +221,14 @@ module _ (s : List ℕ) (last : ℕ) (y z : System) (sound : Sound last y) (read
       at r tag e (a-platform w) = absurd (omega (arith, ap (λ (x : FieldRule). x .tag) w))
       at r tag e (a-data w) = absurd (omega (arith, ap (λ (x : FieldRule). x .tag) w))
       at r tag e (a-most w) = absurd (omega (arith, ap (λ (x : FieldRule). x .tag) w))
+      at r tag e (a-pace w) = absurd (omega (arith, ap (λ (x : FieldRule). x .tag) w))
       at r tag e (a-second w) = absurd (omega (arith, ap (λ (x : FieldRule). x .tag) w))
       at r tag e (a-costs w) = absurd (omega (arith, ap (λ (x : FieldRule). x .tag) w))
       at r tag e (a-type w) =
           let t = taskOf (word4 (bodyPart s) 0) (word4 (bodyPart s) 4) (word2 (bodyPart s) 8) in
           let q = passes (leb typeLimit (y .typecount)) 7 (typeOf (bodyPart s) y) z (rw w at e) in
           subst (AddsType (t .time) (t .memory) (t .ceiling) y) (no-fault (typeFault t) (withType t y) z (q .1) .1)
-          (adds-type t y (omega (arith, sound .six, leb-false typeLimit (y .typecount) (q .0))) refl refl refl)
+          (adds-type t y (omega (arith, sound .six, leb-false typeLimit (y .typecount) (q .0))) refl refl refl refl)
 
   pub data-sets : byteAt s 0 ≡ dataRule .tag → SetsData (word4 (bodyPart s) 0) y z
   unfolding bodyOf dataFrom
@@ -195,6 +238,7 @@ module _ (s : List ℕ) (last : ℕ) (y z : System) (sound : Sound last y) (read
       at r tag p e (a-platform w) = absurd (omega (arith, ap (λ (x : FieldRule). x .tag) w))
       at r tag p e (a-type w) = absurd (omega (arith, ap (λ (x : FieldRule). x .tag) w))
       at r tag p e (a-most w) = absurd (omega (arith, ap (λ (x : FieldRule). x .tag) w))
+      at r tag p e (a-pace w) = absurd (omega (arith, ap (λ (x : FieldRule). x .tag) w))
       at r tag p e (a-second w) = absurd (omega (arith, ap (λ (x : FieldRule). x .tag) w))
       at r tag p e (a-costs w) = absurd (omega (arith, ap (λ (x : FieldRule). x .tag) w))
       at r tag p e (a-data w) =
@@ -210,12 +254,29 @@ module _ (s : List ℕ) (last : ℕ) (y z : System) (sound : Sound last y) (read
       at r tag p e (a-platform w) = absurd (omega (arith, ap (λ (x : FieldRule). x .tag) w))
       at r tag p e (a-type w) = absurd (omega (arith, ap (λ (x : FieldRule). x .tag) w))
       at r tag p e (a-data w) = absurd (omega (arith, ap (λ (x : FieldRule). x .tag) w))
+      at r tag p e (a-pace w) = absurd (omega (arith, ap (λ (x : FieldRule). x .tag) w))
       at r tag p e (a-second w) = absurd (omega (arith, ap (λ (x : FieldRule). x .tag) w))
       at r tag p e (a-costs w) = absurd (omega (arith, ap (λ (x : FieldRule). x .tag) w))
       at r tag p e (a-most w) =
           let t = withMost (word2 (bodyPart s) 0) (lastType y) in
           subst (SetsMost (word2 (bodyPart s) 0) y) (no-fault (mostFault (t .most)) (withLast t y) z (rw w at e) .1)
           (sets-most (word2 (bodyPart s) 0) y (sound .some-type (part-later r last (a-most w) (omega arith) (λ n. omega arith) p)) (omega (arith, sound .six, sound .typecount)))
+
+  pub pace-sets : byteAt s 0 ≡ paceRule .tag → SetsPace (word4 (bodyPart s) 0) (word4 (bodyPart s) 4) y z
+  unfolding bodyOf paceFrom
+  pace-sets is = let a = fieldOf-opened s last y z read in at (a .rule) (a .passed .rule .same-tag ∙ is) (a .passed .place) (a .body) (a .passed .rule .which)
+    where
+      at : (r : FieldRule) → r .tag ≡ paceRule .tag → mayFollow follows last (r .tag) ≡ true → bodyOf r (bodyPart s) y ≡ opened z → OneOf r → SetsPace (word4 (bodyPart s) 0) (word4 (bodyPart s) 4) y z
+      at r tag p e (a-platform w) = absurd (omega (arith, ap (λ (x : FieldRule). x .tag) w))
+      at r tag p e (a-type w) = absurd (omega (arith, ap (λ (x : FieldRule). x .tag) w))
+      at r tag p e (a-data w) = absurd (omega (arith, ap (λ (x : FieldRule). x .tag) w))
+      at r tag p e (a-most w) = absurd (omega (arith, ap (λ (x : FieldRule). x .tag) w))
+      at r tag p e (a-second w) = absurd (omega (arith, ap (λ (x : FieldRule). x .tag) w))
+      at r tag p e (a-costs w) = absurd (omega (arith, ap (λ (x : FieldRule). x .tag) w))
+      at r tag p e (a-pace w) =
+          let t = withPace (word4 (bodyPart s) 0) (word4 (bodyPart s) 4) (lastType y) in
+          subst (SetsPace (word4 (bodyPart s) 0) (word4 (bodyPart s) 4) y) (no-fault (paceFault (y .timecap) (t .time) (t .pace)) (withLast t y) z (rw w at e) .1)
+          (sets-pace (word4 (bodyPart s) 0) (word4 (bodyPart s) 4) y (sound .some-type (part-later r last (a-pace w) (omega arith) (λ n. omega arith) p)) (omega (arith, sound .six, sound .typecount)))
 
   pub costs-sets : byteAt s 0 ≡ costsRule .tag → SetsCosts (word4 (bodyPart s) 0) (word4 (bodyPart s) 4) y z
   unfolding bodyOf costsFrom
@@ -226,6 +287,7 @@ module _ (s : List ℕ) (last : ℕ) (y z : System) (sound : Sound last y) (read
       at r tag p e (a-type w) = absurd (omega (arith, ap (λ (x : FieldRule). x .tag) w))
       at r tag p e (a-data w) = absurd (omega (arith, ap (λ (x : FieldRule). x .tag) w))
       at r tag p e (a-most w) = absurd (omega (arith, ap (λ (x : FieldRule). x .tag) w))
+      at r tag p e (a-pace w) = absurd (omega (arith, ap (λ (x : FieldRule). x .tag) w))
       at r tag p e (a-second w) = absurd (omega (arith, ap (λ (x : FieldRule). x .tag) w))
       at r tag p e (a-costs w) =
           let t = withCosts (word4 (bodyPart s) 0) (word4 (bodyPart s) 4) (lastType y) in
@@ -241,6 +303,7 @@ module _ (s : List ℕ) (last : ℕ) (y z : System) (sound : Sound last y) (read
       at r tag e (a-type w) = absurd (omega (arith, ap (λ (x : FieldRule). x .tag) w))
       at r tag e (a-data w) = absurd (omega (arith, ap (λ (x : FieldRule). x .tag) w))
       at r tag e (a-most w) = absurd (omega (arith, ap (λ (x : FieldRule). x .tag) w))
+      at r tag e (a-pace w) = absurd (omega (arith, ap (λ (x : FieldRule). x .tag) w))
       at r tag e (a-costs w) = absurd (omega (arith, ap (λ (x : FieldRule). x .tag) w))
       at r tag e (a-second w) =
           let n = byteAt (bodyPart s) 0 in
@@ -271,17 +334,38 @@ pub most-within : (q : ℕ) (y : System) → 1 ≤ q → mostFrom q y ≡ opened
 unfolding mostFrom
 most-within q y h = rw (ne-eqb q 0 (λ none. omega arith))
 
+-- C and T are judged by the last type's u and the platform's U: 43 where they break the bounds, and any others are read
+module _ (c p : ℕ) (y : System) where
+  pub pace-breaks : cycleKeeps (y .timecap) (lastType y .time) (record { run = c; period = p }) ≡ false → paceFrom c p y ≡ unread 43
+  unfolding paceFrom
+  pace-breaks e = rw e
+
+  pub pace-keeps : cycleKeeps (y .timecap) (lastType y .time) (record { run = c; period = p }) ≡ true → paceFrom c p y ≡ opened (withLast (withPace c p (lastType y)) y)
+  unfolding paceFrom
+  pace-keeps e = rw e
+
 -- of a whole field that refusals 1 to 4 do not stop
 pub most-zero-field : (s : List ℕ) (last : ℕ) (y : System) → headOf s last ≡ Ruled mostRule → word2 (bodyPart s) 0 ≡ 0 → fieldOf s last y ≡ unread 31
 unfolding fieldOf ruledField bodyOf
 most-zero-field s last y head none = rw head (ap (λ (q : ℕ). mostFrom q y) none ∙ most-zero y)
 
--- and of a whole file: no q of a system that is read is 0, and no u and s on the second kind is over the limit
+pub pace-breaks-field : (s : List ℕ) (last : ℕ) (y : System) → headOf s last ≡ Ruled paceRule
+    → cycleKeeps (y .timecap) (lastType y .time) (record { run = word4 (bodyPart s) 0; period = word4 (bodyPart s) 4 }) ≡ false → fieldOf s last y ≡ unread 43
+unfolding fieldOf ruledField bodyOf
+pace-breaks-field s last y head e = rw head (pace-breaks (word4 (bodyPart s) 0) (word4 (bodyPart s) 4) y e)
+
+-- and of a whole file: no q of a system that is read is 0, its C and T keep their bounds, and no u and s on the second kind is over the limit
 pub read-replicas-card : (file : List ℕ) (y : System) → readCard file ≡ opened y → (i q : ℕ) → typeAt y i .most ≡ AtMost q → 1 ≤ q
 read-replicas-card file y read i q is = some-replica (typeAt y i .most) q (read-card-limits file y read .replicas i) is
 
 pub read-replicas : (file : List ℕ) (y : System) → readFile file ≡ opened y → (i q : ℕ) → typeAt y i .most ≡ AtMost q → 1 ≤ q
 read-replicas file y read i q is = read-replicas-card file y (file-card file y read .0) i q is
+
+pub read-cycles-card : (file : List ℕ) (y : System) → readCard file ≡ opened y → (i : ℕ) (c : Cycle) → typeAt y i .pace ≡ Paced c → CycleLimits (y .timecap) (typeAt y i .time) c
+read-cycles-card file y read i c is = cycle-limits (y .timecap) (typeAt y i .time) (typeAt y i .pace) c (read-card-limits file y read .paces i) is
+
+pub read-cycles : (file : List ℕ) (y : System) → readFile file ≡ opened y → (i : ℕ) (c : Cycle) → typeAt y i .pace ≡ Paced c → CycleLimits (y .timecap) (typeAt y i .time) c
+read-cycles file y read i c is = read-cycles-card file y (file-card file y read .0) i c is
 
 pub read-costs : (file : List ℕ) (y : System) → readCard file ≡ opened y → (i : ℕ) (c : Costs) → typeAt y i .there ≡ Takes c → (c .time ≤ sizeLimit) × (c .memory ≤ sizeLimit)
 read-costs file y read i c is = costs-sized (typeAt y i .there) c (read-card-limits file y read .costs i) is

@@ -20,10 +20,10 @@ use Rattle.system.specs.declared.Opened.{Opened}
 use Rattle.system.specs.Inner.{partOf, Typed, PastTypes, BodyReady}
 use Rattle.system.specs.Values.{blank}
 use Rattle.system.specs.Limits.{typeLimit, orElse, isOneKind}
-use Rattle.system.specs.Rules.{typeRule, dataRule, mostRule, secondRule, costsRule, fieldRules, ruleOf, follows, mayFollow, headSize}
-use Rattle.system.specs.Layout.{Reading, opened, unread, byteAt, word2, fieldSize, wholeField, bodyPart, fieldAt, bodyAt, seenOf, unlessFault, platformOf, typeOf, dataOf, mostOf, secondOf, costsOf}
+use Rattle.system.specs.Rules.{typeRule, dataRule, mostRule, paceRule, secondRule, costsRule, fieldRules, ruleOf, follows, mayFollow, headSize}
+use Rattle.system.specs.Layout.{Reading, opened, unread, byteAt, word2, fieldSize, wholeField, bodyPart, fieldAt, bodyAt, seenOf, unlessFault, platformOf, typeOf, dataOf, mostOf, paceOf, secondOf, costsOf}
 use Rattle.system.specs.Layout.{ruledHead, headFrom, headOf, bodyOf, ruledField, fieldOf, endOf, afterField, fieldsFrom, readCard, ofOneKind, Reads}
-use Rattle.system.proofs.Laws.{whole-inside, body-is, OneOf, a-platform, a-type, a-data, a-most, a-second, a-costs, part-later, headFrom-ruled, fieldOf-opened, fieldsFrom-nil, only-accepted, reads-opened}
+use Rattle.system.proofs.Laws.{whole-inside, body-is, OneOf, a-platform, a-type, a-data, a-most, a-pace, a-second, a-costs, part-later, headFrom-ruled, fieldOf-opened, fieldsFrom-nil, only-accepted, reads-opened}
 use Rattle.system.proofs.Laws.{Sound, sound-blank, sound-field}
 
 -- The field step, where s is what is left of the file
@@ -109,6 +109,7 @@ rule-six rule (a-platform w) = rw w (lit≤ tt)
 rule-six rule (a-type w) = rw w (lit≤ tt)
 rule-six rule (a-data w) = rw w (lit≤ tt)
 rule-six rule (a-most w) = rw w (lit≤ tt)
+rule-six rule (a-pace w) = rw w (lit≤ tt)
 rule-six rule (a-second w) = rw w (lit≤ tt)
 rule-six rule (a-costs w) = rw w (lit≤ tt)
 
@@ -147,41 +148,56 @@ module _ (rule : FieldRule) (b : List ℕ) (y : System) (x : Opened) (seen : ℕ
           ) read
 
       module _ (no-most : rule .tag ≡ mostRule .tag → ⊥) where
-        pub body-second : rule .tag ≡ secondRule .tag → Reads (secondOf b y) x → Reads (bodyOf rule b y) x
+        pub body-pace : rule .tag ≡ paceRule .tag → Reads (paceOf b y) x → Reads (bodyOf rule b y) x
         unfolding bodyOf
-        body-second q read =
+        body-pace q read =
             rw (
               lt-leb (rule .allowed) (seenOf (rule .tag) y) (omega arith),
               ne-eqb (rule .tag) (typeRule .tag) other,
               ne-eqb (rule .tag) (dataRule .tag) no-data,
               ne-eqb (rule .tag) (mostRule .tag) no-most,
-              eq-eqb (rule .tag) (secondRule .tag) q,
+              eq-eqb (rule .tag) (paceRule .tag) q,
             ) read
 
-        module _ (no-second : rule .tag ≡ secondRule .tag → ⊥) where
-          pub body-costs : rule .tag ≡ costsRule .tag → Reads (costsOf b y) x → Reads (bodyOf rule b y) x
+        module _ (no-pace : rule .tag ≡ paceRule .tag → ⊥) where
+          pub body-second : rule .tag ≡ secondRule .tag → Reads (secondOf b y) x → Reads (bodyOf rule b y) x
           unfolding bodyOf
-          body-costs q read =
+          body-second q read =
               rw (
                 lt-leb (rule .allowed) (seenOf (rule .tag) y) (omega arith),
                 ne-eqb (rule .tag) (typeRule .tag) other,
                 ne-eqb (rule .tag) (dataRule .tag) no-data,
                 ne-eqb (rule .tag) (mostRule .tag) no-most,
-                ne-eqb (rule .tag) (secondRule .tag) no-second,
-                eq-eqb (rule .tag) (costsRule .tag) q,
+                ne-eqb (rule .tag) (paceRule .tag) no-pace,
+                eq-eqb (rule .tag) (secondRule .tag) q,
               ) read
 
-          pub body-platform : (rule .tag ≡ costsRule .tag → ⊥) → Reads (platformOf b y) x → Reads (bodyOf rule b y) x
-          unfolding bodyOf
-          body-platform q read =
-              rw (
-                lt-leb (rule .allowed) (seenOf (rule .tag) y) (omega arith),
-                ne-eqb (rule .tag) (typeRule .tag) other,
-                ne-eqb (rule .tag) (dataRule .tag) no-data,
-                ne-eqb (rule .tag) (mostRule .tag) no-most,
-                ne-eqb (rule .tag) (secondRule .tag) no-second,
-                ne-eqb (rule .tag) (costsRule .tag) q,
-              ) read
+          module _ (no-second : rule .tag ≡ secondRule .tag → ⊥) where
+            pub body-costs : rule .tag ≡ costsRule .tag → Reads (costsOf b y) x → Reads (bodyOf rule b y) x
+            unfolding bodyOf
+            body-costs q read =
+                rw (
+                  lt-leb (rule .allowed) (seenOf (rule .tag) y) (omega arith),
+                  ne-eqb (rule .tag) (typeRule .tag) other,
+                  ne-eqb (rule .tag) (dataRule .tag) no-data,
+                  ne-eqb (rule .tag) (mostRule .tag) no-most,
+                  ne-eqb (rule .tag) (paceRule .tag) no-pace,
+                  ne-eqb (rule .tag) (secondRule .tag) no-second,
+                  eq-eqb (rule .tag) (costsRule .tag) q,
+                ) read
+
+            pub body-platform : (rule .tag ≡ costsRule .tag → ⊥) → Reads (platformOf b y) x → Reads (bodyOf rule b y) x
+            unfolding bodyOf
+            body-platform q read =
+                rw (
+                  lt-leb (rule .allowed) (seenOf (rule .tag) y) (omega arith),
+                  ne-eqb (rule .tag) (typeRule .tag) other,
+                  ne-eqb (rule .tag) (dataRule .tag) no-data,
+                  ne-eqb (rule .tag) (mostRule .tag) no-most,
+                  ne-eqb (rule .tag) (paceRule .tag) no-pace,
+                  ne-eqb (rule .tag) (secondRule .tag) no-second,
+                  ne-eqb (rule .tag) (costsRule .tag) q,
+                ) read
 
 pub types-seen : (tag : ℕ) (y : System) → tag ≡ typeRule .tag → seenOf tag y ≡ y .typecount
 types-seen tag y e = rw (eq-eqb tag (typeRule .tag) e)

@@ -1,5 +1,5 @@
 -- Laws of the definitions of crate `system`: the limits of a card, of one kind of engine or two, and those of a system of one kind, as plain facts; that every file that is read keeps them; and that a file reads as one of one kind exactly where it reads as a card and has no second kind.
-use Prim.Native.Nat.{ℕ, zero, suc, _+_, _-_, _≤_, _<_, min, zero-le}
+use Prim.Native.Nat.{ℕ, zero, suc, _+_, _-_, _*_, _≤_, _<_, min, zero-le}
 use native.Mathlib.Omega.{arith}
 use native.Mathlib.Nat.{mul-pos, mul-le-mul-left, mul-le-mul-right, min-eq-left, min-eq-right}
 use mathlib.Core.List.{List, [], _∷_}
@@ -12,6 +12,9 @@ use lib.Seq.{getD-set-other, drop-drop}
 use lib.Dec.{leb, eqb}
 use Rattle.system.specs.declared.Most.{Most}
 use Rattle.system.specs.declared.Most.the-variants.{NotGiven, AtMost}
+use Rattle.system.specs.declared.Cycle.{Cycle}
+use Rattle.system.specs.declared.Pace.{Pace}
+use Rattle.system.specs.declared.Pace.the-variants.{Unpaced, Paced}
 use Rattle.system.specs.declared.Costs.{Costs}
 use Rattle.system.specs.declared.There.{There}
 use Rattle.system.specs.declared.There.the-variants.{Absent, Takes}
@@ -31,13 +34,13 @@ use Rattle.system.specs.declared.Answer.the-variants.{Accepted, Number, 
 use Rattle.system.specs.declared.Refusal.{Refusal}
 use Rattle.system.specs.declared.Refusal.the-variants.{Input, State}
 use Rattle.system.specs.Inner.{partOf, PastTypes}
-use Rattle.system.specs.Values.{taskOf, withData, withMost, withCosts, noTask, blank, withPlatform, withSecond, withType, lastType, withLast, ceilingsOf}
-use Rattle.system.specs.Limits.{engineLimit, typeLimit, sizeLimit, columnLimit, columnsOf, columns}
-use Rattle.system.specs.Limits.{orElse, sizeFault, platformFault, kindFault, secondFault, typeFault, mostFault, costsFault, columnsFault}
-use Rattle.system.specs.Limits.{notGiven, given, isOneKind, kindsAgree, kindsFault, zeroTask, soundTask, typesKeep, keepsCard, keepsLimits}
+use Rattle.system.specs.Values.{taskOf, withData, withMost, withPace, withCosts, noTask, blank, withPlatform, withSecond, withType, lastType, withLast, ceilingsOf}
+use Rattle.system.specs.Limits.{engineLimit, typeLimit, sizeLimit, columnLimit, tickLimit, columnsOf, columns}
+use Rattle.system.specs.Limits.{orElse, sizeFault, platformFault, kindFault, secondFault, typeFault, mostFault, cycleKeeps, paceFault, pacesFault, costsFault, columnsFault}
+use Rattle.system.specs.Limits.{notGiven, unpaced, given, isOneKind, kindsAgree, kindsFault, zeroTask, soundTask, typesKeep, keepsCard, keepsLimits}
 use Rattle.system.specs.Layout.{Reading, opened, unread, byteAt, word2, word4, headSize, fieldSize, headedField, wholeField, bodyPart, fieldAt, bodyAt}
-use Rattle.system.specs.Layout.{platformRule, typeRule, dataRule, mostRule, secondRule, costsRule, fieldRules, ruleOf, follows, mayFollow, unlessFault}
-use Rattle.system.specs.Layout.{platformFrom, platformOf, typeFrom, typeOf, dataFrom, dataOf, mostFrom, mostOf, secondFrom, secondOf, costsFrom, costsOf}
+use Rattle.system.specs.Layout.{platformRule, typeRule, dataRule, mostRule, paceRule, secondRule, costsRule, fieldRules, ruleOf, follows, mayFollow, unlessFault}
+use Rattle.system.specs.Layout.{platformFrom, platformOf, typeFrom, typeOf, dataFrom, dataOf, mostFrom, mostOf, paceFrom, paceOf, secondFrom, secondOf, costsFrom, costsOf}
 use Rattle.system.specs.Layout.{ruledHead, headFrom, headOf, bodyOf, ruledField, fieldOf, endOf, afterField, fieldsFrom, readCard, ofOneKind, readFile, readOutcome, Reads}
 use Rattle.system.specs.Outcome.{accepted, refused, fromInput, refusalOf, outcomeOf}
 
@@ -80,6 +83,10 @@ not-given : (m : Most) → notGiven m ≡ true → m ≡ NotGiven
 not-given NotGiven e = refl
 not-given (AtMost q) e = absurd (false≢true e)
 
+not-paced : (x : Pace) → unpaced x ≡ true → x ≡ Unpaced
+not-paced Unpaced e = refl
+not-paced (Paced c) e = absurd (false≢true e)
+
 not-there : (x : There) → not (given x) ≡ true → x ≡ Absent
 not-there Absent e = refl
 not-there (Takes c) e = absurd (false≢true e)
@@ -87,8 +94,8 @@ not-there (Takes c) e = absurd (false≢true e)
 zero-task : (t : TaskType) → zeroTask t ≡ true → t ≡ noTask
 zero-task t e =
     let numbers = eqb (t .time) 0 && eqb (t .memory) 0 && eqb (t .ceiling) 0 && eqb (t .data) 0 in
-    let here = and-parts (numbers && notGiven (t .most)) (not (given (t .there))) e in
-    let none = and-parts numbers (notGiven (t .most)) (here .0) in
+    let here = and-parts (numbers && notGiven (t .most) && unpaced (t .pace)) (not (given (t .there))) e in
+    let none = and-three numbers (notGiven (t .most)) (unpaced (t .pace)) (here .0) in
     let last = and-parts (eqb (t .time) 0 && eqb (t .memory) 0 && eqb (t .ceiling) 0) (eqb (t .data) 0) (none .0) in
     let p = and-three (eqb (t .time) 0) (eqb (t .memory) 0) (eqb (t .ceiling) 0) (last .0) in
     let time = eqb-true (t .time) 0 (p .0) in
@@ -96,8 +103,9 @@ zero-task t e =
     let ceiling = eqb-true (t .ceiling) 0 (p .2) in
     let extra = eqb-true (t .data) 0 (last .1) in
     let most = not-given (t .most) (none .1) in
+    let pace = not-paced (t .pace) (none .2) in
     let there = not-there (t .there) (here .1) in
-    λ i. record { time = time i; memory = memory i; ceiling = ceiling i; «data» = extra i; most = most i; there = there i }
+    λ i. record { time = time i; memory = memory i; ceiling = ceiling i; «data» = extra i; most = most i; pace = pace i; there = there i }
 
 -- past k a task is 0, and has nothing given
 types-past : (k : ℕ) (ts : List TaskType) → typesKeep k ts ≡ true → (i : ℕ) → k ≤ i → getD ts i noTask ≡ noTask
@@ -118,6 +126,14 @@ pub record Sized (t : TaskType) : Type 0 where
 faultless : (b : Bool) (n x : ℕ) → 0 < n → cond (not b) n x ≡ 0 → (b ≡ true) × (x ≡ 0)
 faultless true n x h e = (refl, e)
 faultless false n x h e = absurd (omega arith)
+
+-- of two tests neither finds a fault
+pub neither : (a b : ℕ) → orElse a b ≡ 0 → (a ≡ 0) × (b ≡ 0)
+neither a b e = go (eqb a 0) refl e
+  where
+    go : (c : Bool) → eqb a 0 ≡ c → cond c b a ≡ 0 → (a ≡ 0) × (b ≡ 0)
+    go true q e = (eqb-true a 0 q, e)
+    go false q e = absurd (eqb-false a 0 q e)
 
 sizes-kept : (u s : ℕ) → sizeFault u s ≡ 0 → (u ≤ sizeLimit) × (s ≤ sizeLimit)
 sizes-kept u s e =
@@ -150,6 +166,72 @@ some-replica m q e is = go (eqb q 0) refl (rw is at e)
 pub replicas-keep : (m : Most) → ((q : ℕ) → m ≡ AtMost q → 1 ≤ q) → mostFault m ≡ 0
 replicas-keep NotGiven some = refl
 replicas-keep (AtMost q) some = rw (ne-eqb q 0 (λ none. omega (arith, some q refl)))
+
+-- C and T of a type of this u, on engines of this U, within the limits
+pub record CycleLimits (whole u : ℕ) (c : Cycle) : Type 0 where
+  pub some-run : 1 ≤ c .run
+  pub runs : c .run ≤ c .period
+  pub period : c .period ≤ tickLimit
+  pub some-time : 1 ≤ whole
+  -- of each period an instance runs no more of an engine than u is of its U
+  pub share : c .run * whole ≤ u * c .period
+
+pub cycle-limits : (whole u : ℕ) (x : Pace) (c : Cycle) → paceFault whole u x ≡ 0 → x ≡ Paced c → CycleLimits whole u c
+cycle-limits whole u x c e is =
+    let some = leb 1 (c .run) in
+    let within = leb (c .run) (c .period) in
+    let period = leb (c .period) tickLimit in
+    let whole-some = leb 1 whole in
+    let share = leb (c .run * whole) (u * c .period) in
+    let all = and-three (some && within && period) whole-some share (faultless (cycleKeeps whole u c) 43 0 (omega arith) (ap (paceFault whole u) (sym is) ∙ e) .0) in
+    let bounds = and-three some within period (all .0) in
+    record {
+      some-run = leb-true 1 (c .run) (bounds .0);
+      runs = leb-true (c .run) (c .period) (bounds .1);
+      period = leb-true (c .period) tickLimit (bounds .2);
+      some-time = leb-true 1 whole (all .1);
+      share = leb-true (c .run * whole) (u * c .period) (all .2);
+    }
+
+pub cycle-keep : (whole u : ℕ) (x : Pace) → ((c : Cycle) → x ≡ Paced c → CycleLimits whole u c) → paceFault whole u x ≡ 0
+cycle-keep whole u Unpaced all = refl
+cycle-keep whole u (Paced c) all =
+    let l = all c refl in
+    rw (
+      le-leb 1 (c .run) (l .some-run),
+      le-leb (c .run) (c .period) (l .runs),
+      le-leb (c .period) tickLimit (l .period),
+      le-leb 1 whole (l .some-time),
+      le-leb (c .run * whole) (u * c .period) (l .share),
+    )
+
+-- C and T of a task, on engines of this U: not given, or within the limits
+abbrev Runs : ℕ → TaskType → Type 0
+Runs whole t = paceFault whole (t .time) (t .pace) ≡ 0
+
+-- those of the first k types find no fault exactly where each of them finds none
+pub paces-each : (whole k : ℕ) (ts : List TaskType) → pacesFault whole k ts ≡ 0 → (i : ℕ) → i < k → paceFault whole (getD ts i noTask .time) (getD ts i noTask .pace) ≡ 0
+unfolding pacesFault
+paces-each whole k [] e i h = refl
+paces-each whole zero (t ∷ ts) e i h = absurd (omega arith)
+paces-each whole (suc k) (t ∷ ts) e zero h = neither (paceFault whole (t .time) (t .pace)) (pacesFault whole k ts) e .0
+paces-each whole (suc k) (t ∷ ts) e (suc i) h = paces-each whole k ts (neither (paceFault whole (t .time) (t .pace)) (pacesFault whole k ts) e .1) i (omega arith)
+
+pub each-paces : (whole k : ℕ) (ts : List TaskType) → ((i : ℕ) → i < k → paceFault whole (getD ts i noTask .time) (getD ts i noTask .pace) ≡ 0) → pacesFault whole k ts ≡ 0
+unfolding pacesFault
+each-paces whole k [] all = refl
+each-paces whole zero (t ∷ ts) all = refl
+each-paces whole (suc k) (t ∷ ts) all =
+    let later = each-paces whole k ts (λ i h. all (suc i) (omega arith)) in
+    rw (all zero (omega arith), later)
+
+-- and of every entry, where those past k are 0
+paces-all : (whole k : ℕ) (ts : List TaskType) → ((i : ℕ) → k ≤ i → getD ts i noTask ≡ noTask) → pacesFault whole k ts ≡ 0 → (i : ℕ) → Runs whole (getD ts i noTask)
+paces-all whole k ts past e i = go (leb k i) refl
+  where
+    go : (b : Bool) → leb k i ≡ b → Runs whole (getD ts i noTask)
+    go true p = ap (λ (t : TaskType). paceFault whole (t .time) (t .pace)) (past i (leb-true k i p))
+    go false p = paces-each whole k ts e i (leb-false k i p)
 
 -- u and s of a task on the second kind: not given, or within the limits
 abbrev Costed : TaskType → Type 0
@@ -245,9 +327,10 @@ pub record CardLimits (y : System) : Type 0 where
   pub columns : columnsOf (ceilingsOf y) ≤ columnLimit
   -- entries past k are 0, with nothing given
   pub past : (i : ℕ) → y .typecount ≤ i → getD (y .types) i noTask ≡ noTask
-  -- u, s and d of every entry, its q, and its u and s on the second kind
+  -- u, s and d of every entry, its q, its C and T, and its u and s on the second kind
   pub sized : (i : ℕ) → Sized (getD (y .types) i noTask)
   pub replicas : (i : ℕ) → mostFault (getD (y .types) i noTask .most) ≡ 0
+  pub paces : (i : ℕ) → paceFault (y .timecap) (getD (y .types) i noTask .time) (getD (y .types) i noTask .pace) ≡ 0
   pub costs : (i : ℕ) → costsFault (getD (y .types) i noTask .there) ≡ 0
   -- the second kind's number, U and S, and that all of it is given or nothing
   pub second : secondFault (y .engines) (y .second) ≡ 0
@@ -266,9 +349,10 @@ pub record Limits (y : System) : Type 0 where
   pub columns : columnsOf (ceilingsOf y) ≤ columnLimit
   -- entries past k are 0, with nothing given
   pub past : (i : ℕ) → y .typecount ≤ i → getD (y .types) i noTask ≡ noTask
-  -- u, s and d of every entry, and its q
+  -- u, s and d of every entry, its q, and its C and T
   pub sized : (i : ℕ) → Sized (getD (y .types) i noTask)
   pub replicas : (i : ℕ) → mostFault (getD (y .types) i noTask .most) ≡ 0
+  pub paces : (i : ℕ) → paceFault (y .timecap) (getD (y .types) i noTask .time) (getD (y .types) i noTask .pace) ≡ 0
   -- nothing of a second kind is given
   pub oneKind : y .second ≡ OneKind
   pub absent : (i : ℕ) → getD (y .types) i noTask .there ≡ Absent
@@ -308,10 +392,13 @@ unfolding keepsCard
 card-of y q =
     let fault = platformFault (y .engines) (y .rule) (y .timecap) (y .memorycap) in
     let one = eqb fault 0 && leb 1 (y .typecount) && leb (y .typecount) typeLimit && eqb (length (y .types)) typeLimit && typesKeep (y .typecount) (y .types) && eqb (columnsFault (y .types)) 0 in
-    let kinds = and-three one (eqb (secondFault (y .engines) (y .second)) 0) (eqb (kindsFault y) 0) q in
+    let runs = eqb (pacesFault (y .timecap) (y .typecount) (y .types)) 0 in
+    let kinds = and-three (one && runs) (eqb (secondFault (y .engines) (y .second)) 0) (eqb (kindsFault y) 0) q in
+    let both = and-parts one runs (kinds .0) in
     let p =
     six-true (eqb fault 0) (leb 1 (y .typecount)) (leb (y .typecount) typeLimit) (eqb (length (y .types)) typeLimit) (typesKeep (y .typecount) (y .types))
-    (eqb (columnsFault (y .types)) 0) (kinds .0) in
+    (eqb (columnsFault (y .types)) 0) (both .0) in
+    let past = types-past (y .typecount) (y .types) (p .4) in
     let platform = platform-kept (y .engines) (y .rule) (y .timecap) (y .memorycap) (eqb-true fault 0 (p .0)) in
     record {
       some-engine = platform .some-engine;
@@ -323,9 +410,10 @@ card-of y q =
       typecount = leb-true (y .typecount) typeLimit (p .2);
       six = eqb-true (length (y .types)) typeLimit (p .3);
       columns = columns-kept y (eqb-true (columnsFault (y .types)) 0 (p .5));
-      past = types-past (y .typecount) (y .types) (p .4);
+      past = past;
       sized = types-have Sized sized-none (λ t h. sound-task t h .0) (y .typecount) (y .types) (p .4);
       replicas = types-have Limited refl (λ t h. sound-task t h .1) (y .typecount) (y .types) (p .4);
+      paces = paces-all (y .timecap) (y .typecount) (y .types) past (eqb-true (pacesFault (y .timecap) (y .typecount) (y .types)) 0 (both .1));
       costs = types-have Costed refl (λ t h. sound-task t h .2) (y .typecount) (y .types) (p .4);
       second = eqb-true (secondFault (y .engines) (y .second)) 0 (kinds .1);
       kinds = kinds-kept y (eqb-true (kindsFault y) 0 (kinds .2));
@@ -354,6 +442,7 @@ card-limits y l one =
       past = l .past;
       sized = l .sized;
       replicas = l .replicas;
+      paces = l .paces;
       oneKind = one;
       absent = all-absent y l one;
     }
@@ -373,6 +462,7 @@ limits-card y l =
       past = l .past;
       sized = l .sized;
       replicas = l .replicas;
+      paces = l .paces;
       costs = λ i. ap costsFault (l .absent i);
       second = ap (secondFault (y .engines)) (l .oneKind);
       kinds = ap (λ (x : Second). kindsAgree (isOneKind x) (y .typecount) (y .types)) (l .oneKind) ∙ absent-kinds (y .typecount) (y .types) (l .absent);
@@ -431,6 +521,7 @@ card-keep y l =
       eq-eqb (length (y .types)) typeLimit (l .six),
       types-keep (y .typecount) (y .types) (l .past) (l .sized) (l .replicas) (l .costs),
       le-leb (columns y) columnLimit (l .columns),
+      each-paces (y .timecap) (y .typecount) (y .types) (λ i h. l .paces i),
       l .second,
       l .kinds,
     )
@@ -462,7 +553,10 @@ pub record Sound (last : ℕ) (y : System) : Type 0 where
   pub past : (i : ℕ) → y .typecount ≤ i → getD (y .types) i noTask ≡ noTask
   pub sized : (i : ℕ) → Sized (getD (y .types) i noTask)
   pub replicas : (i : ℕ) → mostFault (getD (y .types) i noTask .most) ≡ 0
+  pub paces : (i : ℕ) → paceFault (y .timecap) (getD (y .types) i noTask .time) (getD (y .types) i noTask .pace) ≡ 0
   pub costs : (i : ℕ) → costsFault (getD (y .types) i noTask .there) ≡ 0
+  -- every type comes after the platform, and its C and T were judged with that U
+  none-first : last ≡ 0 → y .typecount ≡ 0
   -- a second kind comes after the platform, and was judged with its number of engines
   pub one-first : last ≡ 0 → y .second ≡ OneKind
   pub second : (last ≡ 0 → ⊥) → secondFault (y .engines) (y .second) ≡ 0
@@ -482,7 +576,9 @@ sound-blank =
       past = λ i h. getD-blank typeLimit i;
       sized = λ i. subst Sized (sym (getD-blank typeLimit i)) sized-none;
       replicas = λ i. ap (λ (t : TaskType). mostFault (t .most)) (getD-blank typeLimit i);
+      paces = λ i. ap (λ (t : TaskType). paceFault 0 (t .time) (t .pace)) (getD-blank typeLimit i);
       costs = λ i. ap (λ (t : TaskType). costsFault (t .there)) (getD-blank typeLimit i);
+      none-first = λ e. refl;
       one-first = λ e. refl;
       second = λ n. refl;
       platform = λ n. absurd (n refl);
@@ -491,14 +587,6 @@ sound-blank =
 pub either-false : (a b : Bool) → a || b ≡ false → (a ≡ false) × (b ≡ false)
 either-false false b e = (refl, e)
 either-false true b e = absurd (false≢true (sym e))
-
--- of two tests neither finds a fault
-pub neither : (a b : ℕ) → orElse a b ≡ 0 → (a ≡ 0) × (b ≡ 0)
-neither a b e = go (eqb a 0) refl e
-  where
-    go : (c : Bool) → eqb a 0 ≡ c → cond c b a ≡ 0 → (a ≡ 0) × (b ≡ 0)
-    go true q e = (eqb-true a 0 q, e)
-    go false q e = absurd (eqb-false a 0 q e)
 
 sound-end : (last : ℕ) (y z : System) → Sound last y → endOf last y ≡ opened z → keepsCard z ≡ true
 unfolding endOf
@@ -523,12 +611,13 @@ sound-end last y z s e =
       past = s .past;
       sized = s .sized;
       replicas = s .replicas;
+      paces = s .paces;
       costs = s .costs;
       second = s .second (eqb-false last 0 (some .0));
       kinds = kinds-kept y (both .0);
     }))
 
--- a platform's body, which comes first: there is no second kind yet
+-- a platform's body, which comes first: there is no type and no second kind yet
 sound-platform : (b : List ℕ) (last : ℕ) (y z : System) → Sound last y → last ≡ 0 → platformOf b y ≡ opened z → Sound (platformRule .tag) z
 unfolding platformFrom
 sound-platform b last y z s first e =
@@ -541,7 +630,9 @@ sound-platform b last y z s first e =
       past = s .past;
       sized = s .sized;
       replicas = s .replicas;
+      paces = λ i. ap (λ (t : TaskType). paceFault (word4 b 2) (t .time) (t .pace)) (s .past i (omega (arith, s .none-first first)));
       costs = s .costs;
+      none-first = λ e. absurd (omega arith);
       one-first = λ e. absurd (omega arith);
       second = λ n. ap (secondFault (byteAt b 0)) (s .one-first first);
       platform = λ n. platform-kept (byteAt b 0) (byteAt b 1) (word4 b 2) (word4 b 6) (p .0);
@@ -560,7 +651,9 @@ sound-second b last y z s first e =
       past = s .past;
       sized = s .sized;
       replicas = s .replicas;
+      paces = s .paces;
       costs = s .costs;
+      none-first = λ e. absurd (omega arith);
       one-first = λ e. absurd (omega arith);
       second = λ n. q .0;
       platform = λ n. s .platform first;
@@ -588,15 +681,17 @@ sound-type b last y z s first room e =
       past = λ i h. getD-set-other (y .types) (y .typecount) i t noTask (λ (p : i ≡ y .typecount). omega arith) ∙ s .past i (omega arith);
       sized = set-has Sized t (y .types) (y .typecount) (sized-task t (q .0)) (s .sized);
       replicas = set-has Limited t (y .types) (y .typecount) refl (s .replicas);
+      paces = set-has (Runs (y .timecap)) t (y .types) (y .typecount) refl (s .paces);
       costs = set-has Costed t (y .types) (y .typecount) refl (s .costs);
+      none-first = λ e. absurd (omega arith);
       one-first = λ e. absurd (omega arith);
       second = λ n. s .second first;
       platform = λ n. s .platform first;
     })
 
 -- another type in the last one's place, at or after a type
-sound-last : (t : TaskType) (tag last : ℕ) (y : System) → Sound last y → (tag ≡ 0 → ⊥) → PastTypes last → Sized t → Limited t → Costed t → Sound tag (withLast t y)
-sound-last t tag last y s later after sized limited costed =
+sound-last : (t : TaskType) (tag last : ℕ) (y : System) → Sound last y → (tag ≡ 0 → ⊥) → PastTypes last → Sized t → Limited t → Runs (y .timecap) t → Costed t → Sound tag (withLast t y)
+sound-last t tag last y s later after sized limited paced costed =
     let some = s .some-type after in
     record {
       typecount = s .typecount;
@@ -605,7 +700,9 @@ sound-last t tag last y s later after sized limited costed =
       past = λ i h. getD-set-other (y .types) (y .typecount - 1) i t noTask (λ (p : i ≡ y .typecount - 1). omega arith) ∙ s .past i h;
       sized = set-has Sized t (y .types) (y .typecount - 1) sized (s .sized);
       replicas = set-has Limited t (y .types) (y .typecount - 1) limited (s .replicas);
+      paces = set-has (Runs (y .timecap)) t (y .types) (y .typecount - 1) paced (s .paces);
       costs = set-has Costed t (y .types) (y .typecount - 1) costed (s .costs);
+      none-first = λ e. absurd (later e);
       one-first = λ e. absurd (later e);
       second = λ n. s .second (λ none. omega arith);
       platform = λ n. s .platform (λ none. omega arith);
@@ -618,7 +715,7 @@ sound-data b last y z s after e =
     let t = withData (word4 b 0) (lastType y) in
     let q = no-fault (typeFault t) (withLast t y) z e in
     subst (Sound (dataRule .tag)) (q .1)
-    (sound-last t (dataRule .tag) last y s (λ e. omega arith) after (sized-task t (q .0)) (s .replicas (y .typecount - 1)) (s .costs (y .typecount - 1)))
+    (sound-last t (dataRule .tag) last y s (λ e. omega arith) after (sized-task t (q .0)) (s .replicas (y .typecount - 1)) (s .paces (y .typecount - 1)) (s .costs (y .typecount - 1)))
 
 -- its q
 sound-most : (b : List ℕ) (last : ℕ) (y z : System) → Sound last y → PastTypes last → mostOf b y ≡ opened z → Sound (mostRule .tag) z
@@ -628,7 +725,17 @@ sound-most b last y z s after e =
     let q = no-fault (mostFault (t .most)) (withLast t y) z e in
     let sized = s .sized (y .typecount - 1) in
     subst (Sound (mostRule .tag)) (q .1)
-    (sound-last t (mostRule .tag) last y s (λ e. omega arith) after (record { time = sized .time; memory = sized .memory; «data» = sized .data }) (q .0) (s .costs (y .typecount - 1)))
+    (sound-last t (mostRule .tag) last y s (λ e. omega arith) after (record { time = sized .time; memory = sized .memory; «data» = sized .data }) (q .0) (s .paces (y .typecount - 1)) (s .costs (y .typecount - 1)))
+
+-- its C and T
+sound-pace : (b : List ℕ) (last : ℕ) (y z : System) → Sound last y → PastTypes last → paceOf b y ≡ opened z → Sound (paceRule .tag) z
+unfolding paceFrom
+sound-pace b last y z s after e =
+    let t = withPace (word4 b 0) (word4 b 4) (lastType y) in
+    let q = no-fault (paceFault (y .timecap) (t .time) (t .pace)) (withLast t y) z e in
+    let sized = s .sized (y .typecount - 1) in
+    subst (Sound (paceRule .tag)) (q .1)
+    (sound-last t (paceRule .tag) last y s (λ e. omega arith) after (record { time = sized .time; memory = sized .memory; «data» = sized .data }) (s .replicas (y .typecount - 1)) (q .0) (s .costs (y .typecount - 1)))
 
 -- its u and s on the second kind
 sound-costs : (b : List ℕ) (last : ℕ) (y z : System) → Sound last y → PastTypes last → costsOf b y ≡ opened z → Sound (costsRule .tag) z
@@ -638,14 +745,15 @@ sound-costs b last y z s after e =
     let q = no-fault (costsFault (t .there)) (withLast t y) z e in
     let sized = s .sized (y .typecount - 1) in
     subst (Sound (costsRule .tag)) (q .1)
-    (sound-last t (costsRule .tag) last y s (λ e. omega arith) after (record { time = sized .time; memory = sized .memory; «data» = sized .data }) (s .replicas (y .typecount - 1)) (q .0))
+    (sound-last t (costsRule .tag) last y s (λ e. omega arith) after (record { time = sized .time; memory = sized .memory; «data» = sized .data }) (s .replicas (y .typecount - 1)) (s .paces (y .typecount - 1)) (q .0))
 
--- the table has the rules of a platform, of a type, of d and of q, of a second kind, and of u and s there
+-- the table has the rules of a platform, of a type, of d, of q, and of C and T, of a second kind, and of u and s there
 pub data OneOf (r : FieldRule) : Type 0 where
   a-platform : r ≡ platformRule → OneOf r
   a-type : r ≡ typeRule → OneOf r
   a-data : r ≡ dataRule → OneOf r
   a-most : r ≡ mostRule → OneOf r
+  a-pace : r ≡ paceRule → OneOf r
   a-second : r ≡ secondRule → OneOf r
   a-costs : r ≡ costsRule → OneOf r
 
@@ -669,7 +777,7 @@ rule-found P (t ∷ ts) tag r all e = go (eqb (t .tag) tag) refl (rule-found P t
 
 pub ruleOf-known : (tag : ℕ) (r : FieldRule) → ruleOf fieldRules tag ≡ Known r → IsRule r tag
 ruleOf-known tag r e =
-    let p = rule-found OneOf fieldRules tag r (a-platform refl, (a-type refl, (a-data refl, (a-most refl, (a-second refl, (a-costs refl, tt)))))) e in
+    let p = rule-found OneOf fieldRules tag r (a-platform refl, (a-type refl, (a-data refl, (a-most refl, (a-pace refl, (a-second refl, (a-costs refl, tt))))))) e in
     record { same-tag = p .0; which = p .1 }
 
 -- a platform is first, and a type is not
@@ -708,9 +816,9 @@ second-after-platform last = (λ e. go (eqb 1 last) refl e, λ e. rw e)
     go true q e = sym (eqb-true 1 last q)
     go false q e = absurd (false≢true e)
 
--- u and s there come after a type, its d and its q, and nowhere else: not after others
-pub costs-after-type : (last : ℕ) → (mayFollow follows last (costsRule .tag) ≡ true) ↔ ((last ≡ typeRule .tag) ⊎ ((last ≡ dataRule .tag) ⊎ (last ≡ mostRule .tag)))
-costs-after-type last = (λ e. go (eqb 2 last) (eqb 3 last) (eqb 4 last) refl refl refl e, ⊎-elim (λ e. rw e) (⊎-elim (λ e. rw e) (λ e. rw e)))
+-- C and T come after a type, its d and its q, and nowhere else: not after others
+pub pace-after-type : (last : ℕ) → (mayFollow follows last (paceRule .tag) ≡ true) ↔ ((last ≡ typeRule .tag) ⊎ ((last ≡ dataRule .tag) ⊎ (last ≡ mostRule .tag)))
+pace-after-type last = (λ e. go (eqb 2 last) (eqb 3 last) (eqb 4 last) refl refl refl e, ⊎-elim (λ e. rw e) (⊎-elim (λ e. rw e) (λ e. rw e)))
   where
     go : (b c d : Bool) → eqb 2 last ≡ b → eqb 3 last ≡ c → eqb 4 last ≡ d → cond b true (cond c true (cond d true false)) ≡ true
         → (last ≡ typeRule .tag) ⊎ ((last ≡ dataRule .tag) ⊎ (last ≡ mostRule .tag))
@@ -719,6 +827,20 @@ costs-after-type last = (λ e. go (eqb 2 last) (eqb 3 last) (eqb 4 last) refl re
     go false false true p q r e = inr (inr (sym (eqb-true 4 last r)))
     go false false false p q r e = absurd (false≢true e)
 
+-- u and s on the second kind come after a type, its d, its q, and its C and T, and nowhere else: not after others
+pub costs-after-type : (last : ℕ)
+    → (mayFollow follows last (costsRule .tag) ≡ true) ↔ ((last ≡ typeRule .tag) ⊎ ((last ≡ dataRule .tag) ⊎ ((last ≡ mostRule .tag) ⊎ (last ≡ paceRule .tag))))
+costs-after-type last =
+    (λ e. go (eqb 2 last) (eqb 3 last) (eqb 4 last) (eqb 5 last) refl refl refl refl e, ⊎-elim (λ e. rw e) (⊎-elim (λ e. rw e) (⊎-elim (λ e. rw e) (λ e. rw e))))
+  where
+    go : (a b c d : Bool) → eqb 2 last ≡ a → eqb 3 last ≡ b → eqb 4 last ≡ c → eqb 5 last ≡ d → cond a true (cond b true (cond c true (cond d true false))) ≡ true
+        → (last ≡ typeRule .tag) ⊎ ((last ≡ dataRule .tag) ⊎ ((last ≡ mostRule .tag) ⊎ (last ≡ paceRule .tag)))
+    go true b c d o p q r e = inl (sym (eqb-true 2 last o))
+    go false true c d o p q r e = inr (inl (sym (eqb-true 3 last p)))
+    go false false true d o p q r e = inr (inr (inl (sym (eqb-true 4 last q))))
+    go false false false true o p q r e = inr (inr (inr (sym (eqb-true 5 last r))))
+    go false false false false o p q r e = absurd (false≢true e)
+
 -- so what belongs to a type comes at or after one
 pub part-later : (r : FieldRule) (last : ℕ) → OneOf r → typeRule .tag < r .tag → (r .tag ≡ secondRule .tag → ⊥) → mayFollow follows last (r .tag) ≡ true → PastTypes last
 part-later r last (a-platform w) h n p = absurd (omega (arith, ap (λ (x : FieldRule). x .tag) w))
@@ -726,8 +848,12 @@ part-later r last (a-type w) h n p = absurd (omega (arith, ap (λ (x : FieldRule
 part-later r last (a-second w) h n p = absurd (n (ap (λ (x : FieldRule). x .tag) w))
 part-later r last (a-data w) h n p = let e = data-after-type last .0 (rw w at p) in (omega arith, λ z. omega arith)
 part-later r last (a-most w) h n p = ⊎-elim (λ e. (omega arith, λ z. omega arith)) (λ e. (omega arith, λ z. omega arith)) (most-after-type last .0 (rw w at p))
-part-later r last (a-costs w) h n p =
+part-later r last (a-pace w) h n p =
     ⊎-elim (λ e. (omega arith, λ z. omega arith)) (⊎-elim (λ e. (omega arith, λ z. omega arith)) (λ e. (omega arith, λ z. omega arith)))
+    (pace-after-type last .0 (rw w at p))
+part-later r last (a-costs w) h n p =
+    ⊎-elim (λ e. (omega arith, λ z. omega arith))
+    (⊎-elim (λ e. (omega arith, λ z. omega arith)) (⊎-elim (λ e. (omega arith, λ z. omega arith)) (λ e. (omega arith, λ z. omega arith))))
     (costs-after-type last .0 (rw w at p))
 
 -- a head that passes has a rule, stands in its place, gives the rule's length, and its body stands there
@@ -778,6 +904,9 @@ sound-body r b last y z s (a-data w) p e =
 sound-body r b last y z s (a-most w) p e =
     let tag = ap (λ (x : FieldRule). x .tag) w in
     rw w (sound-most b last y z s (part-later r last (a-most w) (omega arith) (λ n. omega arith) p) (rw w at e))
+sound-body r b last y z s (a-pace w) p e =
+    let tag = ap (λ (x : FieldRule). x .tag) w in
+    rw w (sound-pace b last y z s (part-later r last (a-pace w) (omega arith) (λ n. omega arith) p) (rw w at e))
 sound-body r b last y z s (a-second w) p e =
     let after = second-after-platform last .0 (rw w at p) in
     rw w (sound-second b last y z s (λ n. omega arith) (rw w at e))

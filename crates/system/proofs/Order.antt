@@ -205,33 +205,34 @@ module _ (h l : ℕ) (rest : List ℕ) where
   pub starts : (t : ℕ) → leb headSize (length (t ∷ h ∷ l ∷ rest)) ≡ true
   starts t = le-leb headSize (length (t ∷ h ∷ l ∷ rest)) (omega arith)
 
-  no-tag-field : (t : ℕ) → (t ≡ 1 → ⊥) → (t ≡ 2 → ⊥) → (t ≡ 3 → ⊥) → (t ≡ 4 → ⊥) → (t ≡ 6 → ⊥) → (t ≡ 7 → ⊥) → fieldOf (t ∷ h ∷ l ∷ rest) 0 blank ≡ unread 2
+  no-tag-field : (t : ℕ) → (t ≡ 1 → ⊥) → (t ≡ 2 → ⊥) → (t ≡ 3 → ⊥) → (t ≡ 4 → ⊥) → (t ≡ 5 → ⊥) → (t ≡ 6 → ⊥) → (t ≡ 7 → ⊥) → fieldOf (t ∷ h ∷ l ∷ rest) 0 blank ≡ unread 2
   unfolding fieldOf ruledField headOf ruledHead ruleOf
-  no-tag-field t a b c d f g =
+  no-tag-field t a b c d e f g =
       rw (
         starts t,
-        ne-eqb 1 t (λ e. a (sym e)),
-        ne-eqb 2 t (λ e. b (sym e)),
-        ne-eqb 3 t (λ e. c (sym e)),
-        ne-eqb 4 t (λ e. d (sym e)),
-        ne-eqb 6 t (λ e. f (sym e)),
-        ne-eqb 7 t (λ e. g (sym e)),
+        ne-eqb 1 t (λ z. a (sym z)),
+        ne-eqb 2 t (λ z. b (sym z)),
+        ne-eqb 3 t (λ z. c (sym z)),
+        ne-eqb 4 t (λ z. d (sym z)),
+        ne-eqb 5 t (λ z. e (sym z)),
+        ne-eqb 6 t (λ z. f (sym z)),
+        ne-eqb 7 t (λ z. g (sym z)),
       )
 
-  pub first-no-tag : (t : ℕ) → (t ≡ 1 → ⊥) → (t ≡ 2 → ⊥) → (t ≡ 3 → ⊥) → (t ≡ 4 → ⊥) → (t ≡ 6 → ⊥) → (t ≡ 7 → ⊥) → readCard (t ∷ h ∷ l ∷ rest) ≡ unread 2
-  first-no-tag t a b c d f g = first-stops t (h ∷ l ∷ rest) 2 (no-tag-field t a b c d f g)
+  pub first-no-tag : (t : ℕ) → (t ≡ 1 → ⊥) → (t ≡ 2 → ⊥) → (t ≡ 3 → ⊥) → (t ≡ 4 → ⊥) → (t ≡ 5 → ⊥) → (t ≡ 6 → ⊥) → (t ≡ 7 → ⊥) → readCard (t ∷ h ∷ l ∷ rest) ≡ unread 2
+  first-no-tag t a b c d e f g = first-stops t (h ∷ l ∷ rest) 2 (no-tag-field t a b c d e f g)
 
   later-field : (fieldOf (2 ∷ h ∷ l ∷ rest) 0 blank ≡ unread 3) × (fieldOf (3 ∷ h ∷ l ∷ rest) 0 blank ≡ unread 3) × (fieldOf (4 ∷ h ∷ l ∷ rest) 0 blank ≡ unread 3)
-      × (fieldOf (6 ∷ h ∷ l ∷ rest) 0 blank ≡ unread 3) × (fieldOf (7 ∷ h ∷ l ∷ rest) 0 blank ≡ unread 3)
+      × (fieldOf (5 ∷ h ∷ l ∷ rest) 0 blank ≡ unread 3) × (fieldOf (6 ∷ h ∷ l ∷ rest) 0 blank ≡ unread 3) × (fieldOf (7 ∷ h ∷ l ∷ rest) 0 blank ≡ unread 3)
   unfolding fieldOf ruledField headOf ruledHead ruleOf
-  later-field = (rw (starts 2), rw (starts 3), rw (starts 4), rw (starts 6), rw (starts 7))
+  later-field = (rw (starts 2), rw (starts 3), rw (starts 4), rw (starts 5), rw (starts 6), rw (starts 7))
 
   pub first-no-platform : (readCard (2 ∷ h ∷ l ∷ rest) ≡ unread 3) × (readCard (3 ∷ h ∷ l ∷ rest) ≡ unread 3) × (readCard (4 ∷ h ∷ l ∷ rest) ≡ unread 3)
-      × (readCard (6 ∷ h ∷ l ∷ rest) ≡ unread 3) × (readCard (7 ∷ h ∷ l ∷ rest) ≡ unread 3)
+      × (readCard (5 ∷ h ∷ l ∷ rest) ≡ unread 3) × (readCard (6 ∷ h ∷ l ∷ rest) ≡ unread 3) × (readCard (7 ∷ h ∷ l ∷ rest) ≡ unread 3)
   first-no-platform =
       let p = later-field in
       let on : List ℕ = h ∷ l ∷ rest in
-      (first-stops 2 on 3 (p .0), first-stops 3 on 3 (p .1), first-stops 4 on 3 (p .2), first-stops 6 on 3 (p .3), first-stops 7 on 3 (p .4))
+      (first-stops 2 on 3 (p .0), first-stops 3 on 3 (p .1), first-stops 4 on 3 (p .2), first-stops 5 on 3 (p .3), first-stops 6 on 3 (p .4), first-stops 7 on 3 (p .5))
 
   length-field : (h * 256 + l ≡ 10 → ⊥) → fieldOf (1 ∷ h ∷ l ∷ rest) 0 blank ≡ unread 4
   unfolding fieldOf ruledField headOf ruledHead ruleOf

@@ -18,13 +18,13 @@ use Rattle.system.specs.declared.rules.RuleFound.the-variants.{Known, Un
 use Rattle.system.specs.declared.reader.Head.{Head}
 use Rattle.system.specs.declared.reader.Head.the-variants.{Ruled, Stops}
 use Rattle.system.specs.Numbers.{typeLimit, fileBytes}
-use Rattle.system.specs.Values.{taskOf, withData, withMost, withCosts, blank, withPlatform, withSecond, withType, lastType, withLast}
-use Rattle.system.specs.Limits.{platformFault, kindFault, typeFault, mostFault, costsFault}
+use Rattle.system.specs.Values.{taskOf, withData, withMost, withPace, withCosts, blank, withPlatform, withSecond, withType, lastType, withLast}
+use Rattle.system.specs.Limits.{platformFault, kindFault, typeFault, mostFault, paceFault, costsFault}
 use Rattle.system.specs.Rules.{fieldRules, ruleOf, follows, mayFollow, headSize, ruledSize, longestField, longestFile}
-use Rattle.system.specs.Layout.{Reading, opened, unread, byteAt, word2, word4, fieldSize, headedField, wholeField, bodyPart, isType, isData, isMost, isSecond, isCosts}
-use Rattle.system.specs.Layout.{platformFrom, platformOf, typeFrom, typeOf, dataFrom, dataOf, mostFrom, mostOf, secondFrom, secondOf, costsFrom, costsOf}
+use Rattle.system.specs.Layout.{Reading, opened, unread, byteAt, word2, word4, fieldSize, headedField, wholeField, bodyPart, isType, isData, isMost, isPace, isSecond, isCosts}
+use Rattle.system.specs.Layout.{platformFrom, platformOf, typeFrom, typeOf, dataFrom, dataOf, mostFrom, mostOf, paceFrom, paceOf, secondFrom, secondOf, costsFrom, costsOf}
 use Rattle.system.specs.Layout.{ruledHead, headOf, bodyOf, ruledField, fieldOf, afterField, fieldsFrom, readCard, ofOneKind, readFile}
-use Rattle.system.proofs.Laws.{passes, no-fault, OneOf, a-platform, a-type, a-data, a-most, a-second, a-costs, platform-first, data-after-type, most-after-type, second-after-platform, costs-after-type, card-refused, IsRule, ruleOf-known, headOf-ruled, fieldOf-opened, fieldsFrom-nil}
+use Rattle.system.proofs.Laws.{passes, no-fault, OneOf, a-platform, a-type, a-data, a-most, a-pace, a-second, a-costs, platform-first, data-after-type, most-after-type, pace-after-type, second-after-platform, costs-after-type, card-refused, IsRule, ruleOf-known, headOf-ruled, fieldOf-opened, fieldsFrom-nil}
 
 -- The bytes that the fields still allowed can have, after a field of tag `last` and with the system y so far
 
@@ -32,12 +32,12 @@ use Rattle.system.proofs.Laws.{passes, no-fault, OneOf, a-platform, a-t
 abbrev next : ℕ → ℕ → ℕ
 next tag last = cond (mayFollow follows last tag) 1 0
 
--- how many fields of a rule may still come: the types up to the limit, d, q, and u and s on the second kind for each of them and for the last one where it may stand next,
+-- how many fields of a rule may still come: the types up to the limit, d, q, C and T, and u and s on the second kind for each of them and for the last one where it may stand next,
 -- a second kind up to the platform, and the platform where it may
 abbrev still : FieldRule → ℕ → System → ℕ
 still r last y =
     cond (isType (r .tag)) (r .allowed - y .typecount)
-    (cond (isData (r .tag) || isMost (r .tag) || isCosts (r .tag)) (r .allowed - y .typecount + next (r .tag) last)
+    (cond (isData (r .tag) || isMost (r .tag) || isPace (r .tag) || isCosts (r .tag)) (r .allowed - y .typecount + next (r .tag) last)
     (cond (isSecond (r .tag)) (cond (leb last 1) 1 0)
     (next (r .tag) last)))
 
@@ -72,6 +72,12 @@ most-types b y z e =
     let t = withMost (word2 b 0) (lastType y) in
     ap (λ (x : System). x .typecount) (sym (no-fault (mostFault (t .most)) (withLast t y) z e .1))
 
+pace-types : (b : List ℕ) (y z : System) → paceOf b y ≡ opened z → z .typecount ≡ y .typecount
+unfolding paceFrom
+pace-types b y z e =
+    let t = withPace (word4 b 0) (word4 b 4) (lastType y) in
+    ap (λ (x : System). x .typecount) (sym (no-fault (paceFault (y .timecap) (lastType y .time) (t .pace)) (withLast t y) z e .1))
+
 second-types : (b : List ℕ) (y z : System) → secondOf b y ≡ opened z → z .typecount ≡ y .typecount
 unfolding secondFrom
 second-types b y z e =
@@ -97,10 +103,15 @@ body-room r b last y z (a-data w) p e = rw (w, data-after-type last .0 (rw w at 
 body-room r b last y z (a-most w) p e =
     let types = most-types b y z (rw w at e) in
     ⊎-elim (λ (last2 : last ≡ 2). rw (w, last2, types) (omega arith)) (λ (last3 : last ≡ 3). rw (w, last3, types) (omega arith)) (most-after-type last .0 (rw w at p))
+body-room r b last y z (a-pace w) p e =
+    let types = pace-types b y z (rw w at e) in
+    ⊎-elim (λ (last2 : last ≡ 2). rw (w, last2, types) (omega arith)) (⊎-elim (λ (last3 : last ≡ 3). rw (w, last3, types) (omega arith)) (λ (last4 : last ≡ 4). rw (w, last4, types) (omega arith)))
+    (pace-after-type last .0 (rw w at p))
 body-room r b last y z (a-second w) p e = rw (w, second-after-platform last .0 (rw w at p), second-types b y z (rw w at e)) (omega arith)
 body-room r b last y z (a-costs w) p e =
     let types = costs-types b y z (rw w at e) in
-    ⊎-elim (λ (last2 : last ≡ 2). rw (w, last2, types) (omega arith)) (⊎-elim (λ (last3 : last ≡ 3). rw (w, last3, types) (omega arith)) (λ (last4 : last ≡ 4). rw (w, last4, types) (omega arith)))
+    ⊎-elim (λ (last2 : last ≡ 2). rw (w, last2, types) (omega arith)) (⊎-elim (λ (last3 : last ≡ 3). rw (w, last3, types) (omega arith))
+    (⊎-elim (λ (last4 : last ≡ 4). rw (w, last4, types) (omega arith)) (λ (last5 : last ≡ 5). rw (w, last5, types) (omega arith))))
     (costs-after-type last .0 (rw w at p))
 
 -- so the reading goes on with less room, by the field's size
@@ -138,8 +149,8 @@ fields-refused (suc f) (b ∷ s) last y enough long =
         let left = length-drop (fieldSize (b ∷ s)) (b ∷ s) in
         rest next (omega arith) (omega arith)
 
--- no file that opens is longer than all fields that the rules allow: a platform, a second kind, six types, their d, their q, and their u and s there, 241 bytes
-pub longest-is : longestFile ≡ 241
+-- no file that opens is longer than all fields that the rules allow: a platform, a second kind, six types, their d, their q, their C and T, and their u and s there, 307 bytes
+pub longest-is : longestFile ≡ 307
 longest-is = refl
 
 pub long-file-refused-card : (file : List ℕ) → longestFile < length file → (n : ℕ) × (readCard file ≡ unread n)
@@ -190,6 +201,7 @@ module _ (n : ℕ) (s : List ℕ) where
         longest (a-type w) = rw w (lit≤ tt)
         longest (a-data w) = rw w (lit≤ tt)
         longest (a-most w) = rw w (lit≤ tt)
+        longest (a-pace w) = rw w (lit≤ tt)
         longest (a-second w) = rw w (lit≤ tt)
         longest (a-costs w) = rw w (lit≤ tt)
 
@@ -273,7 +285,7 @@ pub read-take : (n : ℕ) (file : List ℕ) → longestFile + longestField ≤ n
 unfolding readFile
 read-take n file wide = ap ofOneKind (read-take-card n file wide)
 
--- document 01, with request 2026-03's 256 bytes: program `plan` "reads the first .. bytes of standard input (a longer file is refused by then)"
+-- document 01, with request 2026-14's 384 bytes: program `plan` "reads the first .. bytes of standard input (a longer file is refused by then)"
 pub read-prefix-card : (file : List ℕ) → readCard (take fileBytes file) ≡ readCard file
 read-prefix-card file = read-take-card fileBytes file (lit≤ tt)
 

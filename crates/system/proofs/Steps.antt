@@ -6,13 +6,13 @@ use native.Mathlib.Nat.{mul-assoc, mul-one, le-mul-of-pos-right, min-eq-left, mi
 use mathlib.Core.List.{List, [], _∷_, _++_, append-assoc, append-nil, map}
 use mathlib.Core.Bool.{Bool, true, false, not, cond, _&&_, _||_, Bool·beq, false≢true}
 use mathlib.Core.Path.{_≡_, refl, sym, ap, _∙_, subst}
-use borrow.Author.Tests.{ltb-true, ltb-false, lt-ltb, le-ltb, lt-leb}
+use borrow.Author.Tests.{ltb-true, ltb-false, lt-ltb, le-ltb, lt-leb, eq-eqb, ne-eqb}
 use lib.ListN.{length, getD, take, drop, set, replicate, length-append, length-replicate, take-append-drop, drop-of-length-le, replicate-append-replicate}
 use lib.Seq.{drop-cons, length-take-le, set-at}
-use lib.Dec.{leb, ltb}
+use lib.Dec.{leb, ltb, eqb}
 use Rattle.system.specs.declared.TaskType.{TaskType}
 use Rattle.system.specs.Values.{noTask, clearedTypes}
-use Rattle.system.specs.Limits.{engineLimit, typeLimit, columnLimit, kindCounted, columnsOf, given, kindsAgree, zeroTask, soundTask, typesKeep}
+use Rattle.system.specs.Limits.{engineLimit, typeLimit, columnLimit, orElse, kindCounted, paceFault, pacesFault, columnsOf, given, kindsAgree, zeroTask, soundTask, typesKeep}
 use Rattle.system.specs.Rules.{firstOf}
 use Rattle.system.proofs.Laws.{columnsOf-pos, either-false}
 
@@ -126,6 +126,41 @@ module _ (one : Bool) (k i : ℕ) (ts : List TaskType) where
   pub kinds-end : length ts ≤ i → kindsAgree one (k - i) (drop i ts) ≡ kindsAgree one k ts → true ≡ kindsAgree one k ts
   unfolding kindsAgree
   kinds-end h inv = rw (drop-of-length-le ts h) at inv
+
+-- Request 2026-14: the first fault among the C and T of the first k types: one entry, then the others
+
+paces-step : (whole k i : ℕ) (ts : List TaskType) (d : TaskType) → i < length ts → i < k
+    → pacesFault whole (k - i) (drop i ts) ≡ orElse (paceFault whole (getD ts i d .time) (getD ts i d .pace)) (pacesFault whole (k - (i + 1)) (drop (i + 1) ts))
+unfolding pacesFault
+paces-step whole k i ts d h more =
+    let p : k - i ≡ suc (k - suc i) = omega arith in
+    rw (add-one i, drop-cons ts i d h, p)
+
+module _ (whole k i : ℕ) (ts : List TaskType) where
+  -- the entry has a fault, so that is the first; it has none, so the others decide; no type is left
+  pub paces-found : (d : TaskType) (n : ℕ) → i < length ts → i < k → n ≡ paceFault whole (getD ts i d .time) (getD ts i d .pace) → (n ≡ 0 → ⊥)
+      → pacesFault whole (k - i) (drop i ts) ≡ pacesFault whole k ts → n ≡ pacesFault whole k ts
+  paces-found d n h more e some inv =
+      let other : eqb (paceFault whole (getD ts i d .time) (getD ts i d .pace)) 0 ≡ false = ne-eqb (paceFault whole (getD ts i d .time) (getD ts i d .pace)) 0 (λ z. some (e ∙ z)) in
+      e ∙ sym (paces-step whole k i ts d h more ∙ rw other) ∙ inv
+
+  pub paces-more : (d : TaskType) (n : ℕ) → i < length ts → i < k → n ≡ paceFault whole (getD ts i d .time) (getD ts i d .pace) → n ≡ 0
+      → pacesFault whole (k - i) (drop i ts) ≡ pacesFault whole k ts → pacesFault whole (k - (i + 1)) (drop (i + 1) ts) ≡ pacesFault whole k ts
+  paces-more d n h more e none inv =
+      let is : eqb (paceFault whole (getD ts i d .time) (getD ts i d .pace)) 0 ≡ true = eq-eqb (paceFault whole (getD ts i d .time) (getD ts i d .pace)) 0 (sym e ∙ none) in
+      sym (paces-step whole k i ts d h more ∙ rw is) ∙ inv
+
+  pub paces-past : k ≤ i → pacesFault whole (k - i) (drop i ts) ≡ pacesFault whole k ts → 0 ≡ pacesFault whole k ts
+  unfolding pacesFault
+  paces-past h inv = let none : k - i ≡ 0 = omega arith in sym (ap (λ (n : ℕ). pacesFault whole n (drop i ts)) none ∙ nothing (drop i ts)) ∙ inv
+    where
+      nothing : (l : List TaskType) → pacesFault whole zero l ≡ 0
+      nothing [] = refl
+      nothing (t ∷ l) = refl
+
+  pub paces-end : length ts ≤ i → pacesFault whole (k - i) (drop i ts) ≡ pacesFault whole k ts → 0 ≡ pacesFault whole k ts
+  unfolding pacesFault
+  paces-end h inv = rw (drop-of-length-le ts h) at inv
 
 -- Clearing: the entries from k up to i are cleared already, the others are as they were
 

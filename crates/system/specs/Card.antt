@@ -2,6 +2,7 @@
 use Prim.Native.Nat.{ℕ}
 use mathlib.Core.List.{map}
 use mathlib.Core.Path.{_≡_}
+use Rattle.system.specs.declared.Pace.the-variants.{Unpaced}
 use Rattle.system.specs.declared.There.{There}
 use Rattle.system.specs.declared.There.the-variants.{Absent, Takes}
 use Rattle.system.specs.declared.Kind.{Kind}
@@ -11,13 +12,13 @@ use Rattle.system.specs.declared.TaskType.{TaskType}
 use Rattle.system.specs.declared.System.{System}
 use Rattle.system.specs.Layout.{Reading, opened, unread}
 
--- a type as the engines of the first kind see it, and as those of the second do: there it has u and s of its own, and the same n, d and q
+-- a type as the engines of the first kind see it, and as those of the second do: there it has u and s of its own, and the same n, d and q. Only a card of one kind has runs (request 2026-14)
 abbrev pub taskHere : TaskType → TaskType
-taskHere t = record { time = t .time; memory = t .memory; ceiling = t .ceiling; «data» = t .data; most = t .most; there = Absent }
+taskHere t = record { time = t .time; memory = t .memory; ceiling = t .ceiling; «data» = t .data; most = t .most; pace = Unpaced; there = Absent }
 
 abbrev pub taskCosting : There → TaskType → TaskType
-taskCosting Absent t = record { time = 0; memory = 0; ceiling = t .ceiling; «data» = t .data; most = t .most; there = Absent }
-taskCosting (Takes c) t = record { time = c .time; memory = c .memory; ceiling = t .ceiling; «data» = t .data; most = t .most; there = Absent }
+taskCosting Absent t = record { time = 0; memory = 0; ceiling = t .ceiling; «data» = t .data; most = t .most; pace = Unpaced; there = Absent }
+taskCosting (Takes c) t = record { time = c .time; memory = c .memory; ceiling = t .ceiling; «data» = t .data; most = t .most; pace = Unpaced; there = Absent }
 
 abbrev pub taskThere : TaskType → TaskType
 taskThere t = taskCosting (t .there) t

@@ -1,4 +1,4 @@
--- "Fields are judged in file order; in one field: start cut (1), 2, 3, 4, body cut (1), 7, then 5, 6, 8. At the end 9, 10", 31 "after 8" (request 2026-04), and 41 "after 9" (2026-13): of each field after the first, byte by byte, and of the file's end.
+-- "Fields are judged in file order; in one field: start cut (1), 2, 3, 4, body cut (1), 7, then 5, 6, 8. At the end 9, 10", 31 "after 8" (request 2026-04), 43 "after 31" (2026-14), and 41 "after 9" (2026-13): of each field after the first, byte by byte, and of the file's end.
 use Prim.Native.Nat.{ℕ, suc, _+_, _*_, _≤_, _<_}
 use mathlib.Core.List.{List, [], _∷_, _++_}
 use mathlib.Core.Path.{_≡_}
@@ -27,6 +27,10 @@ dataField d1 d2 d3 d4 = 3 ∷ 0 ∷ 4 ∷ d1 ∷ d2 ∷ d3 ∷ d4 ∷ []
 abbrev pub mostField : (q1 q2 : ℕ) → List ℕ
 mostField q1 q2 = 4 ∷ 0 ∷ 2 ∷ q1 ∷ q2 ∷ []
 
+-- request 2026-14: C and T of a type
+abbrev pub paceField : (c1 c2 c3 c4 t1 t2 t3 t4 : ℕ) → List ℕ
+paceField c1 c2 c3 c4 t1 t2 t3 t4 = 5 ∷ 0 ∷ 8 ∷ c1 ∷ c2 ∷ c3 ∷ c4 ∷ t1 ∷ t2 ∷ t3 ∷ t4 ∷ []
+
 -- request 2026-13: the second kind's number, U and S, and u and s of a type there
 abbrev pub secondField : (n u1 u2 u3 u4 s1 s2 s3 s4 : ℕ) → List ℕ
 secondField n u1 u2 u3 u4 s1 s2 s3 s4 = 6 ∷ 0 ∷ 9 ∷ n ∷ u1 ∷ u2 ∷ u3 ∷ u4 ∷ s1 ∷ s2 ∷ s3 ∷ s4 ∷ []
@@ -34,49 +38,65 @@ secondField n u1 u2 u3 u4 s1 s2 s3 s4 = 6 ∷ 0 ∷ 9 ∷ n ∷ u1 ∷ u2 ∷ u3
 abbrev pub costsField : (u1 u2 u3 u4 s1 s2 s3 s4 : ℕ) → List ℕ
 costsField u1 u2 u3 u4 s1 s2 s3 s4 = 7 ∷ 0 ∷ 8 ∷ u1 ∷ u2 ∷ u3 ∷ u4 ∷ s1 ∷ s2 ∷ s3 ∷ s4 ∷ []
 
--- where d, q, and u and s on the second kind may stand, by the tag of the field before
+-- where d, q, C and T, and u and s on the second kind may stand, by the tag of the field before
 abbrev pub MayData : ℕ → Type 0
 MayData last = last ≡ 2
 
 abbrev pub MayMost : ℕ → Type 0
 MayMost last = (last ≡ 2) ⊎ (last ≡ 3)
 
-abbrev pub MayCosts : ℕ → Type 0
-MayCosts last = (last ≡ 2) ⊎ ((last ≡ 3) ⊎ (last ≡ 4))
+abbrev pub MayPace : ℕ → Type 0
+MayPace last = (last ≡ 2) ⊎ ((last ≡ 3) ⊎ (last ≡ 4))
 
--- the bytes of fields that pass, from the file's start on; the tag of the last one, the number of types, the product of all n + 1, m, the kinds of engine, and the number of types with a tag 7
-pub data Beginning : List ℕ → ℕ → ℕ → ℕ → ℕ → ℕ → ℕ → Type 0 where
+abbrev pub MayCosts : ℕ → Type 0
+MayCosts last = (last ≡ 2) ⊎ ((last ≡ 3) ⊎ ((last ≡ 4) ⊎ (last ≡ 5)))
+
+-- C and T, of a type with this u on an engine with this U, that 43 lets through
+pub record PaceWithin (whole u c t : ℕ) : Type 0 where
+  pub run : (1 ≤ c) × (c ≤ 65535)
+  pub period : (1 ≤ t) × (t ≤ 65535)
+  pub runs : c ≤ t
+  pub some : (whole ≡ 0) → ⊥
+  pub share : c * whole ≤ u * t
+
+-- the bytes of fields that pass, from the file's start on; the tag of the last one, the number of types, the product of all n + 1, m, the kinds of engine, the number of types with a tag 7, the platform's U, and u of the last type
+pub data Beginning : List ℕ → ℕ → ℕ → ℕ → ℕ → ℕ → ℕ → ℕ → ℕ → Type 0 where
   a-platform : (m r u1 u2 u3 u4 s1 s2 s3 s4 : ℕ) → 1 ≤ m → m ≤ 16 → r ≤ 1 → fourBytes u1 u2 u3 u4 ≤ 1000000 → fourBytes s1 s2 s3 s4 ≤ 1000000
-      → Beginning (platformField m r u1 u2 u3 u4 s1 s2 s3 s4) 1 0 1 m 1 0
-  then-second : (p : List ℕ) (last k c m kinds w n u1 u2 u3 u4 s1 s2 s3 s4 : ℕ) → Beginning p last k c m kinds w → last ≡ 1 → 1 ≤ n → m + n ≤ 16
-      → fourBytes u1 u2 u3 u4 ≤ 1000000 → fourBytes s1 s2 s3 s4 ≤ 1000000 → Beginning (p ++ secondField n u1 u2 u3 u4 s1 s2 s3 s4) 6 k c m 2 w
-  then-type : (p : List ℕ) (last k c m kinds w u1 u2 u3 u4 s1 s2 s3 s4 n1 n2 : ℕ) → Beginning p last k c m kinds w → k < 6 → fourBytes u1 u2 u3 u4 ≤ 1000000 → fourBytes s1 s2 s3 s4 ≤ 1000000
-      → Beginning (p ++ typeField u1 u2 u3 u4 s1 s2 s3 s4 n1 n2) 2 (suc k) (c * (twoBytes n1 n2 + 1)) m kinds w
-  then-data : (p : List ℕ) (last k c m kinds w d1 d2 d3 d4 : ℕ) → Beginning p last k c m kinds w → MayData last → fourBytes d1 d2 d3 d4 ≤ 1000000
-      → Beginning (p ++ dataField d1 d2 d3 d4) 3 k c m kinds w
-  then-most : (p : List ℕ) (last k c m kinds w q1 q2 : ℕ) → Beginning p last k c m kinds w → MayMost last → (twoBytes q1 q2 ≡ 0 → ⊥)
-      → Beginning (p ++ mostField q1 q2) 4 k c m kinds w
-  then-costs : (p : List ℕ) (last k c m kinds w u1 u2 u3 u4 s1 s2 s3 s4 : ℕ) → Beginning p last k c m kinds w → MayCosts last → fourBytes u1 u2 u3 u4 ≤ 1000000 → fourBytes s1 s2 s3 s4 ≤ 1000000
-      → Beginning (p ++ costsField u1 u2 u3 u4 s1 s2 s3 s4) 7 k c m kinds (suc w)
+      → Beginning (platformField m r u1 u2 u3 u4 s1 s2 s3 s4) 1 0 1 m 1 0 (fourBytes u1 u2 u3 u4) 0
+  then-second : (p : List ℕ) (last k c m kinds w whole u n u1 u2 u3 u4 s1 s2 s3 s4 : ℕ) → Beginning p last k c m kinds w whole u → last ≡ 1 → 1 ≤ n → m + n ≤ 16
+      → fourBytes u1 u2 u3 u4 ≤ 1000000 → fourBytes s1 s2 s3 s4 ≤ 1000000 → Beginning (p ++ secondField n u1 u2 u3 u4 s1 s2 s3 s4) 6 k c m 2 w whole u
+  then-type : (p : List ℕ) (last k c m kinds w whole u u1 u2 u3 u4 s1 s2 s3 s4 n1 n2 : ℕ) → Beginning p last k c m kinds w whole u → k < 6 → fourBytes u1 u2 u3 u4 ≤ 1000000 → fourBytes s1 s2 s3 s4 ≤ 1000000
+      → Beginning (p ++ typeField u1 u2 u3 u4 s1 s2 s3 s4 n1 n2) 2 (suc k) (c * (twoBytes n1 n2 + 1)) m kinds w whole (fourBytes u1 u2 u3 u4)
+  then-data : (p : List ℕ) (last k c m kinds w whole u d1 d2 d3 d4 : ℕ) → Beginning p last k c m kinds w whole u → MayData last → fourBytes d1 d2 d3 d4 ≤ 1000000
+      → Beginning (p ++ dataField d1 d2 d3 d4) 3 k c m kinds w whole u
+  then-most : (p : List ℕ) (last k c m kinds w whole u q1 q2 : ℕ) → Beginning p last k c m kinds w whole u → MayMost last → (twoBytes q1 q2 ≡ 0 → ⊥)
+      → Beginning (p ++ mostField q1 q2) 4 k c m kinds w whole u
+  then-pace : (p : List ℕ) (last k c m kinds w whole u c1 c2 c3 c4 t1 t2 t3 t4 : ℕ) → Beginning p last k c m kinds w whole u → MayPace last
+      → PaceWithin whole u (fourBytes c1 c2 c3 c4) (fourBytes t1 t2 t3 t4) → Beginning (p ++ paceField c1 c2 c3 c4 t1 t2 t3 t4) 5 k c m kinds w whole u
+  then-costs : (p : List ℕ) (last k c m kinds w whole u u1 u2 u3 u4 s1 s2 s3 s4 : ℕ) → Beginning p last k c m kinds w whole u → MayCosts last → fourBytes u1 u2 u3 u4 ≤ 1000000 → fourBytes s1 s2 s3 s4 ≤ 1000000
+      → Beginning (p ++ costsField u1 u2 u3 u4 s1 s2 s3 s4) 7 k c m kinds (suc w) whole u
 
 -- what comes next and does not pass is refused, whatever follows it. The order is that of the lines: each has as premises what the lines before it let through
-pub record NextField (p : List ℕ) (last k m : ℕ) : Type 0 where
+pub record NextField (p : List ℕ) (last k m whole u : ℕ) : Type 0 where
   pub one-byte : (a : ℕ) → readCard (p ++ a ∷ []) ≡ unread 1
   pub two-bytes : (a b : ℕ) → readCard (p ++ a ∷ b ∷ []) ≡ unread 1
-  pub no-tag : (t h l : ℕ) (rest : List ℕ) → (t ≡ 1 → ⊥) → (t ≡ 2 → ⊥) → (t ≡ 3 → ⊥) → (t ≡ 4 → ⊥) → (t ≡ 6 → ⊥) → (t ≡ 7 → ⊥) → readCard (p ++ t ∷ h ∷ l ∷ rest) ≡ unread 2
+  pub no-tag : (t h l : ℕ) (rest : List ℕ) → (t ≡ 1 → ⊥) → (t ≡ 2 → ⊥) → (t ≡ 3 → ⊥) → (t ≡ 4 → ⊥) → (t ≡ 5 → ⊥) → (t ≡ 6 → ⊥) → (t ≡ 7 → ⊥) → readCard (p ++ t ∷ h ∷ l ∷ rest) ≡ unread 2
   pub platform-again : (h l : ℕ) (rest : List ℕ) → readCard (p ++ 1 ∷ h ∷ l ∷ rest) ≡ unread 3
   pub data-place : (h l : ℕ) (rest : List ℕ) → (MayData last → ⊥) → readCard (p ++ 3 ∷ h ∷ l ∷ rest) ≡ unread 3
   pub most-place : (h l : ℕ) (rest : List ℕ) → (MayMost last → ⊥) → readCard (p ++ 4 ∷ h ∷ l ∷ rest) ≡ unread 3
+  pub pace-place : (h l : ℕ) (rest : List ℕ) → (MayPace last → ⊥) → readCard (p ++ 5 ∷ h ∷ l ∷ rest) ≡ unread 3
   pub second-place : (h l : ℕ) (rest : List ℕ) → (last ≡ 1 → ⊥) → readCard (p ++ 6 ∷ h ∷ l ∷ rest) ≡ unread 3
   pub costs-place : (h l : ℕ) (rest : List ℕ) → (MayCosts last → ⊥) → readCard (p ++ 7 ∷ h ∷ l ∷ rest) ≡ unread 3
   pub type-length : (h l : ℕ) (rest : List ℕ) → (twoBytes h l ≡ 10 → ⊥) → readCard (p ++ 2 ∷ h ∷ l ∷ rest) ≡ unread 4
   pub data-length : (h l : ℕ) (rest : List ℕ) → MayData last → (twoBytes h l ≡ 4 → ⊥) → readCard (p ++ 3 ∷ h ∷ l ∷ rest) ≡ unread 4
   pub most-length : (h l : ℕ) (rest : List ℕ) → MayMost last → (twoBytes h l ≡ 2 → ⊥) → readCard (p ++ 4 ∷ h ∷ l ∷ rest) ≡ unread 4
+  pub pace-length : (h l : ℕ) (rest : List ℕ) → MayPace last → (twoBytes h l ≡ 8 → ⊥) → readCard (p ++ 5 ∷ h ∷ l ∷ rest) ≡ unread 4
   pub second-length : (h l : ℕ) (rest : List ℕ) → last ≡ 1 → (twoBytes h l ≡ 9 → ⊥) → readCard (p ++ 6 ∷ h ∷ l ∷ rest) ≡ unread 4
   pub costs-length : (h l : ℕ) (rest : List ℕ) → MayCosts last → (twoBytes h l ≡ 8 → ⊥) → readCard (p ++ 7 ∷ h ∷ l ∷ rest) ≡ unread 4
   pub type-cut : (rest : List ℕ) → length rest < 10 → readCard (p ++ 2 ∷ 0 ∷ 10 ∷ rest) ≡ unread 1
   pub data-cut : (rest : List ℕ) → MayData last → length rest < 4 → readCard (p ++ 3 ∷ 0 ∷ 4 ∷ rest) ≡ unread 1
   pub most-cut : (rest : List ℕ) → MayMost last → length rest < 2 → readCard (p ++ 4 ∷ 0 ∷ 2 ∷ rest) ≡ unread 1
+  pub pace-cut : (rest : List ℕ) → MayPace last → length rest < 8 → readCard (p ++ 5 ∷ 0 ∷ 8 ∷ rest) ≡ unread 1
   pub second-cut : (rest : List ℕ) → last ≡ 1 → length rest < 9 → readCard (p ++ 6 ∷ 0 ∷ 9 ∷ rest) ≡ unread 1
   pub costs-cut : (rest : List ℕ) → MayCosts last → length rest < 8 → readCard (p ++ 7 ∷ 0 ∷ 8 ∷ rest) ≡ unread 1
   pub seventh-type : (u1 u2 u3 u4 s1 s2 s3 s4 n1 n2 : ℕ) (rest : List ℕ) → 6 ≤ k → readCard (p ++ (typeField u1 u2 u3 u4 s1 s2 s3 s4 n1 n2 ++ rest)) ≡ unread 7
@@ -89,6 +109,8 @@ pub record NextField (p : List ℕ) (last k m : ℕ) : Type 0 where
   pub costs-size : (u1 u2 u3 u4 s1 s2 s3 s4 : ℕ) (rest : List ℕ) → MayCosts last → (1000000 < fourBytes u1 u2 u3 u4) ⊎ (1000000 < fourBytes s1 s2 s3 s4)
       → readCard (p ++ (costsField u1 u2 u3 u4 s1 s2 s3 s4 ++ rest)) ≡ unread 8
   pub most-none : (q1 q2 : ℕ) (rest : List ℕ) → MayMost last → twoBytes q1 q2 ≡ 0 → readCard (p ++ (mostField q1 q2 ++ rest)) ≡ unread 31
+  pub pace-broken : (c1 c2 c3 c4 t1 t2 t3 t4 : ℕ) (rest : List ℕ) → MayPace last → (PaceWithin whole u (fourBytes c1 c2 c3 c4) (fourBytes t1 t2 t3 t4) → ⊥)
+      → readCard (p ++ (paceField c1 c2 c3 c4 t1 t2 t3 t4 ++ rest)) ≡ unread 43
 
 -- "Either all are present or none": with one kind no type has a tag 7, with two each has one
 pub record AllOrNone (k kinds w : ℕ) : Type 0 where
@@ -106,6 +128,6 @@ pub record FileEnd (p : List ℕ) (k c kinds w : ℕ) : Type 0 where
 -- A refusal is the same whether two kinds of engine are wanted or one
 pub record LaterFields : Type 0 where
   pub empty-file : readCard [] ≡ unread 9
-  pub next-field : (p : List ℕ) (last k c m kinds w : ℕ) → Beginning p last k c m kinds w → NextField p last k m
-  pub file-end : (p : List ℕ) (last k c m kinds w : ℕ) → Beginning p last k c m kinds w → FileEnd p k c kinds w
+  pub next-field : (p : List ℕ) (last k c m kinds w whole u : ℕ) → Beginning p last k c m kinds w whole u → NextField p last k m whole u
+  pub file-end : (p : List ℕ) (last k c m kinds w whole u : ℕ) → Beginning p last k c m kinds w whole u → FileEnd p k c kinds w
   pub refused-alike : (file : List ℕ) (n : ℕ) → readCard file ≡ unread n → readFile file ≡ unread n

@@ -1,4 +1,4 @@
--- Document 01's "System file": what a list of bytes reads as, with refusals 1 to 10, 31 and 41 in the order under "From the input", and 42 where one kind of engine is wanted.
+-- Document 01's "System file": what a list of bytes reads as, with refusals 1 to 10, 31, 41 and 43 in the order under "From the input", and 42 where one kind of engine is wanted.
 use Prim.Native.Nat.{ℕ, zero, suc, _+_, _*_}
 use mathlib.Core.List.{List, [], _∷_}
 use mathlib.Core.Bool.{Bool, not, cond, _||_}
@@ -6,6 +6,7 @@ use mathlib.Core.Path.{_≡_}
 use lib.ListN.{length, getD, take, drop}
 use lib.Dec.{leb, eqb}
 use Rattle.system.specs.declared.Most.the-variants.{AtMost}
+use Rattle.system.specs.declared.Pace.the-variants.{Paced}
 use Rattle.system.specs.declared.There.the-variants.{Takes}
 use Rattle.system.specs.declared.TaskType.{TaskType}
 use Rattle.system.specs.declared.System.{System}
@@ -16,10 +17,10 @@ use Rattle.system.specs.declared.reader.Head.{Head}
 use Rattle.system.specs.declared.reader.Head.the-variants.{Ruled, Stops}
 use Rattle.system.specs.declared.reader.Field.{Field}
 use Rattle.system.specs.declared.Opened.{Opened}
-use Rattle.system.specs.Values.{taskOf, withData, withMost, withCosts, blank, withPlatform, withSecond, withType, lastType, withLast}
-use Rattle.system.specs.Limits.{platformFault, kindFault, typeFault, mostFault, costsFault, orElse, kindsFault, columnsFault, isOneKind}
+use Rattle.system.specs.Values.{taskOf, withData, withMost, withPace, withCosts, blank, withPlatform, withSecond, withType, lastType, withLast}
+use Rattle.system.specs.Limits.{platformFault, kindFault, typeFault, mostFault, paceFault, costsFault, orElse, kindsFault, columnsFault, isOneKind}
 use Rattle.system.specs.Outcome.{Outcome, accepted, refused, fromInput, outcomeOf}
-pub use Rattle.system.specs.Rules.{platformRule, typeRule, dataRule, mostRule, secondRule, costsRule, fieldRules, follows, mayFollow, headSize, longestField, longestFile}
+pub use Rattle.system.specs.Rules.{platformRule, typeRule, dataRule, mostRule, paceRule, secondRule, costsRule, fieldRules, follows, mayFollow, headSize, longestField, longestFile}
 unfoldable pub use Rattle.system.specs.Rules.{ruleOf}
 
 -- what a file, or a part of one, reads as: a system, or the number of a refusal from the input
@@ -67,7 +68,7 @@ fieldAt file at =
 unfoldable pub bodyAt : List ℕ → ℕ → List ℕ
 bodyAt file at = bodyPart (drop at file)
 
--- the tag of a type, of its d and its q, that of a second kind of engine, and that of a type's u and s there
+-- the tag of a type, of its d, its q, and its C and T, that of a second kind of engine, and that of a type's u and s there
 abbrev pub isType : ℕ → Bool
 isType tag = eqb tag (typeRule .tag)
 
@@ -76,6 +77,9 @@ isData tag = eqb tag (dataRule .tag)
 
 abbrev pub isMost : ℕ → Bool
 isMost tag = eqb tag (mostRule .tag)
+
+abbrev pub isPace : ℕ → Bool
+isPace tag = eqb tag (paceRule .tag)
 
 abbrev pub isSecond : ℕ → Bool
 isSecond tag = eqb tag (secondRule .tag)
@@ -123,6 +127,14 @@ mostFrom q y = unlessFault (mostFault (AtMost q)) (withLast (withMost q (lastTyp
 abbrev pub mostOf : List ℕ → System → Reading
 mostOf b y = mostFrom (word2 b 0) y
 
+-- C and T of the last type, by its u and the platform's U: 43
+unfoldable pub paceFrom : ℕ → ℕ → System → Reading
+paceFrom c p y = unlessFault (paceFault (y .timecap) (lastType y .time) (Paced (record { run = c; period = p }))) (withLast (withPace c p (lastType y)) y)
+
+-- its body: C (4), T (4)
+abbrev pub paceOf : List ℕ → System → Reading
+paceOf b y = paceFrom (word4 b 0) (word4 b 4) y
+
 -- a second kind of engine with these numbers: 5, 8
 unfoldable pub secondFrom : ℕ → ℕ → ℕ → System → Reading
 secondFrom n u s y = unlessFault (kindFault (y .engines) n u s) (withSecond n u s y)
@@ -139,7 +151,7 @@ costsFrom u s y = unlessFault (costsFault (Takes (record { time = u; memory = s 
 abbrev pub costsOf : List ℕ → System → Reading
 costsOf b y = costsFrom (word4 b 0) (word4 b 4) y
 
--- "in one field: start cut (1), 2, 3, 4, body cut (1), 7, then 5, 6, 8", and 31 "after 8" (request 2026-04). First the head: its tag and length, whether they stand there, and whether the body does
+-- "in one field: start cut (1), 2, 3, 4, body cut (1), 7, then 5, 6, 8", 31 "after 8" (request 2026-04), and 43 "after 31" (2026-14). First the head: its tag and length, whether they stand there, and whether the body does
 unfoldable pub ruledHead : RuleFound → ℕ → Bool → ℕ → Head
 ruledHead Unknown size whole last = Stops 2
 ruledHead (Known r) size whole last =
@@ -161,9 +173,10 @@ bodyOf r b y =
     (cond (isType (r .tag)) (typeOf b y)
     (cond (isData (r .tag)) (dataOf b y)
     (cond (isMost (r .tag)) (mostOf b y)
+    (cond (isPace (r .tag)) (paceOf b y)
     (cond (isSecond (r .tag)) (secondOf b y)
     (cond (isCosts (r .tag)) (costsOf b y)
-    (platformOf b y))))))
+    (platformOf b y)))))))
 
 unfoldable pub ruledField : Head → List ℕ → System → Reading
 ruledField (Stops n) b y = unread n

@@ -6,13 +6,16 @@ use lib.ListN.{length}
 use lib.Dec.{leb, eqb}
 use Rattle.system.specs.declared.Most.{Most}
 use Rattle.system.specs.declared.Most.the-variants.{NotGiven, AtMost}
+use Rattle.system.specs.declared.Cycle.{Cycle}
+use Rattle.system.specs.declared.Pace.{Pace}
+use Rattle.system.specs.declared.Pace.the-variants.{Unpaced, Paced}
 use Rattle.system.specs.declared.There.{There}
 use Rattle.system.specs.declared.There.the-variants.{Absent, Takes}
 use Rattle.system.specs.declared.Second.{Second}
 use Rattle.system.specs.declared.Second.the-variants.{OneKind, TwoKinds}
 use Rattle.system.specs.declared.TaskType.{TaskType}
 use Rattle.system.specs.declared.System.{System}
-pub use Rattle.system.specs.Numbers.{engineLimit, typeLimit, sizeLimit, columnLimit}
+pub use Rattle.system.specs.Numbers.{engineLimit, typeLimit, sizeLimit, columnLimit, tickLimit}
 use Rattle.system.specs.Values.{ceilingsOf}
 
 -- of two tests one after the other, the first that calls for a refusal
@@ -47,6 +50,22 @@ abbrev pub mostFault : Most → ℕ
 mostFault NotGiven = 0
 mostFault (AtMost q) = cond (eqb q 0) 31 0
 
+-- request 2026-14: C and T are "1 to 65,535, C at most T", U is not 0, and u × T is not less than C × U; `whole` is U
+abbrev pub cycleKeeps : ℕ → ℕ → Cycle → Bool
+cycleKeeps whole u c =
+    leb 1 (c .run) && leb (c .run) (c .period) && leb (c .period) tickLimit && leb 1 whole && leb (c .run * whole) (u * c .period)
+
+-- "43, when C or T breaks these bounds, U is 0, or u × T is less than C × U": of a type
+abbrev pub paceFault : ℕ → ℕ → Pace → ℕ
+paceFault whole u Unpaced = 0
+paceFault whole u (Paced c) = cond (not (cycleKeeps whole u c)) 43 0
+
+-- of the first k types
+unfoldable pub pacesFault : ℕ → ℕ → List TaskType → ℕ
+pacesFault whole k [] = 0
+pacesFault whole zero (t ∷ ts) = 0
+pacesFault whole (suc k) (t ∷ ts) = orElse (paceFault whole (t .time) (t .pace)) (pacesFault whole k ts)
+
 -- u and s on the second kind, where they are given
 abbrev pub costsFault : There → ℕ
 costsFault Absent = 0
@@ -67,6 +86,11 @@ columnsFault ts = cond (not (leb (columnsOf (map (λ (t : TaskType). t .ceiling)
 abbrev pub notGiven : Most → Bool
 notGiven NotGiven = true
 notGiven (AtMost q) = false
+
+-- no C and T
+abbrev pub unpaced : Pace → Bool
+unpaced Unpaced = true
+unpaced (Paced c) = false
 
 -- u and s on the second kind are given
 abbrev pub given : There → Bool
@@ -90,7 +114,7 @@ kindsFault y = cond (not (kindsAgree (isOneKind (y .second)) (y .typecount) (y .
 
 -- an entry past k
 abbrev pub zeroTask : TaskType → Bool
-zeroTask t = eqb (t .time) 0 && eqb (t .memory) 0 && eqb (t .ceiling) 0 && eqb (t .data) 0 && notGiven (t .most) && not (given (t .there))
+zeroTask t = eqb (t .time) 0 && eqb (t .memory) 0 && eqb (t .ceiling) 0 && eqb (t .data) 0 && notGiven (t .most) && unpaced (t .pace) && not (given (t .there))
 
 -- an entry of a type
 abbrev pub soundTask : TaskType → Bool
@@ -111,6 +135,7 @@ keepsCard y =
     && eqb (length (y .types)) typeLimit
     && typesKeep (y .typecount) (y .types)
     && eqb (columnsFault (y .types)) 0
+    && eqb (pacesFault (y .timecap) (y .typecount) (y .types)) 0
     && eqb (secondFault (y .engines) (y .second)) 0
     && eqb (kindsFault y) 0
 

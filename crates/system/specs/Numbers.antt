@@ -16,6 +16,10 @@ sizeLimit = 1000000
 abbrev pub columnLimit : ℕ
 columnLimit = 4096
 
--- the bytes that program `plan` reads (request 2026-03)
+-- the largest C and T (request 2026-14)
+abbrev pub tickLimit : ℕ
+tickLimit = 65535
+
+-- the bytes that program `plan` reads: 256 since request 2026-03, 384 since 2026-14
 abbrev pub fileBytes : ℕ
-fileBytes = 256
+fileBytes = 384

@@ -24,6 +24,10 @@ dataRule = record { tag = 3; body = 4; allowed = typeLimit }
 abbrev pub mostRule : FieldRule
 mostRule = record { tag = 4; body = 2; allowed = typeLimit }
 
+-- C and T, the run time and the period of an instance of that type (request 2026-14)
+abbrev pub paceRule : FieldRule
+paceRule = record { tag = 5; body = 8; allowed = typeLimit }
+
 -- the second kind's number, U and S; and u and s of the type before it there (request 2026-13)
 abbrev pub secondRule : FieldRule
 secondRule = record { tag = 6; body = 9; allowed = 1 }
@@ -32,11 +36,11 @@ abbrev pub costsRule : FieldRule
 costsRule = record { tag = 7; body = 8; allowed = typeLimit }
 
 abbrev pub fieldRules : List FieldRule
-fieldRules = platformRule ∷ typeRule ∷ dataRule ∷ mostRule ∷ secondRule ∷ costsRule ∷ []
+fieldRules = platformRule ∷ typeRule ∷ dataRule ∷ mostRule ∷ paceRule ∷ secondRule ∷ costsRule ∷ []
 
 -- a tag, and that of the field before it, 0 at the file's start: refusal 3 is decided from it alone. A platform is first, types come after it,
 -- d "follows its type directly, at most once" (request 2026-03), and q comes "after the type and any tag 3, at most one" (2026-04).
--- Request 2026-13: tag 6 stands "directly after the platform", and tag 7 "once, last after each type"
+-- Request 2026-13: tag 6 stands "directly after the platform", and tag 7 "once, last after each type". Request 2026-14: tag 5 stands "after any tag 4, at most one"
 abbrev pub follows : List Follow
 follows =
     record { tag = 1; last = 0 }
@@ -47,11 +51,16 @@ follows =
     ∷ record { tag = 4; last = 2 }
     ∷ record { tag = 4; last = 3 }
     ∷ record { tag = 2; last = 4 }
+    ∷ record { tag = 5; last = 2 }
+    ∷ record { tag = 5; last = 3 }
+    ∷ record { tag = 5; last = 4 }
+    ∷ record { tag = 2; last = 5 }
     ∷ record { tag = 6; last = 1 }
     ∷ record { tag = 2; last = 6 }
     ∷ record { tag = 7; last = 2 }
     ∷ record { tag = 7; last = 3 }
     ∷ record { tag = 7; last = 4 }
+    ∷ record { tag = 7; last = 5 }
     ∷ record { tag = 2; last = 7 }
     ∷ []
 
@@ -75,7 +84,7 @@ headSize = 3
 abbrev pub ruledSize : FieldRule → ℕ
 ruledSize r = headSize + r .body
 
--- of the longest one, 13; and of all fields that the rules allow, 13 + 6 × 13 + 6 × 7 + 6 × 5 + 12 + 6 × 11 = 241: no longer file opens
+-- of the longest one, 13; and of all fields that the rules allow, 13 + 6 × 13 + 6 × 7 + 6 × 5 + 6 × 11 + 12 + 6 × 11 = 307: no longer file opens
 abbrev pub longestOf : List FieldRule → ℕ
 longestOf [] = 0
 longestOf (r ∷ rs) = max (ruledSize r) (longestOf rs)

@@ -3,26 +3,47 @@ use Prim.Native.Nat.{ℕ, suc, _-_}
 use mathlib.Core.List.{List, _++_, map}
 use lib.ListN.{replicate, getD, set, take}
 use Rattle.system.specs.declared.Most.the-variants.{NotGiven, AtMost}
+use Rattle.system.specs.declared.Pace.the-variants.{Unpaced, Paced}
 use Rattle.system.specs.declared.There.the-variants.{Absent, Takes}
 use Rattle.system.specs.declared.Second.the-variants.{OneKind, TwoKinds}
 use Rattle.system.specs.declared.TaskType.{TaskType}
 use Rattle.system.specs.declared.System.{System}
 use Rattle.system.specs.Numbers.{typeLimit}
 
--- a type of these u, s and n: "without it d is 0" (request 2026-03), "Without it there is no limit" (2026-04), and nothing of a second kind (2026-13)
+-- a type of these u, s and n: "without it d is 0" (request 2026-03), "Without it there is no limit" (2026-04), no C and T (2026-14), and nothing of a second kind (2026-13)
 abbrev pub taskOf : ℕ → ℕ → ℕ → TaskType
-taskOf u s n = record { time = u; memory = s; ceiling = n; «data» = 0; most = NotGiven; there = Absent }
+taskOf u s n = record { time = u; memory = s; ceiling = n; «data» = 0; most = NotGiven; pace = Unpaced; there = Absent }
 
--- the type with its d, with its q, and with its u and s on the second kind
+-- the type with its d, with its q, with its C and T, and with its u and s on the second kind
 abbrev pub withData : ℕ → TaskType → TaskType
-withData d t = record { time = t .time; memory = t .memory; ceiling = t .ceiling; «data» = d; most = t .most; there = t .there }
+withData d t = record { time = t .time; memory = t .memory; ceiling = t .ceiling; «data» = d; most = t .most; pace = t .pace; there = t .there }
 
 abbrev pub withMost : ℕ → TaskType → TaskType
-withMost q t = record { time = t .time; memory = t .memory; ceiling = t .ceiling; «data» = t .data; most = AtMost q; there = t .there }
+withMost q t = record { time = t .time; memory = t .memory; ceiling = t .ceiling; «data» = t .data; most = AtMost q; pace = t .pace; there = t .there }
+
+abbrev pub withPace : ℕ → ℕ → TaskType → TaskType
+withPace c p t =
+    record {
+      time = t .time;
+      memory = t .memory;
+      ceiling = t .ceiling;
+      «data» = t .data;
+      most = t .most;
+      pace = Paced (record { run = c; period = p });
+      there = t .there;
+    }
 
 abbrev pub withCosts : ℕ → ℕ → TaskType → TaskType
 withCosts u s t =
-    record { time = t .time; memory = t .memory; ceiling = t .ceiling; «data» = t .data; most = t .most; there = Takes (record { time = u; memory = s }) }
+    record {
+      time = t .time;
+      memory = t .memory;
+      ceiling = t .ceiling;
+      «data» = t .data;
+      most = t .most;
+      pace = t .pace;
+      there = Takes (record { time = u; memory = s });
+    }
 
 -- what stands for a type past k
 abbrev pub noTask : TaskType

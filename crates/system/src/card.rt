@@ -3,13 +3,14 @@ ghost use mathlib.Core.Path.{_≡_};
 ghost use mathlib.Core.List.{map};
 ghost use Rattle.system.specs.Card.{taskHere, taskThere, firstOf, secondOf};
 use crate::Kind;
+use crate::Pace;
 use crate::Second;
 use crate::System;
 use crate::TYPE_LIMIT;
 use crate::TaskType;
 use crate::There;
 
-// A type as the engines of the first kind see it.
+// A type as the engines of the first kind see it, without C and T: only a card of one kind has runs (request 2026-14).
 fn task_here(t: TaskType) -> TaskType
     ensures { λ r. ⌜ r ≡ taskHere t ⌝ }
 {
@@ -20,6 +21,7 @@ fn task_here(t: TaskType) -> TaskType
         ceiling: t.ceiling,
         data: t.data,
         most: most,
+        pace: Pace::Unpaced,
         there: There::Absent,
     }
 }

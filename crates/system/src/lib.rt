@@ -13,6 +13,7 @@ pub use limits::ENGINE_LIMIT;
 pub use limits::FILE_BYTES;
 pub use limits::NO_COLUMN;
 pub use limits::SIZE_LIMIT;
+pub use limits::TICK_LIMIT;
 pub use limits::TYPE_LIMIT;
 pub use limits::columns_fault;
 pub use limits::columns_within;
@@ -20,6 +21,8 @@ pub use limits::costs_fault;
 pub use limits::keeps_limits;
 pub use limits::kinds_fault;
 pub use limits::most_fault;
+pub use limits::pace_fault;
+pub use limits::paces_fault;
 pub use limits::platform_fault;
 pub use limits::second_fault;
 pub use limits::type_fault;
@@ -38,6 +41,7 @@ pub use rules::COSTS;
 pub use rules::DATA;
 pub use rules::FieldRule;
 pub use rules::MOST;
+pub use rules::PACE;
 pub use rules::PLATFORM;
 pub use rules::RuleFound;
 pub use rules::SECOND;
@@ -53,6 +57,18 @@ pub enum Most {
     AtMost(u16),
 }
 
+// The run time and the period of an instance, in ticks: request 2026-14's C and T, of 32 bits, so that 0 and 65,536 can be said wrong.
+pub struct Cycle {
+    pub run: u32,
+    pub period: u32,
+}
+
+// A type's C and T, where they were given. Not given is not a C and T of 0.
+pub enum Pace {
+    Unpaced,
+    Paced(Cycle),
+}
+
 // What an instance takes on an engine of the second kind: request 2026-13's u and s there.
 pub struct Costs {
     pub time: u32,
@@ -65,13 +81,15 @@ pub enum There {
     Takes(Costs),
 }
 
-// A type of packet function: document 01's u, s and n, request 2026-03's d, the data memory of one instance, 2026-04's q, and 2026-13's u and s on the second kind.
+// A type of packet function: document 01's u, s and n, request 2026-03's d, the data memory of one instance, 2026-04's q, 2026-14's C and T,
+// and 2026-13's u and s on the second kind.
 pub struct TaskType {
     pub time: u32,
     pub memory: u32,
     pub ceiling: u16,
     pub data: u32,
     pub most: Most,
+    pub pace: Pace,
     pub there: There,
 }
 
@@ -88,7 +106,7 @@ pub enum Second {
     TwoKinds(Kind),
 }
 
-// Document 01's m, rule, U, S and k, with the types in order of their number, all 0, no q and nothing of a second kind given past k; and any second kind of engine.
+// Document 01's m, rule, U, S and k, with the types in order of their number, all 0 and nothing given past k; and any second kind of engine.
 pub struct System {
     pub engines: usize,
     pub rule: u8,

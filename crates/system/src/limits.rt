@@ -4,9 +4,11 @@ ghost use mathlib.Core.Bool.{cond, _&&_};
 ghost use lib.ListN.{length};
 ghost use lib.Dec.{ltb, eqb};
 ghost use Rattle.system.specs.Inner.{columnsWithin};
-ghost use Rattle.system.specs.Limits.{typeLimit, sizeFault, platformFault, kindCounted, kindFault, secondFault, typeFault, mostFault, costsFault, columnsFault};
-ghost use Rattle.system.specs.Limits.{notGiven, given, isOneKind, kindsAgree, kindsFault, zeroTask, soundTask, typesKeep, keepsCard, keepsLimits};
+ghost use Rattle.system.specs.Limits.{typeLimit, sizeFault, platformFault, kindCounted, kindFault, secondFault, typeFault, mostFault, cycleKeeps, paceFault, pacesFault, costsFault, columnsFault};
+ghost use Rattle.system.specs.Limits.{notGiven, unpaced, given, isOneKind, kindsAgree, kindsFault, zeroTask, soundTask, typesKeep, keepsCard, keepsLimits};
+use crate::Cycle;
 use crate::Most;
+use crate::Pace;
 use crate::Second;
 use crate::System;
 use crate::TaskType;
@@ -27,8 +29,11 @@ pub const COLUMN_LIMIT: usize = 4096;
 // What a cell holds that says no, and the lent table where a column has no predecessor.
 pub const NO_COLUMN: u16 = 65535;
 
+// The largest C and T.
+pub const TICK_LIMIT: u32 = 65535;
+
 // The bytes that program `plan` reads.
-pub const FILE_BYTES: usize = 256;
+pub const FILE_BYTES: usize = 384;
 
 // U and S of a kind of engine, or u and s there: 8.
 fn size_fault(time: u32, memory: u32) -> u8
@@ -106,6 +111,47 @@ pub fn most_fault(most: Most) -> u8
     0
 }
 
+// C and T within their bounds, on an engine that has time, and C of each T no more of the engine than u is of its U. Below 65,536 times a number of 32 bits fits.
+fn cycle_keeps(timecap: u32, time: u32, c: Cycle) -> bool
+    ensures { λ r. ⌜ r ≡ cycleKeeps timecap time c ⌝ }
+{
+    if !((1 <= c.run) & (c.run <= c.period) & (c.period <= TICK_LIMIT)) {
+        return false;
+    }
+    (1 <= timecap) & ((c.run as u64) * (timecap as u64) <= (time as u64) * (c.period as u64))
+}
+
+// A type's C and T, where they are given, with its u and the U of the engines: 43.
+pub fn pace_fault(timecap: u32, time: u32, pace: Pace) -> u8
+    ensures { λ r. ⌜ r ≡ paceFault timecap time pace ⌝ }
+{
+    let Pace::Paced(c) = pace else {
+        return 0;
+    };
+    if !cycle_keeps(timecap, time, c) {
+        return 43;
+    }
+    0
+}
+
+// The first fault among the C and T of the first k types: 43.
+pub fn paces_fault(timecap: u32, k: usize, types: [TaskType; TYPE_LIMIT]) -> u8
+    ensures { λ r. ⌜ r ≡ pacesFault timecap k types ⌝ }
+{
+    for i in 0..TYPE_LIMIT {
+        if k <= i {
+            return 0;
+        }
+        let t = types[i];
+        let pace = t.pace;
+        let fault = pace_fault(timecap, t.time, pace);
+        if fault != 0 {
+            return fault;
+        }
+    }
+    0
+}
+
 // A type's u and s on the second kind, where they are given: 8.
 pub fn costs_fault(there: There) -> u8
     ensures { λ r. ⌜ r ≡ costsFault there ⌝ }
@@ -148,6 +194,16 @@ fn not_given(most: Most) -> bool
     match most {
         Most::NotGiven => true,
         Most::AtMost(q) => false,
+    }
+}
+
+// No C and T are given.
+fn unpaced(pace: Pace) -> bool
+    ensures { λ r. ⌜ r ≡ unpaced pace ⌝ }
+{
+    match pace {
+        Pace::Unpaced => true,
+        Pace::Paced(c) => false,
     }
 }
 
@@ -205,9 +261,10 @@ fn zero_task(t: TaskType) -> bool
     ensures { λ r. ⌜ r ≡ zeroTask t ⌝ }
 {
     let most = t.most;
+    let pace = t.pace;
     let there = t.there;
     let none = (t.time == 0) & (t.memory == 0) & (t.ceiling == 0) & (t.data == 0);
-    none & not_given(most) & !given(there)
+    none & not_given(most) & unpaced(pace) & !given(there)
 }
 
 // The entry is a type within the limits.
@@ -252,7 +309,8 @@ fn keeps_card(y: System) -> bool
     let platform = platform_fault(y.engines, y.rule, y.timecap, y.memorycap) == 0;
     let counted = platform & (1 <= k) & (k <= TYPE_LIMIT);
     let keep = counted & types_keep(k, types) & (columns_fault(types) == 0);
-    keep & (second_fault(y.engines, second) == 0) & (kinds_fault(y) == 0)
+    let run = paces_fault(y.timecap, k, types) == 0;
+    keep & run & (second_fault(y.engines, second) == 0) & (kinds_fault(y) == 0)
 }
 
 // Every limit of document 01, zero entries past k, and one kind of engine: a system that a file gives of which a board is opened.

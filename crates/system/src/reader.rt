@@ -5,11 +5,13 @@ ghost use lib.ListN.{getD, drop};
 ghost use Rattle.system.specs.Inner.{partOf, Typed, PastTypes, BodyReady};
 ghost use Rattle.system.specs.Limits.{typeLimit};
 ghost use Rattle.system.specs.Layout.{word2, word4, fieldAt, headFrom, seenOf, ruledField};
-ghost use Rattle.system.specs.Layout.{unlessFault, platformOf, typeOf, dataOf, mostOf, secondOf, costsOf, bodyOf, endOf, readCard, readFile, unread, Reads};
+ghost use Rattle.system.specs.Layout.{unlessFault, platformOf, typeOf, dataOf, mostOf, paceOf, secondOf, costsOf, bodyOf, endOf, readCard, readFile, unread, Reads};
 use crate::Answer;
 use crate::Costs;
+use crate::Cycle;
 use crate::Most;
 use crate::Opened;
+use crate::Pace;
 use crate::Refusal;
 use crate::System;
 use crate::There;
@@ -19,6 +21,7 @@ use crate::rules::COSTS;
 use crate::rules::DATA;
 use crate::rules::FieldRule;
 use crate::rules::MOST;
+use crate::rules::PACE;
 use crate::rules::RuleFound;
 use crate::rules::SECOND;
 use crate::rules::TYPE;
@@ -227,6 +230,21 @@ fn most_of(b: &[u8], y: System) -> Opened
     unless_fault(limits::most_fault(Most::AtMost(q)), values::with_last(t, y))
 }
 
+// The body of a type's C and T, for the last type.
+fn pace_of(b: &[u8], y: System) -> Opened
+    requires { ⌜ Typed y ⌝ }
+    ensures { λ r. ⌜ Reads (paceOf (now (b .entry)) y) r ⌝ }
+{
+    let run = four_bytes(b, 0);
+    let period = four_bytes(b, 4);
+    let last = values::last_type(y);
+    let fault = limits::pace_fault(y.timecap, last.time, Pace::Paced(Cycle { run, period }));
+    unless_fault(
+        fault,
+        values::with_last(values::with_pace(run, period, last), y),
+    )
+}
+
 // The body of a second kind of engine: its number, U, S.
 fn second_of(b: &[u8], y: System) -> Opened
     ensures { λ r. ⌜ Reads (secondOf (now (b .entry)) y) r ⌝ }
@@ -268,6 +286,9 @@ fn body_of(rule: FieldRule, b: &[u8], y: System) -> Opened
     if tag == MOST {
         return most_of(b, y);
     }
+    if tag == PACE {
+        return pace_of(b, y);
+    }
     if tag == SECOND {
         return second_of(b, y);
     }
@@ -304,7 +325,7 @@ fn end_of(last: u8, y: System) -> Opened
     unless_fault(limits::columns_fault(types), y)
 }
 
-// The system of a file, of one kind of engine or two, or refusals 1 to 10, 31 and 41.
+// The system of a file, of one kind of engine or two, or refusals 1 to 10, 31, 41 and 43.
 pub fn read_card(file: &[u8]) -> Opened
     ensures { λ r. ⌜ Reads (readCard (now (file .entry))) r ⌝ }
 {

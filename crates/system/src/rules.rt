@@ -31,12 +31,14 @@ pub const DATA: u8 = 3;
 
 pub const MOST: u8 = 4;
 
+pub const PACE: u8 = 5;
+
 pub const SECOND: u8 = 6;
 
 pub const COSTS: u8 = 7;
 
 // The table of fields: refusals 2, 4 and 7 are decided from it.
-const RULES: [FieldRule; 6] = [
+const RULES: [FieldRule; 7] = [
     FieldRule {
         tag: PLATFORM,
         body: 10, // m, rule, U, S
@@ -58,6 +60,11 @@ const RULES: [FieldRule; 6] = [
         allowed: TYPE_LIMIT, // one for each type
     },
     FieldRule {
+        tag: PACE,
+        body: 8, // C, T (request 2026-14)
+        allowed: TYPE_LIMIT, // one for each type
+    },
+    FieldRule {
         tag: SECOND,
         body: 9, // the second kind's number, U, S (request 2026-13)
         allowed: 1,
@@ -70,7 +77,7 @@ const RULES: [FieldRule; 6] = [
 ];
 
 // Which field may follow which: refusal 3 is decided from it alone.
-const FOLLOWS: [Follow; 14] = [
+const FOLLOWS: [Follow; 19] = [
     Follow {
         tag: PLATFORM,
         last: 0,
@@ -104,6 +111,22 @@ const FOLLOWS: [Follow; 14] = [
         last: MOST,
     },
     Follow {
+        tag: PACE, // after its type and any d and q, and once
+        last: TYPE,
+    },
+    Follow {
+        tag: PACE,
+        last: DATA,
+    },
+    Follow {
+        tag: PACE,
+        last: MOST,
+    },
+    Follow {
+        tag: TYPE,
+        last: PACE,
+    },
+    Follow {
         tag: SECOND, // directly after the platform, and once
         last: PLATFORM,
     },
@@ -122,6 +145,10 @@ const FOLLOWS: [Follow; 14] = [
     Follow {
         tag: COSTS,
         last: MOST,
+    },
+    Follow {
+        tag: COSTS,
+        last: PACE,
     },
     Follow {
         tag: TYPE,

@@ -2,18 +2,20 @@
 ghost use mathlib.Core.Path.{_≡_};
 ghost use Prim.Native.Nat.{_<_};
 ghost use Rattle.system.specs.Limits.{typeLimit};
-ghost use Rattle.system.specs.Values.{taskOf, withData, withMost, withCosts, noTask, blank, withPlatform, withSecond, withType, lastType, withLast, clearedTypes, cleared};
+ghost use Rattle.system.specs.Values.{taskOf, withData, withMost, withPace, withCosts, noTask, blank, withPlatform, withSecond, withType, lastType, withLast, clearedTypes, cleared};
 ghost use Rattle.system.specs.Inner.{Typed};
 use crate::Costs;
+use crate::Cycle;
 use crate::Kind;
 use crate::Most;
+use crate::Pace;
 use crate::Second;
 use crate::System;
 use crate::TYPE_LIMIT;
 use crate::TaskType;
 use crate::There;
 
-// A type of these u, s and n: without their fields, d is 0, no q is given, and nothing of a second kind.
+// A type of these u, s and n: without their fields, d is 0, no q, C and T are given, and nothing of a second kind.
 pub(crate) fn task_of(time: u32, memory: u32, ceiling: u16) -> TaskType
     ensures { λ r. ⌜ r ≡ taskOf time memory ceiling ⌝ }
 {
@@ -23,6 +25,7 @@ pub(crate) fn task_of(time: u32, memory: u32, ceiling: u16) -> TaskType
         ceiling,
         data: 0,
         most: Most::NotGiven,
+        pace: Pace::Unpaced,
         there: There::Absent,
     }
 }
@@ -40,6 +43,7 @@ pub(crate) fn with_data(d: u32, t: TaskType) -> TaskType
 pub(crate) fn with_most(q: u16, t: TaskType) -> TaskType
     ensures { λ r. ⌜ r ≡ withMost q t ⌝ }
 {
+    let pace = t.pace;
     let there = t.there;
     TaskType {
         time: t.time,
@@ -47,6 +51,24 @@ pub(crate) fn with_most(q: u16, t: TaskType) -> TaskType
         ceiling: t.ceiling,
         data: t.data,
         most: Most::AtMost(q),
+        pace,
+        there,
+    }
+}
+
+// The type with its C and T.
+pub(crate) fn with_pace(run: u32, period: u32, t: TaskType) -> TaskType
+    ensures { λ r. ⌜ r ≡ withPace run period t ⌝ }
+{
+    let most = t.most;
+    let there = t.there;
+    TaskType {
+        time: t.time,
+        memory: t.memory,
+        ceiling: t.ceiling,
+        data: t.data,
+        most,
+        pace: Pace::Paced(Cycle { run, period }),
         there,
     }
 }
@@ -56,12 +78,14 @@ pub(crate) fn with_costs(time: u32, memory: u32, t: TaskType) -> TaskType
     ensures { λ r. ⌜ r ≡ withCosts time memory t ⌝ }
 {
     let most = t.most;
+    let pace = t.pace;
     TaskType {
         time: t.time,
         memory: t.memory,
         ceiling: t.ceiling,
         data: t.data,
         most,
+        pace,
         there: There::Takes(Costs { time, memory }),
     }
 }

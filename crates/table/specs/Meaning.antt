@@ -113,7 +113,7 @@ boundOut y =
 abbrev pub NoneFits : System → Type 0
 NoneFits y = (t : ℕ) → 1 ≤ t → 1 ≤ ceilingNo y t → (y .timecap < typeNo y t .time) ⊎ (y .memorycap < typeNo y t .memory + typeNo y t .data)
 
--- what the call `fill_table` promises: 1 to 10, 31 and 41, then 11 exactly where a part is too short, and the table as lent; else the table filled, and the answer is the number of pairs tried,
+-- what the call `fill_table` promises: 1 to 10, 31, 41 and 43, then 11 exactly where a part is too short, and the table as lent; else the table filled, and the answer is the number of pairs tried,
 -- at most m times the product, and m less than that where no type fits: column 0 never counts
 pub record FillPromises (x : Reading) (table : Lent) (answer : Answer) (after : Lent) : Type 0 where
   pub answers : outcomeOf answer ≡ fillOutcome x table

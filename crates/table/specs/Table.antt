@@ -45,7 +45,7 @@ filledTo y r table = record { rows = partOf y (rowAt y r) (table .rows); predece
 abbrev pub filled : System → List ℕ → Lent → Lent
 filled y es table = filledTo y (length es) table
 
--- a call that only fills: 1 to 10, 31 and 41, 11, else accepted with the number of pairs tried (request 2026-05)
+-- a call that only fills: 1 to 10, 31, 41 and 43, 11, else accepted with the number of pairs tried (request 2026-05)
 abbrev pub fillOutcome : Reading → Lent → Outcome
 fillOutcome (unread n) table = refused fromInput n
 fillOutcome (opened y) table = unlessFails (tableCheck y table) (accepted (countedOf y (y .engines) ∷ []))

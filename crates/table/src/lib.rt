@@ -64,7 +64,7 @@ pub fn place(
     }
 }
 
-// Fills both parts for a system file, and answers the number of pairs tried (request 2026-05): refused 1 to 10, 31 and 41 as the file is read, 11 where a part is too short.
+// Fills both parts for a system file, and answers the number of pairs tried (request 2026-05): refused 1 to 10, 31, 41 and 43 as the file is read, 11 where a part is too short.
 // Of two kinds of engine no pairs are reported (2026-13); the parts are then filled for the first.
 pub fn fill_table(file: &[u8], rows: &mut [u16], predecessors: &mut [u16]) -> Answer
     ensures { λ r. ⌜ FillCall (cardOf (readCard (now (file .entry)))) (lent (now (rows .entry)) (now (predecessors .entry))) r (lent (now (rows .exit)) (now (predecessors .exit))) ⌝ }

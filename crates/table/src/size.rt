@@ -32,7 +32,7 @@ pub fn table_check(y: System, rows: usize, predecessors: usize) -> Check
     Check::Fails(Refusal::Input(11))
 }
 
-// The entries that each part of the table of a system file must have, one for each column: refused 1 to 10, 31 and 41 as the file is read.
+// The entries that each part of the table of a system file must have, one for each column: refused 1 to 10, 31, 41 and 43 as the file is read.
 pub fn columns_needed(file: &[u8]) -> Answer
     ensures { λ r. ⌜ NeedPromises (readCard (now (file .entry))) r ⌝ }
 {

@@ -1,4 +1,4 @@
--- The numbers for which a file is refused as it is read: 1 to 10, 31 and 41, and where one kind of engine is wanted 42, whatever its bytes. Each test of a field, and of the file's end, hands out one of them or none.
+-- The numbers for which a file is refused as it is read: 1 to 10, 31, 41 and 43, and where one kind of engine is wanted 42, whatever its bytes. Each test of a field, and of the file's end, hands out one of them or none.
 use Prim.Native.Nat.{ℕ, zero, suc, _≤_}
 use mathlib.Core.Path.{_≡_, refl, subst}
 use mathlib.Core.List.{List, [], _∷_, map}
@@ -8,6 +8,7 @@ use native.Mathlib.Omega.{arith}
 use lib.Dec.{eqb, leb}
 use lib.ListN.{length, drop}
 use Rattle.system.specs.declared.Most.the-variants.{AtMost}
+use Rattle.system.specs.declared.Pace.the-variants.{Paced}
 use Rattle.system.specs.declared.There.the-variants.{Takes}
 use Rattle.system.specs.declared.TaskType.{TaskType}
 use Rattle.system.specs.declared.System.{System}
@@ -16,14 +17,14 @@ use Rattle.system.specs.declared.rules.RuleFound.{RuleFound}
 use Rattle.system.specs.declared.rules.RuleFound.the-variants.{Known, Unknown}
 use Rattle.system.specs.declared.reader.Head.{Head}
 use Rattle.system.specs.declared.reader.Head.the-variants.{Ruled, Stops}
-use Rattle.system.specs.Values.{taskOf, withData, withMost, withCosts, blank, withPlatform, withSecond, withType, lastType, withLast}
-use Rattle.system.specs.Limits.{engineLimit, sizeLimit, columnLimit, orElse, sizeFault, platformFault, kindCounted, kindFault, typeFault, mostFault, costsFault, columnsOf, columnsFault, isOneKind, kindsAgree, kindsFault}
+use Rattle.system.specs.Values.{taskOf, withData, withMost, withPace, withCosts, blank, withPlatform, withSecond, withType, lastType, withLast}
+use Rattle.system.specs.Limits.{engineLimit, sizeLimit, columnLimit, orElse, sizeFault, platformFault, kindCounted, kindFault, typeFault, mostFault, cycleKeeps, paceFault, costsFault, columnsOf, columnsFault, isOneKind, kindsAgree, kindsFault}
 use Rattle.system.specs.Rules.{fieldRules, ruleOf, follows, mayFollow}
-use Rattle.system.specs.Layout.{Reading, opened, unread, byteAt, word2, word4, fieldSize, headedField, wholeField, bodyPart, isType, isData, isMost, isSecond, isCosts, seenOf, unlessFault, platformFrom, typeFrom, dataFrom, mostFrom, secondFrom, costsFrom, ruledHead, headOf, bodyOf, ruledField, fieldOf, endOf, afterField, fieldsFrom, readCard, ofOneKind, readFile}
+use Rattle.system.specs.Layout.{Reading, opened, unread, byteAt, word2, word4, fieldSize, headedField, wholeField, bodyPart, isType, isData, isMost, isPace, isSecond, isCosts, seenOf, unlessFault, platformFrom, typeFrom, dataFrom, mostFrom, paceFrom, secondFrom, costsFrom, ruledHead, headOf, bodyOf, ruledField, fieldOf, endOf, afterField, fieldsFrom, readCard, ofOneKind, readFile}
 
 -- a number for which a file is refused, whether one kind of engine is wanted or not
 abbrev Own : ℕ → Type 0
-Own n = ((1 ≤ n) × (n ≤ 10)) ⊎ ((n ≡ 31) ⊎ (n ≡ 41))
+Own n = ((1 ≤ n) × (n ≤ 10)) ⊎ ((n ≡ 31) ⊎ ((n ≡ 41) ⊎ (n ≡ 43)))
 
 -- a reading that is refused, if it is, for such a number
 data Numbered : Reading → Type 0 where
@@ -93,8 +94,11 @@ columns-fault ts = fault 10 (omega arith) (omega arith) (not (leb (columnsOf (ma
 most-fault : (q : ℕ) → Fault (mostFault (AtMost q))
 most-fault q = either Fault (eqb q 0) (inr (inr (inl refl))) kept
 
+pace-fault : (whole u c p : ℕ) → Fault (paceFault whole u (Paced (record { run = c; period = p })))
+pace-fault whole u c p = either Fault (not (cycleKeeps whole u (record { run = c; period = p }))) (inr (inr (inr (inr refl)))) kept
+
 kinds-fault : (y : System) → Fault (kindsFault y)
-kinds-fault y = either Fault (not (kindsAgree (isOneKind (y .second)) (y .typecount) (y .types))) (inr (inr (inr refl))) kept
+kinds-fault y = either Fault (not (kindsAgree (isOneKind (y .second)) (y .typecount) (y .types))) (inr (inr (inr (inl refl)))) kept
 
 type-numbered : (t : TaskType) (y : System) → Numbered (typeFrom t y)
 unfolding typeFrom
@@ -107,6 +111,11 @@ data-numbered d y = unless-numbered (typeFault (withData d (lastType y))) (withL
 most-numbered : (q : ℕ) (y : System) → Numbered (mostFrom q y)
 unfolding mostFrom
 most-numbered q y = unless-numbered (mostFault (AtMost q)) (withLast (withMost q (lastType y)) y) (most-fault q)
+
+pace-numbered : (c p : ℕ) (y : System) → Numbered (paceFrom c p y)
+unfolding paceFrom
+pace-numbered c p y =
+    unless-numbered (paceFault (y .timecap) (lastType y .time) (Paced (record { run = c; period = p }))) (withLast (withPace c p (lastType y)) y) (pace-fault (y .timecap) (lastType y .time) c p)
 
 platform-numbered : (m rule u s : ℕ) (y : System) → Numbered (platformFrom m rule u s y)
 unfolding platformFrom
@@ -127,9 +136,10 @@ body-numbered r b y =
     (either Numbered (isType (r .tag)) (type-numbered (taskOf (word4 b 0) (word4 b 4) (word2 b 8)) y)
     (either Numbered (isData (r .tag)) (data-numbered (word4 b 0) y)
     (either Numbered (isMost (r .tag)) (most-numbered (word2 b 0) y)
+    (either Numbered (isPace (r .tag)) (pace-numbered (word4 b 0) (word4 b 4) y)
     (either Numbered (isSecond (r .tag)) (second-numbered (byteAt b 0) (word4 b 1) (word4 b 5) y)
     (either Numbered (isCosts (r .tag)) (costs-numbered (word4 b 0) (word4 b 4) y)
-    (platform-numbered (byteAt b 0) (byteAt b 1) (word4 b 2) (word4 b 6) y))))))
+    (platform-numbered (byteAt b 0) (byteAt b 1) (word4 b 2) (word4 b 6) y)))))))
 
 field-numbered : (s : List ℕ) (last : ℕ) (y : System) → Numbered (fieldOf s last y)
 unfolding fieldOf headOf ruledField
@@ -160,19 +170,20 @@ fields-numbered (suc f) (b ∷ s) last y = go (fieldOf (b ∷ s) last y) (field-
     go x (stops n own) rest = stops n own
 
 -- where one kind is wanted, 42 is one number more
-pub own-number : (file : List ℕ) (n : ℕ) → readFile file ≡ unread n → ((1 ≤ n) × (n ≤ 10)) ⊎ ((n ≡ 31) ⊎ ((n ≡ 41) ⊎ (n ≡ 42)))
+pub own-number : (file : List ℕ) (n : ℕ) → readFile file ≡ unread n → ((1 ≤ n) × (n ≤ 10)) ⊎ ((n ≡ 31) ⊎ ((n ≡ 41) ⊎ ((n ≡ 42) ⊎ (n ≡ 43))))
 unfolding readFile readCard ofOneKind
 own-number file n e = go (readCard file) (fields-numbered (length file) file 0 blank) e
   where
-    more : Own n → ((1 ≤ n) × (n ≤ 10)) ⊎ ((n ≡ 31) ⊎ ((n ≡ 41) ⊎ (n ≡ 42)))
+    more : Own n → ((1 ≤ n) × (n ≤ 10)) ⊎ ((n ≡ 31) ⊎ ((n ≡ 41) ⊎ ((n ≡ 42) ⊎ (n ≡ 43))))
     more (inl low) = inl low
     more (inr (inl most)) = inr (inl most)
-    more (inr (inr missing)) = inr (inr (inl missing))
+    more (inr (inr (inl missing))) = inr (inr (inl missing))
+    more (inr (inr (inr broken))) = inr (inr (inr (inr broken)))
 
     wanted : (b : Bool) (y : System) → cond b (opened y) (unread 42) ≡ unread n → n ≡ 42
     wanted true y e = let z : _≡_ {A = ℕ} 0 1 = cc in absurd (omega arith)
     wanted false y e = cc
 
-    go : (x : Reading) → Numbered x → ofOneKind x ≡ unread n → ((1 ≤ n) × (n ≤ 10)) ⊎ ((n ≡ 31) ⊎ ((n ≡ 41) ⊎ (n ≡ 42)))
-    go x (opens y) e = inr (inr (inr (wanted (isOneKind (y .second)) y e)))
+    go : (x : Reading) → Numbered x → ofOneKind x ≡ unread n → ((1 ≤ n) × (n ≤ 10)) ⊎ ((n ≡ 31) ⊎ ((n ≡ 41) ⊎ ((n ≡ 42) ⊎ (n ≡ 43))))
+    go x (opens y) e = inr (inr (inr (inl (wanted (isOneKind (y .second)) y e))))
     go x (stops k own) e = let same : k ≡ n = cc in more (subst Own same own)

@@ -141,15 +141,15 @@ module _ (file : List ℕ) (y : System) (opens : readFile file ≡ opened y) whe
 
 -- intermediate: the numbers of all refusals
 
-own-line : (file : List ℕ) (k n : ℕ) → readFile file ≡ unread k → TellsRefusal n (refusalLine k) → ((1 ≤ n) × (n ≤ 10)) ⊎ ((n ≡ 31) ⊎ ((n ≡ 37) ⊎ ((n ≡ 41) ⊎ (n ≡ 42))))
+own-line : (file : List ℕ) (k n : ℕ) → readFile file ≡ unread k → TellsRefusal n (refusalLine k) → ((1 ≤ n) × (n ≤ 10)) ⊎ ((n ≡ 31) ⊎ ((n ≡ 37) ⊎ ((n ≡ 41) ⊎ ((n ≡ 42) ⊎ (n ≡ 43)))))
 own-line file k n e r =
     ⊎-elim (λ low. inl low) (⊎-elim (λ most. inr (inl most)) (λ kinds. inr (inr (inr kinds)))) (own-number file n (e ∙ ap unread (told-once (number-told k) r)))
 
-any-line : (file : List ℕ) (n : ℕ) → TellsRefusal n (tightText file) → ((1 ≤ n) × (n ≤ 10)) ⊎ ((n ≡ 31) ⊎ ((n ≡ 37) ⊎ ((n ≡ 41) ⊎ (n ≡ 42))))
+any-line : (file : List ℕ) (n : ℕ) → TellsRefusal n (tightText file) → ((1 ≤ n) × (n ≤ 10)) ⊎ ((n ≡ 31) ⊎ ((n ≡ 37) ⊎ ((n ≡ 41) ⊎ ((n ≡ 42) ⊎ (n ≡ 43)))))
 unfolding readingLine
 any-line file n r = go (readFile file) refl r
   where
-    go : (x : Reading) → readFile file ≡ x → TellsRefusal n (readingLine x) → ((1 ≤ n) × (n ≤ 10)) ⊎ ((n ≡ 31) ⊎ ((n ≡ 37) ⊎ ((n ≡ 41) ⊎ (n ≡ 42))))
+    go : (x : Reading) → readFile file ≡ x → TellsRefusal n (readingLine x) → ((1 ≤ n) × (n ≤ 10)) ⊎ ((n ≡ 31) ⊎ ((n ≡ 37) ⊎ ((n ≡ 41) ⊎ ((n ≡ 42) ⊎ (n ≡ 43)))))
     go (unread k) e r = own-line file k n e r
     go (opened y) e r = inr (inr (inl (answer-told file y e .noOther n r)))
 
@@ -200,8 +200,8 @@ tight-promised {file = file} {part = part} {a = a} size p w = record {
   tells = tells-tight file;
 }
 
--- main: the first 256 bytes decide
-pub prefix-promised : {front file old new : List ℕ} {r : ℕ} → front ≡ take 256 file → TightPromises front old new r → TightPromises file old new r
+-- main: the first 384 bytes decide
+pub prefix-promised : {front file old new : List ℕ} {r : ℕ} → front ≡ take 384 file → TightPromises front old new r → TightPromises file old new r
 prefix-promised {front = front} {file = file} first p = record {
   written = rw (ap tightText first ∙ ap readingLine (read-prefix file)) at (p .written);
   tells = tells-tight file;

@@ -26,7 +26,7 @@ abbrev pub answerLine : CountAnswer → List ℕ
 answerLine (Counted c) = countLine (c .good) (c .total)
 answerLine (Refused why) = refusalLine (numberOf why)
 
--- the part of 64-bit numbers is the function's own and long enough, so 38 does not arise: 1 to 10, 31, 41 and 42, then 37, or both numbers
+-- the part of 64-bit numbers is the function's own and long enough, so 38 does not arise: 1 to 10, 31 and 41 to 43, then 37, or both numbers
 unfoldable pub readingLine : Reading → List ℕ
 readingLine (unread n) = refusalLine n
 readingLine (opened y) = cond (leb (totalCount y) greatest) (countLine (goodCount y) (totalCount y)) (refusalLine 37)

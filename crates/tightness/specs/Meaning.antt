@@ -34,12 +34,12 @@ pub record TellsAnswer (y : System) (text : List ℕ) : Type 0 where
   pub else : y .engines ^ instancesOut y ≤ 18446744073709551615 → (good total : ℕ) × TellsCounts good total text
   pub counts : (good total : ℕ) → TellsCounts good total text ↔ ((y .engines ^ instancesOut y ≤ 18446744073709551615) × CountMeans y good total)
 
--- of a file: why it does not read, or such a line; a refusal has one of the numbers 1 to 10, 31, 37, 41 and 42, so never 38;
+-- of a file: why it does not read, or such a line; a refusal has one of the numbers 1 to 10, 31, 37 and 41 to 43, so never 38;
 -- and the file's listing, which program `plan` writes, is `refused 12` exactly where the first number is 0
 pub record TellsTight (file text : List ℕ) : Type 0 where
   pub unreadable : (n : ℕ) → readFile file ≡ unread n → TellsRefusal n text
   pub answer : (y : System) → readFile file ≡ opened y → TellsAnswer y text
-  pub numbers : (n : ℕ) → TellsRefusal n text → ((1 ≤ n) × (n ≤ 10)) ⊎ ((n ≡ 31) ⊎ ((n ≡ 37) ⊎ ((n ≡ 41) ⊎ (n ≡ 42))))
+  pub numbers : (n : ℕ) → TellsRefusal n text → ((1 ≤ n) × (n ≤ 10)) ⊎ ((n ≡ 31) ⊎ ((n ≡ 37) ⊎ ((n ≡ 41) ⊎ ((n ≡ 42) ⊎ (n ≡ 43)))))
   pub refused12 : (y : System) (good total : ℕ) → readFile file ≡ opened y → TellsCounts good total text → TellsRefusal 12 (fileText file) ↔ (good ≡ 0)
 
 -- what the call `tight_of` promises of its result and the buffer
@@ -48,8 +48,8 @@ pub record TightPromises (file old new : List ℕ) (r : ℕ) : Type 0 where
   pub tells : TellsTight file (tightText file)
 
 -- what the call `tight_read` promises: the same of every file, whatever its length, of whose first bytes, as many as `front` has room for, just these were read;
--- request 2026-03: there is room for 256
+-- request 2026-14: there is room for 384
 pub record ReadPromises (front : List ℕ) (read : ℕ) (old new : List ℕ) (r : ℕ) : Type 0 where
-  pub size : length front ≡ 256
+  pub size : length front ≡ 384
   pub within : Counts r new
   pub ofFile : (file : List ℕ) → take (length front) file ≡ take read front → TightPromises file old new r

@@ -1,6 +1,6 @@
 // Systems changed by words, as cases give them: a letter, the number of a type where it is one of a type's, `=`, and a number. So `k=7` gives a
 // system seven types, and `u2=1000001` its second type another u. A q of 65,536 is none. `x=`, `X=` and `Z=` give a second kind of engine so many engines, and
-// its U and S; `v2=` and `z2=` the second type its u and s there. What they do not give is as it was, or 0.
+// its U and S; `v2=` and `z2=` the second type its u and s there; `R2=` and `P2=` its C and T, its run time and its period. What they do not give is as it was, or 0.
 use crate::systems;
 use crate::words::byte_of;
 use crate::words::number_in;
@@ -8,6 +8,7 @@ use std::num::wrapping_add_usize;
 use std::num::wrapping_sub_usize;
 use system::Costs;
 use system::Most;
+use system::Pace;
 use system::Second;
 use system::System;
 use system::There;
@@ -66,6 +67,21 @@ fn with_task_number(y: System, what: u8, t: usize, n: usize) -> System {
     z
 }
 
+// The system with another C or T of the type at index t.
+fn with_pace_number(y: System, what: u8, t: usize, n: usize) -> System {
+    if 6 <= t {
+        return y;
+    }
+    let task = y.types[t];
+    let pace = task.pace;
+    let mut cycle = systems::cycle_of(pace);
+    match what {
+        b'R' => cycle.run = four(n),
+        _ => cycle.period = four(n),
+    }
+    systems::with_pace_at(y, t, Pace::Paced(cycle))
+}
+
 // The system with another number, U or S of a second kind of engine.
 fn with_second_number(y: System, what: u8, n: usize) -> System {
     let second = y.second;
@@ -93,7 +109,7 @@ fn with_there_number(y: System, what: u8, t: usize, n: usize) -> System {
     systems::with_there_at(y, t, There::Takes(costs))
 }
 
-// The system with another number: k, m, r for the rule, U or S; u, s, n, d or q of the type at index t; or one of a second kind.
+// The system with another number: k, m, r for the rule, U or S; u, s, n, d, q, C or T of the type at index t; or one of a second kind.
 pub fn with_number(y: System, what: u8, t: usize, n: usize) -> System {
     let mut z = y;
     match what {
@@ -107,6 +123,9 @@ pub fn with_number(y: System, what: u8, t: usize, n: usize) -> System {
         }
         b'x' | b'X' | b'Z' => {
             return with_second_number(y, what, n);
+        }
+        b'R' | b'P' => {
+            return with_pace_number(y, what, t, n);
         }
         b'v' | b'z' => {
             return with_there_number(y, what, t, n);

@@ -1,11 +1,13 @@
-// The bytes of a system file, made from a system; and a reader of system files of up to 256 bytes, which goes from field to field.
+// The bytes of a system file, made from a system; and a reader of system files, which goes from field to field.
 ghost use Prim.Native.Nat.{_+_, _≤_, _<_};
+use crate::buffers::BUFFER_BYTES;
 use crate::systems;
 use buffer::put_byte;
 use buffer::put_four;
 use buffer::put_two;
 use std::num::wrapping_add_usize;
 use system::Most;
+use system::Pace;
 use system::Second;
 use system::System;
 use system::TYPE_LIMIT;
@@ -13,13 +15,13 @@ use system::There;
 
 // A file and its length.
 pub struct File {
-    pub bytes: [u8; 256],
+    pub bytes: [u8; BUFFER_BYTES],
     pub size: usize,
 }
 
 // The field of a type's d, where it is not 0. Answers the place after it.
-fn put_data(bytes: &mut [u8; 256], at: usize, data: u32) -> usize
-    requires { ⌜ at ≤ 240 ⌝ }
+fn put_data(bytes: &mut [u8; BUFFER_BYTES], at: usize, data: u32) -> usize
+    requires { ⌜ at ≤ 384 ⌝ }
     ensures { λ r. ⌜ r ≤ at + 7 ⌝ }
 {
     if data == 0 {
@@ -31,8 +33,8 @@ fn put_data(bytes: &mut [u8; 256], at: usize, data: u32) -> usize
 }
 
 // The field of a type's q, where it is given. Answers the place after it.
-fn put_most(bytes: &mut [u8; 256], at: usize, most: Most) -> usize
-    requires { ⌜ at ≤ 240 ⌝ }
+fn put_most(bytes: &mut [u8; BUFFER_BYTES], at: usize, most: Most) -> usize
+    requires { ⌜ at ≤ 384 ⌝ }
     ensures { λ r. ⌜ r ≤ at + 5 ⌝ }
 {
     let Most::AtMost(q) = most else {
@@ -43,9 +45,23 @@ fn put_most(bytes: &mut [u8; 256], at: usize, most: Most) -> usize
     put_two(bytes, sized, q)
 }
 
+// The field of a type's C and T, where they are given. Answers the place after it.
+fn put_pace(bytes: &mut [u8; BUFFER_BYTES], at: usize, pace: Pace) -> usize
+    requires { ⌜ at ≤ 384 ⌝ }
+    ensures { λ r. ⌜ r ≤ at + 11 ⌝ }
+{
+    let Pace::Paced(c) = pace else {
+        return at;
+    };
+    let tagged = put_byte(bytes, at, 5);
+    let sized = put_two(bytes, tagged, 8);
+    let timed = put_four(bytes, sized, c.run);
+    put_four(bytes, timed, c.period)
+}
+
 // The field of a type's u and s on the second kind, where they are given. Answers the place after it.
-fn put_there(bytes: &mut [u8; 256], at: usize, there: There) -> usize
-    requires { ⌜ at ≤ 245 ⌝ }
+fn put_there(bytes: &mut [u8; BUFFER_BYTES], at: usize, there: There) -> usize
+    requires { ⌜ at ≤ 384 ⌝ }
     ensures { λ r. ⌜ r ≤ at + 11 ⌝ }
 {
     let There::Takes(c) = there else {
@@ -58,7 +74,7 @@ fn put_there(bytes: &mut [u8; 256], at: usize, there: There) -> usize
 }
 
 // The field of a second kind of engine, where there is one. Answers the place after it.
-fn put_second(bytes: &mut [u8; 256], second: Second) -> usize
+fn put_second(bytes: &mut [u8; BUFFER_BYTES], second: Second) -> usize
     ensures { λ r. ⌜ r ≤ 25 ⌝ }
 {
     let Second::TwoKinds(k) = second else {
@@ -72,9 +88,9 @@ fn put_second(bytes: &mut [u8; 256], second: Second) -> usize
 }
 
 // The fields of the type at index t, where the system has it. Answers the place after them.
-fn put_type(bytes: &mut [u8; 256], at: usize, y: System, t: usize) -> usize
-    requires { ⌜ at ≤ 220 ⌝ }
-    ensures { λ r. ⌜ r ≤ at + 36 ⌝ }
+fn put_type(bytes: &mut [u8; BUFFER_BYTES], at: usize, y: System, t: usize) -> usize
+    requires { ⌜ at ≤ 260 ⌝ }
+    ensures { λ r. ⌜ r ≤ at + 47 ⌝ }
 {
     if 6 <= t {
         return at;
@@ -90,12 +106,14 @@ fn put_type(bytes: &mut [u8; 256], at: usize, y: System, t: usize) -> usize
     let counted = put_two(bytes, stored, task.ceiling);
     let stacked = put_data(bytes, counted, task.data);
     let most = task.most;
+    let pace = task.pace;
     let there = task.there;
     let kept = put_most(bytes, stacked, most);
-    put_there(bytes, kept, there)
+    let paced = put_pace(bytes, kept, pace);
+    put_there(bytes, paced, there)
 }
 
-fn put_platform(bytes: &mut [u8; 256], y: System) {
+fn put_platform(bytes: &mut [u8; BUFFER_BYTES], y: System) {
     let tagged = put_byte(bytes, 0, 1);
     let sized = put_two(bytes, tagged, 10);
     let counted = put_byte(bytes, sized, (y.engines % 256) as u8);
@@ -106,7 +124,7 @@ fn put_platform(bytes: &mut [u8; 256], y: System) {
 
 // The file of a system of at most six types.
 pub fn file_of(y: System) -> File {
-    let mut bytes: [u8; 256] = [0; 256];
+    let mut bytes: [u8; BUFFER_BYTES] = [0; BUFFER_BYTES];
     put_platform(&mut bytes, y);
     let second = y.second;
     let start = put_second(&mut bytes, second);
@@ -165,15 +183,16 @@ pub struct Reading {
 }
 
 // A field of this tag may follow one of tag `last`: the platform is first and nothing else is, a d follows its type directly, a q its
-// type or the d of it, a second kind of engine the platform, and the costs there come last after their type.
+// type or the d of it, C and T the type or its d or its q, a second kind of engine the platform, and the costs there come last after their type.
 fn may_stand(tag: usize, last: usize) -> bool {
     match tag {
         1 => last == 0,
         2 => last != 0,
         3 => last == 2,
         4 => (last == 2) | (last == 3),
+        5 => (last == 2) | (last == 3) | (last == 4),
         6 => last == 1,
-        _ => (last == 2) | (last == 3) | (last == 4),
+        _ => (2 <= last) & (last <= 5),
     }
 }
 
@@ -182,6 +201,7 @@ fn span_of(tag: usize) -> usize {
     match tag {
         3 => 7,
         4 => 5,
+        5 => 11,
         6 => 12,
         7 => 11,
         _ => 13,
@@ -194,7 +214,7 @@ fn head_refusal(file: &[u8], at: usize, last: usize) -> usize {
         return 1;
     }
     let tag = byte_of(file, at, 0);
-    if (tag < 1) | (tag == 5) | (7 < tag) {
+    if (tag < 1) | (7 < tag) {
         return 2;
     }
     if !may_stand(tag, last) {
@@ -286,6 +306,32 @@ fn most_read(file: &[u8], r: Reading) -> Reading {
     }
 }
 
+// C and T break their bounds, or U is 0, or the share of u in U is less than that of C in T.
+fn out_of_pace(timecap: u32, time: u32, run: u32, period: u32) -> bool {
+    (run < 1)
+        | (65535 < run)
+        | (period < 1)
+        | (65535 < period)
+        | (period < run)
+        | (timecap == 0)
+        | (systems::product(time, period) < systems::product(run, timecap))
+}
+
+// A C and T: 43, by u of the last type and U, both of the first kind.
+fn pace_read(file: &[u8], r: Reading) -> Reading {
+    let y = r.system;
+    let run = four_of(file, r.at, 3);
+    let period = four_of(file, r.at, 7);
+    let broken = out_of_pace(y.timecap, systems::last_time(y), run, period);
+    Reading {
+        at: wrapping_add_usize(r.at, 11),
+        last: 5,
+        system: systems::with_pace(y, run, period),
+        zero: r.zero,
+        refusal: if broken { 43 } else { 0 },
+    }
+}
+
 // A second kind of engine: 5, 8.
 fn second_read(file: &[u8], r: Reading) -> Reading {
     let y = r.system;
@@ -351,6 +397,9 @@ fn field_read(file: &[u8], r: Reading) -> Reading {
     if tag == 4 {
         return most_read(file, r);
     }
+    if tag == 5 {
+        return pace_read(file, r);
+    }
     if tag == 6 {
         return second_read(file, r);
     }
@@ -406,8 +455,8 @@ fn ended(r: Reading) -> Reading {
     r
 }
 
-// What a file reads as, of one kind of engine or two. No file has a 27th field that is read: the platform, a second kind, and six types with a d, a q and costs there
-// come before it.
+// What a file reads as, of one kind of engine or two. No file has a 33rd field that is read: the platform, a second kind, and six types with a d, a q, a C and T and costs
+// there come before it.
 pub fn reading_of(file: &[u8]) -> Reading {
     let mut r = Reading {
         at: 0,
@@ -416,7 +465,7 @@ pub fn reading_of(file: &[u8]) -> Reading {
         zero: false,
         refusal: 0,
     };
-    for field in 0..27usize {
+    for field in 0..33usize {
         if (r.refusal == 0) & (r.at < file.len()) {
             let next = field_read(file, r);
             r = next;
@@ -432,7 +481,7 @@ pub fn reading_of(file: &[u8]) -> Reading {
 pub fn same_file(f: File, file: &[u8]) -> bool {
     let bytes = f.bytes;
     let mut same = f.size == file.len();
-    for i in 0..256 {
+    for i in 0..BUFFER_BYTES {
         same = same & (wide(bytes[i]) == byte_of(file, i, 0));
     }
     same

@@ -4,6 +4,7 @@ use loads::EngineLoad;
 use std::num::wrapping_add_usize;
 use system::Answer;
 use system::Most;
+use system::Pace;
 use system::Refusal;
 use system::Second;
 use system::System;
@@ -105,6 +106,15 @@ fn say_most(most: Most) {
     }
 }
 
+// A type's C and T, where they are given.
+fn say_pace(pace: Pace) {
+    if let Pace::Paced(c) = pace {
+        say(b" pace");
+        say_also(c.run as usize);
+        say_also(c.period as usize);
+    }
+}
+
 // A type's u and s on the second kind, where they are given.
 fn say_there(there: There) {
     if let There::Takes(c) = there {
@@ -124,7 +134,7 @@ fn say_second(second: Second) {
     }
 }
 
-// A type's u, s, n and d, its q, and its u and s on the second kind.
+// A type's u, s, n and d, its q, its C and T, and its u and s on the second kind.
 fn say_task(t: TaskType) {
     say(b" |");
     say_also(t.time as usize);
@@ -132,8 +142,10 @@ fn say_task(t: TaskType) {
     say_also(t.ceiling as usize);
     say_also(t.data as usize);
     let most = t.most;
+    let pace = t.pace;
     let there = t.there;
     say_most(most);
+    say_pace(pace);
     say_there(there);
 }
 

@@ -3,7 +3,9 @@ use crate::systems;
 use std::num::wrapping_add_usize;
 use std::num::wrapping_sub_usize;
 use system::Costs;
+use system::Cycle;
 use system::Most;
+use system::Pace;
 use system::System;
 use system::TYPE_LIMIT;
 use system::There;
@@ -96,6 +98,57 @@ pub fn with_drawn_most(d: DrawnSystem) -> DrawnSystem {
     }
 }
 
+// The largest C that 43 lets through, of a type with this u on engines with this U: T × u / U, and at most T; 0 for none.
+fn largest_run(timecap: u32, time: u32, period: u32) -> u32 {
+    if timecap == 0 {
+        return 0;
+    }
+    let share = systems::product(period, time) / (timecap as u64);
+    if share < period as u64 {
+        return (share % 65536) as u32;
+    }
+    period
+}
+
+// The T of a pace, from two numbers drawn: 1, the largest there is, one of up to 16, or one of up to 32,768.
+fn drawn_period(choice: usize, value: usize) -> u32 {
+    match choice {
+        4 => 1,
+        5 => 65535,
+        6 => (value % 16 + 1) as u32,
+        _ => (value % 32768 + 1) as u32,
+    }
+}
+
+// The pace of a type with this u on engines with this U, from a seed of its own: none in half of the draws, and where no C is small enough; else
+// the largest C for its T, or any up to that.
+fn drawn_pace(seed: u64, timecap: u32, time: u32) -> Pace {
+    let choice = draw(seed, 8);
+    let value = draw(choice.seed, 32768);
+    let period = drawn_period(choice.value, value.value);
+    let most = largest_run(timecap, time, period);
+    if (choice.value < 4) | (most == 0) {
+        return Pace::Unpaced;
+    }
+    let side = draw(value.seed, 2);
+    let less = draw(side.seed, most as usize);
+    let mut run = most;
+    if side.value == 1 {
+        run = (less.value % 65536 + 1) as u32;
+    }
+    Pace::Paced(Cycle { run, period })
+}
+
+// The system with a C and T drawn for its last type, where it has one to six. All else is drawn as it is without them: they come from another seed, and leave this one.
+fn with_drawn_pace(d: DrawnSystem) -> DrawnSystem {
+    let y = d.system;
+    let pace = drawn_pace(d.seed % 2147483648 + 1, y.timecap, systems::last_time(y));
+    DrawnSystem {
+        seed: d.seed,
+        system: systems::with_pace_at(y, wrapping_sub_usize(y.typecount, 1), pace),
+    }
+}
+
 // The n of the type at index t, 0 where there is none.
 fn ceiling_at(y: System, t: usize) -> u16 {
     if 6 <= t {
@@ -105,7 +158,7 @@ fn ceiling_at(y: System, t: usize) -> u16 {
     task.ceiling
 }
 
-// The system with one type more, of at most `most` instances that cost up to eight steps, and up to four of data memory; with a q or without.
+// The system with one type more, of at most `most` instances that cost up to eight steps, and up to four of data memory; with a q or without, and with a C and T or without.
 fn with_drawn_type(d: DrawnSystem, most: usize, large: bool) -> DrawnSystem {
     let time = draw(d.seed, 9);
     let memory = draw(time.seed, 9);
@@ -120,7 +173,7 @@ fn with_drawn_type(d: DrawnSystem, most: usize, large: bool) -> DrawnSystem {
             (ceiling.value % 65536) as u16,
         ),
     };
-    with_drawn_most(with_drawn_data(with, large))
+    with_drawn_pace(with_drawn_most(with_drawn_data(with, large)))
 }
 
 // A system of up to `engines` engines and this many types of at most `most` instances each.

@@ -2,8 +2,10 @@
 ghost use Prim.Native.Nat.{_<_};
 use std::num::wrapping_sub_usize;
 use system::Costs;
+use system::Cycle;
 use system::Kind;
 use system::Most;
+use system::Pace;
 use system::Second;
 use system::System;
 use system::TYPE_LIMIT;
@@ -17,6 +19,11 @@ pub fn wide(n: u16) -> usize
     n as usize
 }
 
+// Two numbers of 32 bits, multiplied.
+pub fn product(a: u32, b: u32) -> u64 {
+    (a as u64) * (b as u64)
+}
+
 // A system with no type yet: m, rule, U and S.
 pub fn platform_of(engines: usize, rule: u8, time: u32, memory: u32) -> System {
     let mut y = system::blank_system();
@@ -27,7 +34,7 @@ pub fn platform_of(engines: usize, rule: u8, time: u32, memory: u32) -> System {
     y
 }
 
-// The system with one type more: u, s and n, d 0 and no q. As it is, where it has six.
+// The system with one type more: u, s and n, d 0, no q, no C and T. As it is, where it has six.
 pub fn with_type(y: System, time: u32, memory: u32, ceiling: u16) -> System {
     let mut z = y;
     let k = y.typecount;
@@ -38,6 +45,7 @@ pub fn with_type(y: System, time: u32, memory: u32, ceiling: u16) -> System {
             ceiling,
             data: 0,
             most: Most::NotGiven,
+            pace: Pace::Unpaced,
             there: There::Absent,
         };
         z.typecount = k + 1;
@@ -57,6 +65,7 @@ pub fn with_data(y: System, data: u32) -> System {
     }
     let last = y.types[k - 1];
     let most = last.most;
+    let pace = last.pace;
     let there = last.there;
     z.types[k - 1] = TaskType {
         time: last.time,
@@ -64,6 +73,7 @@ pub fn with_data(y: System, data: u32) -> System {
         ceiling: last.ceiling,
         data,
         most,
+        pace,
         there,
     };
     z
@@ -76,6 +86,7 @@ pub fn with_most_at(y: System, t: usize, most: Most) -> System {
     }
     let mut z = y;
     let old = y.types[t];
+    let pace = old.pace;
     let there = old.there;
     z.types[t] = TaskType {
         time: old.time,
@@ -83,6 +94,7 @@ pub fn with_most_at(y: System, t: usize, most: Most) -> System {
         ceiling: old.ceiling,
         data: old.data,
         most,
+        pace,
         there,
     };
     z
@@ -93,6 +105,43 @@ pub fn with_most(y: System, q: u16) -> System {
     with_most_at(y, wrapping_sub_usize(y.typecount, 1), Most::AtMost(q))
 }
 
+// The system with another C and T, or none, of the type at index t; that may be past the last one. As it is, where it has no such entry.
+pub fn with_pace_at(y: System, t: usize, pace: Pace) -> System {
+    if 6 <= t {
+        return y;
+    }
+    let mut z = y;
+    let old = y.types[t];
+    let most = old.most;
+    let there = old.there;
+    z.types[t] = TaskType {
+        time: old.time,
+        memory: old.memory,
+        ceiling: old.ceiling,
+        data: old.data,
+        most,
+        pace,
+        there,
+    };
+    z
+}
+
+// The system with this C and T of its last type, where it has one to six.
+pub fn with_pace(y: System, run: u32, period: u32) -> System {
+    let pace = Pace::Paced(Cycle { run, period });
+    with_pace_at(y, wrapping_sub_usize(y.typecount, 1), pace)
+}
+
+// The u of its last type, 0 where it has none or more than six.
+pub fn last_time(y: System) -> u32 {
+    let last = wrapping_sub_usize(y.typecount, 1);
+    if 6 <= last {
+        return 0;
+    }
+    let task = y.types[last];
+    task.time
+}
+
 // The system with other costs on the second kind, or none, of the type at index t; that may be past the last one. As it is, where it has no such entry.
 pub fn with_there_at(y: System, t: usize, there: There) -> System {
     if 6 <= t {
@@ -101,12 +150,14 @@ pub fn with_there_at(y: System, t: usize, there: There) -> System {
     let mut z = y;
     let old = y.types[t];
     let most = old.most;
+    let pace = old.pace;
     z.types[t] = TaskType {
         time: old.time,
         memory: old.memory,
         ceiling: old.ceiling,
         data: old.data,
         most,
+        pace,
         there,
     };
     z
@@ -194,7 +245,7 @@ pub fn system_stacked(rule: u8) -> System {
     with_data(with_type(with_data(five, 56789), 65432, 210987, 1), 67890)
 }
 
-// The same with a q for each type too, that of type 1 just met: no file of one kind of engine that opens is longer.
+// The same with a q for each type too, that of type 1 just met: no file of one kind of engine without C and T that opens is longer.
 pub fn system_longest(rule: u8) -> System {
     let one = with_most_at(system_stacked(rule), 0, Most::AtMost(2));
     let two = with_most_at(one, 1, Most::AtMost(1));
@@ -219,11 +270,36 @@ fn with_theres(y: System) -> System {
     with_costs_at(five, 5, 16777, 513)
 }
 
-// The longest file of one kind with 8 engines, and 8 of a second kind: no file that opens is longer.
+// The same with 8 engines, and 8 of a second kind: no file without C and T that opens is longer.
 pub fn system_mixed(rule: u8) -> System {
     let mut y = with_theres(system_longest(rule));
     y.engines = 8;
     with_second(y, 8, 900000, 654321)
+}
+
+// The system with this C and T of the type at index t.
+fn with_cycle_at(y: System, t: usize, run: u32, period: u32) -> System {
+    with_pace_at(y, t, Pace::Paced(Cycle { run, period }))
+}
+
+// The system with a C and T for each of the six types of `system_full`, whose U is 987,654: as much of T as u is of U, or a little less.
+fn with_paces(y: System) -> System {
+    let one = with_cycle_at(y, 0, 27278, 65535); // of 411,111: 27,279 is too much
+    let two = with_cycle_at(one, 1, 1, 3); // of 432,109: 1 of 2 is too much
+    let three = with_cycle_at(two, 2, 1, 7); // of 150,001
+    let four = with_cycle_at(three, 3, 256, 65280); // of 123,456
+    let five = with_cycle_at(four, 4, 77, 1000); // of 76,543: 78 is too much
+    with_cycle_at(five, 5, 2, 65535) // of 65,432
+}
+
+// The longest file of one kind with a C and T for each type too: no file of one kind that opens is longer.
+pub fn system_paced(rule: u8) -> System {
+    with_paces(system_longest(rule))
+}
+
+// The longest file of two kinds with them: no file that opens is longer.
+pub fn system_mixed_paced(rule: u8) -> System {
+    with_paces(system_mixed(rule))
 }
 
 // A q as a number, 65,536 where it is not given.
@@ -232,6 +308,28 @@ pub fn most_number(most: Most) -> usize {
         Most::NotGiven => 65536,
         Most::AtMost(q) => q as usize,
     }
+}
+
+// A type's C and T, 0 where they are not given.
+pub fn cycle_of(pace: Pace) -> Cycle {
+    match pace {
+        Pace::Unpaced => Cycle { run: 0, period: 0 },
+        Pace::Paced(c) => c,
+    }
+}
+
+// They are given.
+pub fn paced(pace: Pace) -> bool {
+    match pace {
+        Pace::Unpaced => false,
+        Pace::Paced(c) => true,
+    }
+}
+
+fn same_pace(a: Pace, b: Pace) -> bool {
+    let c = cycle_of(a);
+    let e = cycle_of(b);
+    (paced(a) == paced(b)) & (c.run == e.run) & (c.period == e.period)
 }
 
 // A type's costs on the second kind, 0 where they are not given.
@@ -287,10 +385,13 @@ fn same_second(a: Second, b: Second) -> bool {
 fn same_task(a: TaskType, b: TaskType) -> bool {
     let p = a.most;
     let q = b.most;
+    let mine = a.pace;
+    let yours = b.pace;
     let here = a.there;
     let there = b.there;
+    let paces = same_pace(mine, yours);
     let same = (a.time == b.time) & (a.memory == b.memory) & (a.ceiling == b.ceiling);
-    same & (a.data == b.data) & (most_number(p) == most_number(q)) & same_there(here, there)
+    same & (a.data == b.data) & (most_number(p) == most_number(q)) & paces & same_there(here, there)
 }
 
 pub fn same_system(a: System, b: System) -> bool {

@@ -1,14 +1,17 @@
 // A board as its bytes say it: m, rule, U, S, k; six types of u, s, n, d, a byte that tells whether q is given, and q; sixteen marks; and sixteen engines of
 // time, memory and six counts; then a byte that tells whether there is a second kind of engine, its number, U and S; a byte with a bit for each type that has costs
-// there, that of type 1 the lowest, and the u and s there of them all. Bytes that are missing at the end are 0.
+// there, that of type 1 the lowest, and the u and s there of them all; and likewise a byte with a bit for each type that has a C and T, and the C and T of them all. Bytes that are
+// missing at the end are 0.
 use board::Board;
 use loads::EngineLoad;
 use std::num::wrapping_add_usize;
 use system::Costs;
 use system::Cursor;
+use system::Cycle;
 use system::ENGINE_LIMIT;
 use system::Kind;
 use system::Most;
+use system::Pace;
 use system::Second;
 use system::System;
 use system::TYPE_LIMIT;
@@ -33,6 +36,8 @@ const SECOND: usize = 449;
 
 const THERE: usize = 459;
 
+const PACE: usize = 468;
+
 fn most_of(given: u8, q: u16) -> Most {
     if given == 0 {
         return Most::NotGiven;
@@ -49,6 +54,7 @@ fn task_in(part: &[u8]) -> TaskType {
         ceiling: two_bytes(part, 8),
         data: four_bytes(part, 10),
         most,
+        pace: Pace::Unpaced,
         there: There::Absent,
     }
 }
@@ -79,6 +85,7 @@ fn with_there(task: TaskType, bytes: &[u8], t: usize) -> TaskType {
         return task;
     }
     let most = task.most;
+    let pace = task.pace;
     let costs = costs_in(rest_at(bytes, Cursor { at: THERE }));
     TaskType {
         time: task.time,
@@ -86,7 +93,35 @@ fn with_there(task: TaskType, bytes: &[u8], t: usize) -> TaskType {
         ceiling: task.ceiling,
         data: task.data,
         most,
+        pace,
         there: There::Takes(costs),
+    }
+}
+
+// The C and T, whose bytes follow the first of the part.
+fn cycle_in(part: &[u8]) -> Cycle {
+    Cycle {
+        run: four_bytes(part, 1),
+        period: four_bytes(part, 5),
+    }
+}
+
+// The type at index t with its C and T, where the bytes of the board give them.
+fn with_pace(task: TaskType, bytes: &[u8], t: usize) -> TaskType {
+    if !has_bit(byte_at(bytes, PACE), t) {
+        return task;
+    }
+    let most = task.most;
+    let there = task.there;
+    let cycle = cycle_in(rest_at(bytes, Cursor { at: PACE }));
+    TaskType {
+        time: task.time,
+        memory: task.memory,
+        ceiling: task.ceiling,
+        data: task.data,
+        most,
+        pace: Pace::Paced(cycle),
+        there,
     }
 }
 
@@ -123,7 +158,8 @@ fn types_in(bytes: &[u8]) -> [TaskType; TYPE_LIMIT] {
     let mut types = [system::no_task(); TYPE_LIMIT];
     for i in 0..TYPE_LIMIT {
         let at = FIRST_TYPE + i * TYPE_BYTES;
-        types[i] = with_there(task_in(rest_at(bytes, Cursor { at: at })), bytes, i);
+        let task = with_there(task_in(rest_at(bytes, Cursor { at: at })), bytes, i);
+        types[i] = with_pace(task, bytes, i);
     }
     types
 }

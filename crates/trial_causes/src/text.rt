@@ -8,7 +8,7 @@ use trial::words::number_in;
 use trial::words::word_end;
 
 // The bytes of the text that are read at most.
-pub const TEXT_BYTES: usize = 131072;
+pub const TEXT_BYTES: usize = 262144;
 
 // A case: where its name ends, whether it is a board, its bytes, the newcomer's type, how many entries of each part are lent, and where the next case starts.
 pub struct Case {

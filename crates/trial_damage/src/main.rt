@@ -1,20 +1,24 @@
-// Files of 39, 49, 53, 63, 73, 163 and 241 bytes, the fifth and the last with two kinds of engine, cut at every place, and with every value at every byte: the reader against the one of crate `trial`. A
+// Files of 39 to 307 bytes, some with two kinds of engine and some with a C and T, cut at every place, and with every value at every byte: the reader against the one of crate `trial`. A
 // file that is read must give its system, and be the file of it where no tag 3 gives a d of 0; a refused one hands out the blank system. Where one kind of engine is wanted, the
 // same is answered, but 42 and the blank system of a file with two.
 ghost use Prim.Native.Nat.{_<_};
 use std::num::wrapping_add_usize;
 use system::Answer;
+use system::Cycle;
+use system::Pace;
 use system::System;
+use trial::buffers::BUFFER_BYTES;
 use trial::files;
 use trial::files::File;
 use trial::files::Reading;
 use trial::say;
 use trial::systems;
 
-// How many files were read, at 0, and refused with each number, 31 at 11; how many with 41; and how many answers were wrong.
+// How many files were read, at 0, and refused with each number, 31 at 11; how many with 41, and with 43; and how many answers were wrong.
 struct Tally {
     answers: [usize; 12],
     unpaired: usize,
+    unpaced: usize,
     wrong: usize,
 }
 
@@ -22,6 +26,7 @@ fn no_tally() -> Tally {
     Tally {
         answers: [0; 12],
         unpaired: 0,
+        unpaced: 0,
         wrong: 0,
     }
 }
@@ -62,6 +67,19 @@ fn a_with_kinds() -> System {
     systems::with_there(systems::with_type(one, 3, 2, 2), 65536, 2)
 }
 
+// The system with a C and T of its two types: of the first just as much of T as u is of U, 4 of 10, and of the second a little less.
+fn with_two_paces(y: System) -> System {
+    let one = systems::with_pace_at(y, 0, Pace::Paced(Cycle { run: 2, period: 5 }));
+    systems::with_pace_at(
+        one,
+        1,
+        Pace::Paced(Cycle {
+            run: 1,
+            period: 256,
+        }),
+    )
+}
+
 // 0 where the file is read, else the number of its refusal; 255 for an answer that is not one from the input.
 fn number_of(a: Answer) -> usize {
     let code = say::code_of(a);
@@ -90,6 +108,9 @@ fn counted(t: Tally, number: usize) -> Tally {
     let mut next = t;
     if number == 41 {
         next.unpaired = wrapping_add_usize(t.unpaired, 1);
+    }
+    if number == 43 {
+        next.unpaced = wrapping_add_usize(t.unpaced, 1);
     }
     let place = if number == 31 { 11 } else { number };
     if place < 12 {
@@ -134,7 +155,7 @@ fn judged(t: Tally, file: &[u8]) -> Tally {
 }
 
 // The first n bytes of a file.
-fn judged_part(t: Tally, bytes: &[u8; 256], n: usize) -> Tally {
+fn judged_part(t: Tally, bytes: &[u8; BUFFER_BYTES], n: usize) -> Tally {
     judged(t, files::first_of(bytes, n))
 }
 
@@ -142,7 +163,7 @@ fn judged_part(t: Tally, bytes: &[u8; 256], n: usize) -> Tally {
 fn cuts(f: File) -> Tally {
     let bytes = f.bytes;
     let mut t = no_tally();
-    for n in 0..256 {
+    for n in 0..BUFFER_BYTES {
         if n <= f.size {
             let next = judged_part(t, &bytes, n);
             t = next;
@@ -153,7 +174,7 @@ fn cuts(f: File) -> Tally {
 
 // Every value at one place.
 fn changes_at(f: File, at: usize, t: Tally) -> Tally
-    requires { ⌜ at < 256 ⌝ }
+    requires { ⌜ at < 400 ⌝ }
 {
     let size = f.size;
     let mut bytes = f.bytes;
@@ -168,7 +189,7 @@ fn changes_at(f: File, at: usize, t: Tally) -> Tally
 
 fn changes(f: File) -> Tally {
     let mut t = no_tally();
-    for at in 0..256 {
+    for at in 0..BUFFER_BYTES {
         if at < f.size {
             let next = changes_at(f, at, t);
             t = next;
@@ -192,14 +213,16 @@ fn say_damage(cut: &[u8], changed: &[u8], y: System) -> usize {
     wrapping_add_usize(t.wrong, u.wrong)
 }
 
-// The same of a file with two kinds, with how many were refused 41.
-fn say_mixed(cut: &[u8], changed: &[u8], unpaired: &[u8], y: System) -> usize {
+// The same of a file with two kinds or a C and T, with how many were refused 41 and 43.
+fn say_mixed(cut: &[u8], changed: &[u8], more: &[u8], y: System) -> usize {
     let f = files::file_of(y);
     let t = cuts(f);
     let u = changes(f);
     say_tally(cut, t);
     say_tally(changed, u);
-    say::say_count(unpaired, wrapping_add_usize(t.unpaired, u.unpaired));
+    let unpaired = wrapping_add_usize(t.unpaired, u.unpaired);
+    let unpaced = wrapping_add_usize(t.unpaced, u.unpaced);
+    say::say_row(more, [unpaired, unpaced, 0, 0, 0, 0, 0, 0, 0, 0, 0, 0], 2);
     wrapping_add_usize(t.wrong, u.wrong)
 }
 
@@ -208,16 +231,48 @@ fn say_kinds() -> usize {
     let kinds = say_mixed(
         b"A with two kinds cut:",
         b"A with two kinds changed:",
-        b"A with two kinds, refused 41:",
+        b"A with two kinds, refused 41 and 43:",
         a_with_kinds(),
     );
     let longest = say_mixed(
         b"longest with two kinds cut:",
         b"longest with two kinds changed:",
-        b"longest with two kinds, refused 41:",
+        b"longest with two kinds, refused 41 and 43:",
         systems::system_mixed(1),
     );
     wrapping_add_usize(kinds, longest)
+}
+
+// Files with a C and T, of one kind and of two.
+fn say_paces() -> usize {
+    let a = say_mixed(
+        b"A with C and T cut:",
+        b"A with C and T changed:",
+        b"A with C and T, refused 41 and 43:",
+        with_two_paces(systems::system_a(3)),
+    );
+    let kinds = say_mixed(
+        b"A with two kinds, C and T cut:",
+        b"A with two kinds, C and T changed:",
+        b"A with two kinds, C and T, refused 41 and 43:",
+        with_two_paces(a_with_kinds()),
+    );
+    let longest = say_mixed(
+        b"longest with C and T cut:",
+        b"longest with C and T changed:",
+        b"longest with C and T, refused 41 and 43:",
+        systems::system_paced(1),
+    );
+    let both = say_mixed(
+        b"longest with two kinds, C and T cut:",
+        b"longest with two kinds, C and T changed:",
+        b"longest with two kinds, C and T, refused 41 and 43:",
+        systems::system_mixed_paced(1),
+    );
+    wrapping_add_usize(
+        wrapping_add_usize(a, kinds),
+        wrapping_add_usize(longest, both),
+    )
 }
 
 fn main() {
@@ -233,6 +288,7 @@ fn main() {
     );
     let small = wrapping_add_usize(wrapping_add_usize(a, data), most);
     let one = wrapping_add_usize(small, wrapping_add_usize(limits, longest));
-    let wrong = wrapping_add_usize(one, say_kinds());
+    let two = wrapping_add_usize(one, say_kinds());
+    let wrong = wrapping_add_usize(two, say_paces());
     say::say_count(b"mismatches", wrong);
 }

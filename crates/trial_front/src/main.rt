@@ -1,5 +1,5 @@
-// Runs `read_front` on an input of 300 bytes, longer than what is read: lines of ten bytes, each with the number of its last byte. Prints how many bytes were
-// read, and then those that are handed on, all 256 of them, the last one a `y`.
+// Runs `read_front` on an input of 400 bytes, longer than what is read: lines of ten bytes, each with the number of its last byte. Prints how many bytes were
+// read, and then those that are handed on, all 384 of them, the last one a blank.
 use front::read_front;
 use libc::STDOUT_FILENO;
 

@@ -31,7 +31,7 @@ use trial::words::part;
 use trial::words::word_end;
 
 // The bytes of the text that are read at most.
-pub const TEXT_BYTES: usize = 131072;
+pub const TEXT_BYTES: usize = 262144;
 
 // A case: where its name ends, its kind, its file, what it lends, and where the next case starts.
 struct Case {

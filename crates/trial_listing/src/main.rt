@@ -1,6 +1,6 @@
 // Listings, whole, as they are written: document 01's worked one; a file for each refusal that a file can come to, and tables of which one
-// part is too short, or both; files of the greatest length, with 1,024 and with 4,096 columns and all 16 engines; files with bytes past a good one, up to and past the 256 that
-// program `plan` reads; and every refusal number through the listing of a refused plan. What is expected was computed apart from the code.
+// part is too short, or both; files of the greatest length, with 1,024 and with 4,096 columns and all 16 engines; files with bytes past a good one, up to and past the 384 that
+// program `plan` reads; files with a C and T, which change no plan; and every refusal number through the listing of a refused plan. What is expected was computed apart from the code.
 use brute::recovery;
 use brute::search;
 use listing::listing;
@@ -8,10 +8,13 @@ use listing::listing_of;
 use listing::write_listing;
 use planner::Plan;
 use system::Answer;
+use system::Cycle;
 use system::ENGINE_LIMIT;
+use system::Pace;
 use system::Refusal;
 use system::System;
 use system::TYPE_LIMIT;
+use trial::buffers::BUFFER_BYTES;
 use trial::files;
 use trial::files::File;
 use trial::say;
@@ -27,7 +30,7 @@ fn say_listing(name: &[u8], file: &[u8]) {
 }
 
 // The listing of the first bytes of a file.
-fn say_part(name: &[u8], bytes: &[u8; 256], size: usize) {
+fn say_part(name: &[u8], bytes: &[u8; BUFFER_BYTES], size: usize) {
     say_listing(name, files::first_of(bytes, size));
 }
 
@@ -45,7 +48,7 @@ fn say_system(name: &[u8], y: System) {
 fn say_changed(name: &[u8], at: usize, byte: u8) {
     let f = files::file_of(systems::system_a(3));
     let mut bytes = f.bytes;
-    if at < 256 {
+    if at < BUFFER_BYTES {
         bytes[at] = byte;
     }
     say_part(name, &bytes, f.size);
@@ -116,7 +119,7 @@ fn say_refused(why: Refusal) {
 
 // Every number up to the greatest that a file can come to, from either list.
 fn say_numbers() {
-    for n in 0..31u8 {
+    for n in 0..43u8 {
         say_refused(Refusal::Input(n + 1));
         say_refused(Refusal::State(n + 1));
     }
@@ -127,7 +130,8 @@ fn say_refusals() {
     let a = files::file_of(systems::system_a(3));
     say_file(b"one byte", a, 1);
     say_file(b"a body cut", a, 38);
-    say_changed(b"tag 5", 13, 5);
+    say_changed(b"tag 8", 13, 8);
+    say_changed(b"a C and T after the platform", 13, 5);
     say_changed(b"a q after the platform", 13, 4);
     say_changed(b"a d after the platform", 13, 3);
     say_changed(b"a type first", 0, 2);
@@ -142,6 +146,7 @@ fn say_refusals() {
         systems::with_data(systems::system_a(3), 1000001),
     );
     say_system(b"q 0", systems::with_most(systems::system_a(3), 0));
+    say_system(b"C 2, T 6", systems::with_pace(systems::system_a(3), 2, 6));
     say_file(b"empty", a, 0);
     say_file(b"no type", a, 13);
     say_system(b"n 4096", systems::single(1, 0, 0, 0, 4096));
@@ -153,23 +158,31 @@ fn say_refusals() {
     say_parts();
 }
 
-// The longest file, and the same byte after it.
+// A file, and the same byte after it.
 fn longer(f: File, byte: u8) -> [u8; 512] {
     let old = f.bytes;
     let mut bytes: [u8; 512] = [byte; 512];
-    for i in 0..163 {
-        bytes[i] = old[i];
+    for i in 0..BUFFER_BYTES {
+        if i < f.size {
+            bytes[i] = old[i];
+        }
     }
     bytes
 }
 
-// So many bytes of it.
+// So many bytes of the longest file without a C and T.
 fn say_longer(name: &[u8], byte: u8, size: usize) {
     let bytes = longer(files::file_of(systems::system_longest(1)), byte);
     say_listing(name, files::first_of(&bytes, size));
 }
 
-// The longest file with a seventh type.
+// So many of the longest one with them.
+fn say_paced(name: &[u8], byte: u8, size: usize) {
+    let bytes = longer(files::file_of(systems::system_paced(1)), byte);
+    say_listing(name, files::first_of(&bytes, size));
+}
+
+// The longest files with a seventh type.
 fn say_seventh(size: usize) {
     let mut bytes = longer(files::file_of(systems::system_longest(0)), 0);
     bytes[163] = 2;
@@ -177,7 +190,34 @@ fn say_seventh(size: usize) {
     say_listing(b"seven types", files::first_of(&bytes, size));
 }
 
-// The longest file, with bytes past it.
+fn say_paced_seventh(size: usize) {
+    let mut bytes = longer(files::file_of(systems::system_paced(0)), 0);
+    bytes[229] = 2;
+    bytes[231] = 10;
+    say_listing(b"seven types, C and T", files::first_of(&bytes, size));
+}
+
+// The longest file of one kind of engine, with bytes past it.
+fn say_paced_lengths() {
+    say_paced(b"228 bytes", 0, 228);
+    say_paced(b"229 bytes", 0, 229);
+    say_paced(b"230 bytes", 2, 230);
+    say_paced(b"231 bytes", 2, 231);
+    say_paced(b"232 bytes, no tag", 0, 232);
+    say_paced(b"232 bytes, no length", 2, 232);
+    say_paced(b"232 bytes, a q after C and T", 4, 232);
+    say_paced(b"232 bytes, a second C and T", 5, 232);
+    say_paced(b"383 bytes, C and T", 0, 383);
+    say_paced(b"384 bytes, C and T", 1, 384);
+    say_paced(b"385 bytes, C and T", 2, 385);
+    say_paced(b"512 bytes, C and T", 5, 512);
+    say_paced_seventh(241);
+    say_paced_seventh(242);
+    say_paced_seventh(384);
+    say_paced_seventh(385);
+}
+
+// The longest file without a C and T, with bytes past it.
 fn say_lengths() {
     say_longer(b"162 bytes", 0, 162);
     say_longer(b"163 bytes", 0, 163);
@@ -187,14 +227,14 @@ fn say_lengths() {
     say_longer(b"166 bytes, no length", 2, 166);
     say_longer(b"166 bytes, a d after q", 3, 166);
     say_longer(b"166 bytes, a second q", 4, 166);
-    say_longer(b"255 bytes", 0, 255);
-    say_longer(b"256 bytes", 1, 256);
-    say_longer(b"257 bytes", 2, 257);
+    say_longer(b"383 bytes", 0, 383);
+    say_longer(b"384 bytes", 1, 384);
+    say_longer(b"385 bytes", 2, 385);
     say_longer(b"512 bytes", 3, 512);
     say_seventh(175);
     say_seventh(176);
-    say_seventh(256);
-    say_seventh(257);
+    say_seventh(384);
+    say_seventh(385);
 }
 
 // Plans that a q parts.
@@ -211,6 +251,25 @@ fn say_mosts() {
         b"system B, shared, q 3",
         systems::with_most(systems::system_b(4, 1), 3),
     );
+}
+
+// Plans of files with a C and T: those without them.
+fn say_paces() {
+    let one = systems::with_pace_at(
+        systems::system_a(3),
+        0,
+        Pace::Paced(Cycle { run: 2, period: 5 }),
+    );
+    say_system(b"system A with C and T of type 1", one);
+    say_system(
+        b"system A with C and T",
+        systems::with_pace(one, 19660, 65535),
+    );
+    say_system(
+        b"no good assignment, C and T",
+        systems::with_pace(systems::system_b(3, 0), 1, 5),
+    );
+    say_system(b"longest with C and T, rule 0", systems::system_paced(0));
 }
 
 // One more column than there might be before request 2026-10, and as many as there may be.
@@ -253,6 +312,8 @@ fn main() {
     );
     say_widest();
     say_lengths();
+    say_paces();
+    say_paced_lengths();
     say::say(b"refused plans\n");
     say_numbers();
 }

@@ -2,6 +2,7 @@
 use making::Recipe;
 use std::num::wrapping_add_usize;
 use std::num::wrapping_sub_usize;
+use trial::buffers::BUFFER_BYTES;
 use trial::spread::draw;
 
 // What each number is drawn from: up to its limit, and past it.
@@ -71,12 +72,12 @@ fn four(n: u64) -> u32 {
     (n % 4294967296) as u32
 }
 
-// The length of the buffer: the file's less one, the file's, one more, or 256.
+// The length of the buffer: the file's less one, the file's, one more, or all of it.
 fn room_of(k: usize, choice: usize) -> usize {
     if choice < 3 {
         return wrapping_sub_usize(wrapping_add_usize((k % 8) * 13 + 13, choice), 1);
     }
-    256
+    BUFFER_BYTES
 }
 
 pub fn drawn_recipe(seed: u64) -> Drawn {

@@ -1,4 +1,4 @@
-// The call over a buffer of 256 bytes, of which a first part is lent; and whether it left what it must there.
+// The call over a buffer of crate `trial`, of which a first part is lent; and whether it left what it must there.
 use crate::apart;
 use crate::judge;
 use making::Recipe;
@@ -7,6 +7,7 @@ use std::num::wrapping_add_usize;
 use system::Answer;
 use system::System;
 use system::read_system;
+use trial::buffers::BUFFER_BYTES;
 use trial::buffers::kept_from;
 use trial::buffers::old_bytes;
 use trial::buffers::same_front;
@@ -17,13 +18,13 @@ use trial::systems;
 // What a call answered, and the whole buffer after it.
 pub struct Call {
     pub answer: Answer,
-    pub bytes: [u8; 256],
+    pub bytes: [u8; BUFFER_BYTES],
 }
 
 // Makes a file in the first `room` bytes of a buffer, all of them where it has fewer.
 pub fn called(w: Recipe, room: usize, fill: usize) -> Call {
     let mut bytes = old_bytes(fill);
-    if room < 256 {
+    if room < BUFFER_BYTES {
         let answer = make_file(w, &mut bytes[0..room]);
         return Call { answer, bytes };
     }
@@ -32,7 +33,7 @@ pub fn called(w: Recipe, room: usize, fill: usize) -> Call {
 }
 
 // The first bytes read as this system.
-fn reads_as(bytes: [u8; 256], size: usize, y: System) -> bool {
+fn reads_as(bytes: [u8; BUFFER_BYTES], size: usize, y: System) -> bool {
     let o = read_system(files::first_of(&bytes, size));
     let answer = o.answer;
     let z = o.system;

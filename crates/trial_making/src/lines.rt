@@ -4,6 +4,7 @@ use crate::sweeps;
 use making::Recipe;
 use std::num::wrapping_add_usize;
 use system::Answer;
+use trial::buffers::BUFFER_BYTES;
 use trial::files::first_of;
 use trial::say::say;
 use trial::say::say_answer;
@@ -78,24 +79,26 @@ fn digit(n: u8) -> u8 {
     if low < 10 { 48 + low } else { 87 + low }
 }
 
-// Two digits for each byte.
-fn text_of(bytes: [u8; 256]) -> [u8; 512] {
-    let mut text: [u8; 512] = [0; 512];
-    for i in 0..256 {
+// The digits of a buffer, two for each byte.
+const TEXT_DIGITS: usize = 800;
+
+fn text_of(bytes: [u8; BUFFER_BYTES]) -> [u8; TEXT_DIGITS] {
+    let mut text: [u8; TEXT_DIGITS] = [0; TEXT_DIGITS];
+    for i in 0..BUFFER_BYTES {
         text[2 * i] = digit(bytes[i] / 16);
         text[2 * i + 1] = digit(bytes[i]);
     }
     text
 }
 
-fn say_bytes(bytes: [u8; 256], n: usize) {
+fn say_bytes(bytes: [u8; BUFFER_BYTES], n: usize) {
     let text = text_of(bytes);
     say(b" ");
     say(first_of(&text, wrapping_add_usize(n, n)));
 }
 
 // An answer, and the bytes that it says were written.
-fn say_made(a: Answer, bytes: [u8; 256]) {
+fn say_made(a: Answer, bytes: [u8; BUFFER_BYTES]) {
     say_answer(a);
     if let Answer::Number(n) = a {
         say_bytes(bytes, n);

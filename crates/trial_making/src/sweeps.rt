@@ -4,6 +4,7 @@ use crate::lent;
 use making::Recipe;
 use std::num::wrapping_add_usize;
 use system::Answer;
+use trial::buffers::BUFFER_BYTES;
 use trial::say;
 
 // How many calls wrote a file, how many were refused 39, 40 and 30, and how many were answered otherwise; a sum over the bytes of the files; and how many were wrong.
@@ -49,9 +50,9 @@ fn wide(byte: u8) -> u64 {
 }
 
 // The sum with the bytes of one file more: each byte after 31 times what was before.
-fn summed(sum: u64, bytes: [u8; 256], size: usize) -> u64 {
+fn summed(sum: u64, bytes: [u8; BUFFER_BYTES], size: usize) -> u64 {
     let mut all = sum;
-    for i in 0..256 {
+    for i in 0..BUFFER_BYTES {
         if i < size {
             all = (all % 4294967296) * 31 + wide(bytes[i]) % 256;
         }
@@ -59,7 +60,7 @@ fn summed(sum: u64, bytes: [u8; 256], size: usize) -> u64 {
     all % 4294967296
 }
 
-fn counted(t: Tally, a: Answer, bytes: [u8; 256]) -> Tally {
+fn counted(t: Tally, a: Answer, bytes: [u8; BUFFER_BYTES]) -> Tally {
     let place = place_of(a);
     let mut next = t;
     if place < 12 {

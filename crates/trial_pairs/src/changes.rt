@@ -5,6 +5,7 @@ use crate::fills::Lengths;
 use crate::fills::filled_over;
 use crate::fills::parts_after;
 use system::Most;
+use trial::buffers::BUFFER_BYTES;
 use trial::files;
 use trial::say;
 use trial::systems;
@@ -17,7 +18,7 @@ const CHANGES: [Change; 19] = [
     Change(0, 1, 96),
     Change(0, 1, 1),
     Change(0, 1, 25),
-    Change(13, 5, 96),
+    Change(13, 8, 96),
     Change(0, 2, 96),
     Change(13, 1, 96),
     Change(2, 11, 96),
@@ -36,7 +37,7 @@ const CHANGES: [Change; 19] = [
 ];
 
 // The file of six types of n 1 that cost nothing, the first with q 1, and a seventh type.
-fn seven_types() -> [u8; 256] {
+fn seven_types() -> [u8; BUFFER_BYTES] {
     let y = systems::with_most_at(systems::six_of(16, [1; 6]), 0, Most::AtMost(1));
     let f = files::file_of(y);
     let mut bytes = f.bytes;
@@ -51,7 +52,7 @@ fn say_answer(file: &[u8], rows: usize, predecessors: usize) {
 }
 
 // The answers over two long parts, over one of them and none of the other, and over none.
-fn say_answers(bytes: &[u8; 256], size: usize) {
+fn say_answers(bytes: &[u8; BUFFER_BYTES], size: usize) {
     let file = files::first_of(bytes, size);
     say_answer(file, LONG, LONG);
     say_answer(file, 0, LONG);
@@ -62,7 +63,7 @@ fn say_answers(bytes: &[u8; 256], size: usize) {
 fn say_change(c: Change) {
     let mut bytes = seven_types();
     let at = c.0;
-    if at < 256 {
+    if at < BUFFER_BYTES {
         bytes[at] = c.1;
     }
     say_answers(&bytes, c.2);

@@ -1,8 +1,9 @@
 // A line for a file: its name, then `refused` with the number, or `read` with m, k, the columns, the six numbers d, and the six limits q, `-`
-// where one is not given. Of a file with two kinds of engine, which is refused 42, also what it reads as where two kinds may be: the same, the second kind's number, U and
+// where one is not given; and where a type has a C and T, the six of them, `-` likewise. Of a file with two kinds of engine, which is refused 42, also what it reads as where two kinds may be: the same, the second kind's number, U and
 // S, and the six types' u and s there, `-` where they are not given.
 use system::Answer;
 use system::Most;
+use system::Pace;
 use system::Refusal;
 use system::Second;
 use system::System;
@@ -11,6 +12,7 @@ use system::There;
 use trial::files::first_of;
 use trial::say::say;
 use trial::say::say_also;
+use trial::systems::paced;
 use trial::words::Bytes;
 
 fn say_refusal(r: Refusal) {
@@ -38,6 +40,39 @@ fn say_most(t: TaskType) {
     }
 }
 
+fn say_pace(t: TaskType) {
+    let pace = t.pace;
+    match pace {
+        Pace::Unpaced => say(b" -"),
+        Pace::Paced(c) => {
+            say_also(c.run as usize);
+            say_also(c.period as usize);
+        }
+    }
+}
+
+// A type has a C and T.
+fn is_paced(t: TaskType) -> bool {
+    let pace = t.pace;
+    paced(pace)
+}
+
+// The six C and T, where there is one.
+fn say_paces(y: System) {
+    let types = y.types;
+    let first = is_paced(types[0]) | is_paced(types[1]) | is_paced(types[2]);
+    if !(first | is_paced(types[3]) | is_paced(types[4]) | is_paced(types[5])) {
+        return;
+    }
+    say(b" run");
+    say_pace(types[0]);
+    say_pace(types[1]);
+    say_pace(types[2]);
+    say_pace(types[3]);
+    say_pace(types[4]);
+    say_pace(types[5]);
+}
+
 fn say_system(y: System) {
     let types = y.types;
     say(b" read");
@@ -58,6 +93,7 @@ fn say_system(y: System) {
     say_most(types[3]);
     say_most(types[4]);
     say_most(types[5]);
+    say_paces(y);
 }
 
 fn say_there(t: TaskType) {

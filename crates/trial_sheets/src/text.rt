@@ -7,7 +7,7 @@ use trial::words::number_in;
 use trial::words::word_end;
 
 // The bytes of the text that are read at most.
-pub const TEXT_BYTES: usize = 131072;
+pub const TEXT_BYTES: usize = 262144;
 
 // A case: where its name ends, what it lends, the sheet, in how many ways every byte of it is changed, and where the next case starts.
 pub struct Case {

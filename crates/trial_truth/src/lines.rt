@@ -10,7 +10,8 @@
 // - `d past k`: data memory that is not a file's, that the stored memory leaves out or charges otherwise, or that does not fit;
 // - `q 0`: a q of 0, of a type or past them, and any q past them; `q 1 where two stand`: one more than q on an engine;
 // - `a mark at m + 1`: a mark on an engine that the system does not have; `engine 1 marked, holds two`: on one that holds an instance, with the sums of
-//   its load; `marked, time 1`: on one that holds nothing, with a stored time or memory.
+//   its load; `marked, time 1`: on one that holds nothing, with a stored time or memory;
+// - `C and T of type 1`: true boards with a C and T; `C and T: C 0`: false by one, of a type or past them.
 use crate::boards;
 use crate::calls;
 use board::Board;

@@ -15,7 +15,7 @@ use wording::why_of;
 use wording::why_read;
 
 // The bytes of the text that are read at most.
-const TEXT_BYTES: usize = 16384;
+const TEXT_BYTES: usize = 32768;
 
 // A case: where its name ends, its file, and where the next case starts.
 struct Case {

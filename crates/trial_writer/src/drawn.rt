@@ -4,6 +4,7 @@ use std::num::wrapping_add_usize;
 use std::num::wrapping_sub_usize;
 use system::System;
 use system::blank_system;
+use trial::buffers::BUFFER_BYTES;
 use trial::changes::with_number;
 use trial::files;
 use trial::spread::draw;
@@ -32,6 +33,12 @@ const DATA: [usize; 8] = [0, 0, 0, 0, 1, 256, 65536, 1000000];
 const MOSTS: [usize; 8] = [65536, 65536, 65536, 1, 2, 256, 65534, 65535];
 
 const NO_MOSTS: [usize; 4] = [0, 0, 0, 0];
+
+const RUNS: [usize; 8] = [1, 1, 1, 2, 3, 255, 32768, 65535];
+
+const PERIODS: [usize; 8] = [1, 3, 256, 32768, 65534, 65535, 65535, 65535];
+
+const NO_TICKS: [usize; 4] = [0, 65536, 65537, 4294967295];
 
 const CEILINGS: [usize; 8] = [0, 0, 0, 1, 1, 3, 63, 4095];
 
@@ -73,7 +80,7 @@ fn drawn_platform(seed: u64) -> Drawn {
     let none = Drawn {
         seed,
         system: blank_system(),
-        room: 256,
+        room: BUFFER_BYTES,
     };
     let counted = with_drawn(none, b'k', 0, COUNTS, NO_COUNTS);
     let powered = with_drawn(counted, b'm', 0, ENGINES, NO_ENGINES);
@@ -106,6 +113,32 @@ fn with_drawn_there(d: Drawn, t: usize) -> Drawn {
     with_drawn(timed, b'z', t, SIZES, NO_SIZES)
 }
 
+// The system with a C and T of the type at index t, in one of four.
+fn with_drawn_pace(d: Drawn, t: usize) -> Drawn {
+    let y = d.system;
+    let side = draw(d.seed, 4);
+    let given = Drawn {
+        seed: side.seed,
+        system: y,
+        room: d.room,
+    };
+    if side.value != 0 {
+        return given;
+    }
+    let run = with_drawn(given, b'R', t, RUNS, NO_TICKS);
+    with_drawn(run, b'P', t, PERIODS, NO_TICKS)
+}
+
+// All six.
+fn with_drawn_paces(d: Drawn) -> Drawn {
+    let one = with_drawn_pace(d, 0);
+    let two = with_drawn_pace(one, 1);
+    let three = with_drawn_pace(two, 2);
+    let four = with_drawn_pace(three, 3);
+    let five = with_drawn_pace(four, 4);
+    with_drawn_pace(five, 5)
+}
+
 // All six.
 fn with_drawn_theres(d: Drawn) -> Drawn {
     let one = with_drawn_there(d, 0);
@@ -116,12 +149,12 @@ fn with_drawn_theres(d: Drawn) -> Drawn {
     with_drawn_there(five, 5)
 }
 
-// The length of the buffer: the file's less one, the file's, one more, or 256.
+// The length of the buffer: the file's less one, the file's, one more, or all of it.
 fn with_drawn_room(d: Drawn) -> Drawn {
     let drawn = draw(d.seed, 4);
     let y = d.system;
     let f = files::file_of(y);
-    let mut room = 256;
+    let mut room = BUFFER_BYTES;
     if drawn.value < 3 {
         room = wrapping_sub_usize(wrapping_add_usize(f.size, drawn.value), 1);
     }
@@ -145,9 +178,13 @@ pub fn drawn_edges(seed: u64) -> Drawn {
     with_drawn_room(drawn_types(drawn_platform(seed)))
 }
 
-// The same with two kinds of engine. One in 16 has costs there alone.
-pub fn drawn_kinds(seed: u64) -> Drawn {
-    let d = drawn_types(drawn_platform(seed));
+// The same with a C and T for some types.
+pub fn drawn_paces(seed: u64) -> Drawn {
+    with_drawn_room(with_drawn_paces(drawn_types(drawn_platform(seed))))
+}
+
+// A system with a second kind of engine and costs there; one in 16 has costs there alone.
+fn with_drawn_kinds(d: Drawn) -> Drawn {
     let y = d.system;
     let side = draw(d.seed, 16);
     let mut both = Drawn {
@@ -159,5 +196,16 @@ pub fn drawn_kinds(seed: u64) -> Drawn {
         let next = with_drawn_second(both);
         both = next;
     }
-    with_drawn_room(with_drawn_theres(both))
+    with_drawn_theres(both)
+}
+
+// The same with two kinds of engine.
+pub fn drawn_kinds(seed: u64) -> Drawn {
+    with_drawn_room(with_drawn_kinds(drawn_types(drawn_platform(seed))))
+}
+
+// With two kinds, and with a C and T for some types.
+pub fn drawn_both(seed: u64) -> Drawn {
+    let paced = with_drawn_paces(drawn_types(drawn_platform(seed)));
+    with_drawn_room(with_drawn_kinds(paced))
 }

@@ -1,6 +1,7 @@
 // Which systems documents 01 and 02 let the writer write, decided apart from it.
 ghost use Prim.Native.Nat.{_≤_};
 use std::num::wrapping_add_usize;
+use system::Pace;
 use system::Second;
 use system::System;
 use system::There;
@@ -85,6 +86,37 @@ fn without_places(y: System) -> bool {
         | without_place(y, 5)
 }
 
+// C and T of the type at index t, where the system has that type and they are given: out of their bounds, on engines without time, or more of T than u is of
+// U.
+fn out_of_pace(y: System, t: usize) -> bool {
+    if 6 <= t {
+        return false;
+    }
+    if y.typecount <= t {
+        return false;
+    }
+    let task = y.types[t];
+    let pace = task.pace;
+    let Pace::Paced(c) = pace else {
+        return false;
+    };
+    if (c.run == 0) | (c.period == 0) | (65535 < c.run) | (65535 < c.period) {
+        return true;
+    }
+    let share = systems::product(task.time, c.period);
+    (c.period < c.run) | (y.timecap == 0) | (share < systems::product(y.timecap, c.run))
+}
+
+// C and T of one of the types.
+fn some_out_of_pace(y: System) -> bool {
+    out_of_pace(y, 0)
+        | out_of_pace(y, 1)
+        | out_of_pace(y, 2)
+        | out_of_pace(y, 3)
+        | out_of_pace(y, 4)
+        | out_of_pace(y, 5)
+}
+
 // The type at index t, where the system has it, has costs on a second kind where there is none, or has none where there is one.
 fn unpaired(y: System, t: usize) -> bool {
     if 6 <= t {
@@ -154,6 +186,13 @@ fn most_bytes(q: usize) -> usize
     if q < 65536 { 5 } else { 0 }
 }
 
+// The bytes of a C and T.
+fn pace_bytes(pace: Pace) -> usize
+    ensures { λ r. ⌜ r ≤ 11 ⌝ }
+{
+    if systems::paced(pace) { 11 } else { 0 }
+}
+
 // The bytes of the costs there, and of a second kind.
 fn there_bytes(there: There) -> usize
     ensures { λ r. ⌜ r ≤ 11 ⌝ }
@@ -167,9 +206,9 @@ fn second_bytes(second: Second) -> usize
     if systems::two_kinds(second) { 12 } else { 0 }
 }
 
-// The bytes that the type at index t has in the file, where the system has that type: 13, and those of its d, its q, and its costs there.
+// The bytes that the type at index t has in the file, where the system has that type: 13, and those of its d, its q, its C and T, and its costs there.
 fn bytes_of(y: System, t: usize) -> usize
-    ensures { λ r. ⌜ r ≤ 36 ⌝ }
+    ensures { λ r. ⌜ r ≤ 47 ⌝ }
 {
     if 6 <= t {
         return 0;
@@ -179,8 +218,10 @@ fn bytes_of(y: System, t: usize) -> usize
     }
     let task = y.types[t];
     let most = task.most;
+    let pace = task.pace;
     let there = task.there;
-    13 + data_bytes(task.data) + most_bytes(systems::most_number(most)) + there_bytes(there)
+    let limited = 13 + data_bytes(task.data) + most_bytes(systems::most_number(most));
+    limited + pace_bytes(pace) + there_bytes(there)
 }
 
 // The buffer has fewer bytes than the file.
@@ -216,6 +257,9 @@ pub fn refusal_of(y: System, room: usize) -> usize {
     }
     if without_places(y) {
         return 31;
+    }
+    if some_out_of_pace(y) {
+        return 43;
     }
     if passes_columns(y) {
         return 10;

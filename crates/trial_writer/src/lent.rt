@@ -1,8 +1,9 @@
-// The call of the writer over a buffer of 256 bytes, of which a first part is lent; and whether it left what it must there.
+// The call of the writer over a buffer of crate `trial`, of which a first part is lent; and whether it left what it must there.
 use crate::judge;
 use std::num::wrapping_add_usize;
 use system::Answer;
 use system::System;
+use trial::buffers::BUFFER_BYTES;
 use trial::buffers::kept_from;
 use trial::buffers::old_bytes;
 use trial::buffers::same_front;
@@ -13,13 +14,13 @@ use writer::write_system;
 // What a call answered, and the whole buffer after it.
 pub struct Call {
     pub answer: Answer,
-    pub bytes: [u8; 256],
+    pub bytes: [u8; BUFFER_BYTES],
 }
 
 // Writes a system into the first `room` bytes of a buffer, all of them where it has fewer.
 pub fn called(y: System, room: usize, fill: usize) -> Call {
     let mut bytes = old_bytes(fill);
-    if room < 256 {
+    if room < BUFFER_BYTES {
         let answer = write_system(y, &mut bytes[0..room]);
         return Call { answer, bytes };
     }

@@ -5,6 +5,7 @@ use system::Answer;
 use system::Refusal;
 use system::System;
 use system::read_card;
+use trial::buffers::BUFFER_BYTES;
 use trial::changes::with_number;
 use trial::files;
 use trial::files::File;
@@ -54,7 +55,7 @@ pub fn say_call(y: System, room: usize) {
 pub fn say_five(y: System, what: u8, t: usize, numbers: [usize; 5]) {
     for i in 0..5 {
         let n = numbers[i];
-        say_judged(with_number(y, what, t, n), 256);
+        say_judged(with_number(y, what, t, n), BUFFER_BYTES);
     }
     say::say(b"\n");
 }
@@ -64,8 +65,8 @@ fn say_byte(b: u8) {
 }
 
 // The bytes of a file as they stand in the buffer, up to the answer's number.
-fn say_bytes(bytes: [u8; 256], n: usize) {
-    for i in 0..256 {
+fn say_bytes(bytes: [u8; BUFFER_BYTES], n: usize) {
+    for i in 0..BUFFER_BYTES {
         if i < n {
             say_byte(bytes[i]);
         }
@@ -79,7 +80,7 @@ pub fn say_whole(f: File) {
 }
 
 pub fn say_file(y: System) {
-    let c = lent::called(y, 256, 33);
+    let c = lent::called(y, BUFFER_BYTES, 33);
     let answer = c.answer;
     let bytes = c.bytes;
     say_answer(answer);
@@ -112,7 +113,7 @@ fn system_of(f: File) -> System {
 pub fn say_zero(f: File) {
     say::say_also(f.size);
     say::say(b" bytes,");
-    say_call(system_of(f), 256);
+    say_call(system_of(f), BUFFER_BYTES);
 }
 
 // The bytes that are written for what such a file reads as.

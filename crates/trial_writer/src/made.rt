@@ -1,9 +1,11 @@
 // The systems of the trial, made by the words of a case one after the other from a system of which every number is 0. A word is one of crate `trial`'s
 // changes; or `plain`, a system of six types, 16 engines and 1,024 columns, whose numbers all differ; `with-d`, the same with a d for each type;
-// `longest`, with a q for each type too; or `junk`, which puts the greatest numbers that there are, costs on a second kind among them, and a q of 0, past the last type; or `Mixed`, the
-// longest file that there is, with a second kind of engine.
+// `longest`, with a q for each type too; or `junk`, which puts the greatest numbers that there are, costs on a second kind among them, a q of 0 and a T of 0, past the last type; or
+// `Mixed`, `longest` with a second kind of engine; or `timed` and `Timed`, `longest` and `Mixed` with a C and T for each type, the longest files that there are.
 use system::Costs;
+use system::Cycle;
 use system::Most;
+use system::Pace;
 use system::System;
 use system::TYPE_LIMIT;
 use system::TaskType;
@@ -37,6 +39,10 @@ fn with_junk_at(y: System, t: usize) -> System {
         ceiling: 65535,
         data: 4294967295,
         most: Most::AtMost(0),
+        pace: Pace::Paced(Cycle {
+            run: 4294967295,
+            period: 0,
+        }),
         there: There::Takes(Costs {
             time: 4294967295,
             memory: 4294967295,
@@ -63,6 +69,8 @@ fn after_word(y: System, c: Change) -> System {
         b'l' => systems::system_longest(1),
         b'j' => with_junk(y),
         b'M' => systems::system_mixed(1),
+        b't' => systems::system_paced(1),
+        b'T' => systems::system_mixed_paced(1),
         _ => changes::changed(y, c),
     }
 }

@@ -4,6 +4,7 @@ use crate::lent;
 use crate::zeros;
 use system::System;
 use system::read_card;
+use trial::buffers::BUFFER_BYTES;
 use trial::buffers::same_front;
 use trial::files;
 use trial::files::File;
@@ -21,12 +22,13 @@ fn with_known(z: System, y: System, t: usize) -> System {
     let task = y.types[t];
     let more = systems::with_type(z, task.time, task.memory, task.ceiling);
     let most = task.most;
+    let pace = task.pace;
     let there = task.there;
     let limited = systems::with_most_at(systems::with_data(more, task.data), t, most);
-    systems::with_there_at(limited, t, there)
+    systems::with_there_at(systems::with_pace_at(limited, t, pace), t, there)
 }
 
-// The platform, any second kind, and the first k types alone, made anew: 0, no q and no costs there past them.
+// The platform, any second kind, and the first k types alone, made anew: 0, no q, no C and T and no costs there past them.
 fn known_part(y: System) -> System {
     let second = y.second;
     let platform = systems::platform_of(y.engines, y.rule, y.timecap, y.memorycap);
@@ -74,7 +76,7 @@ fn drops_zeros(y: System) -> bool {
 
 // Both ways round, of a system that is written: from the bytes that the writer left, and from the file made apart from it. Both come back as
 // they are.
-fn both_ways(y: System, bytes: [u8; 256]) -> bool {
+fn both_ways(y: System, bytes: [u8; BUFFER_BYTES]) -> bool {
     let f = files::file_of(y);
     let left = File {
         bytes,

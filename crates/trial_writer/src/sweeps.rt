@@ -1,11 +1,14 @@
 // Many calls, each judged, and counted by what it answered.
+use crate::drawn::drawn_both;
 use crate::drawn::drawn_edges;
 use crate::drawn::drawn_kinds;
+use crate::drawn::drawn_paces;
 use crate::lent;
 use crate::rounds;
 use std::num::wrapping_add_usize;
 use system::Answer;
 use system::System;
+use trial::buffers::BUFFER_BYTES;
 use trial::say;
 use trial::spread;
 
@@ -22,7 +25,7 @@ fn no_tally() -> Tally {
     }
 }
 
-// Where an answer is counted: 41 last, and 9 for one that the writer never gives.
+// Where an answer is counted: 41 and 43 last, and 9 for one that the writer never gives.
 fn place_of(a: Answer) -> usize {
     let code = say::code_of(a);
     if 1000 < code {
@@ -38,6 +41,7 @@ fn place_of(a: Answer) -> usize {
         110 => 7,
         130 => 8,
         141 => 10,
+        143 => 11,
         _ => 9,
     }
 }
@@ -70,10 +74,11 @@ fn judged(t: Tally, y: System, room: usize) -> Tally {
     mismatch(next, y, room)
 }
 
-// Buffers of every length from 0 on, fewer than `end` and than 243: the longest file of one kind of engine has 163 bytes, and of two 241.
+// Buffers of every length from 0 on, fewer than `end` and than 309: the longest file of one kind of engine without a C and T has 163 bytes, of two 241, and with them
+// 229 and 307.
 fn lengths(y: System, end: usize) -> Tally {
     let mut all = no_tally();
-    for room in 0..243usize {
+    for room in 0..309usize {
         if room < end {
             let next = judged(all, y, room);
             all = next;
@@ -135,6 +140,45 @@ fn kinds() -> Tally {
     r.tally
 }
 
+// The same with a C and T for some types, of one kind of engine and of two.
+fn next_paces(r: Run) -> Run {
+    let d = drawn_paces(r.seed);
+    let y = d.system;
+    let tally = r.tally;
+    Run {
+        seed: d.seed,
+        tally: judged(tally, y, d.room),
+    }
+}
+
+fn paces() -> Tally {
+    let mut r = first_run(5);
+    for i in 0..10000usize {
+        let next = next_paces(r);
+        r = next;
+    }
+    r.tally
+}
+
+fn next_both(r: Run) -> Run {
+    let d = drawn_both(r.seed);
+    let y = d.system;
+    let tally = r.tally;
+    Run {
+        seed: d.seed,
+        tally: judged(tally, y, d.room),
+    }
+}
+
+fn both() -> Tally {
+    let mut r = first_run(6);
+    for i in 0..10000usize {
+        let next = next_both(r);
+        r = next;
+    }
+    r.tally
+}
+
 // The largest n of k types, so that the columns of most systems are within their limit.
 fn most_of(k: usize) -> usize {
     match k {
@@ -153,7 +197,7 @@ fn next_drawn(r: Run, k: usize) -> Run {
     let tally = r.tally;
     Run {
         seed: d.seed,
-        tally: judged(tally, y, 256),
+        tally: judged(tally, y, BUFFER_BYTES),
     }
 }
 
@@ -173,7 +217,7 @@ fn next_mixed(r: Run, k: usize) -> Run {
     let tally = r.tally;
     Run {
         seed: d.seed,
-        tally: judged(tally, y, 256),
+        tally: judged(tally, y, BUFFER_BYTES),
     }
 }
 
@@ -201,6 +245,13 @@ fn say_kinds(name: &[u8], t: Tally) -> usize {
     t.wrong
 }
 
+// The same with the number of those refused 43.
+fn say_paces(name: &[u8], t: Tally) -> usize {
+    let row = t.answers;
+    say::say_row(name, row, 12);
+    t.wrong
+}
+
 pub fn say_lengths(name: &[u8], y: System) -> usize {
     say_tally(name, lengths(y, 165))
 }
@@ -209,11 +260,20 @@ pub fn say_longer(name: &[u8], y: System) -> usize {
     say_kinds(name, lengths(y, 243))
 }
 
+pub fn say_longest(name: &[u8], y: System) -> usize {
+    say_paces(name, lengths(y, 309))
+}
+
 // The drawn systems, and how many calls were wrong, among them and before them.
 pub fn say_sweeps(wrong: usize) {
     let ends = wrapping_add_usize(wrong, say_tally(b"ends of the limits:", edges()));
     let one = wrapping_add_usize(ends, say_tally(b"drawn:", drawn()));
     let paired = wrapping_add_usize(one, say_kinds(b"ends of the limits, two kinds:", kinds()));
-    let all = wrapping_add_usize(paired, say_kinds(b"drawn, two kinds:", mixed()));
+    let mixes = wrapping_add_usize(paired, say_kinds(b"drawn, two kinds:", mixed()));
+    let run = wrapping_add_usize(mixes, say_paces(b"ends of the limits, C and T:", paces()));
+    let all = wrapping_add_usize(
+        run,
+        say_paces(b"ends of the limits, two kinds, C and T:", both()),
+    );
     say::say_count(b"mismatches", all);
 }

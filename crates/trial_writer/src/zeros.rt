@@ -1,7 +1,9 @@
 // Files with a tag 3 that gives a d of 0: the reader takes it as none, so that the file is not that of its system.
 use std::num::wrapping_add_usize;
+use system::Pace;
 use system::System;
 use system::There;
+use trial::buffers::BUFFER_BYTES;
 use trial::changes::NOT_GIVEN;
 use trial::changes::with_number;
 use trial::files;
@@ -17,15 +19,15 @@ fn zero_byte(i: usize) -> u8 {
     }
 }
 
-fn byte_at(bytes: &[u8; 256], i: usize) -> u8 {
-    if i < 256 {
+fn byte_at(bytes: &[u8; BUFFER_BYTES], i: usize) -> u8 {
+    if i < BUFFER_BYTES {
         return bytes[i];
     }
     0
 }
 
 // A byte of a file, with such a field put in at a place.
-fn byte_with(old: &[u8; 256], at: usize, i: usize) -> u8 {
+fn byte_with(old: &[u8; BUFFER_BYTES], at: usize, i: usize) -> u8 {
     if i < at {
         return byte_at(old, i);
     }
@@ -39,8 +41,8 @@ fn byte_with(old: &[u8; 256], at: usize, i: usize) -> u8 {
 fn with_field(f: File, at: usize) -> File {
     let old = f.bytes;
     let size = f.size;
-    let mut bytes: [u8; 256] = [0; 256];
-    for i in 0..256 {
+    let mut bytes: [u8; BUFFER_BYTES] = [0; BUFFER_BYTES];
+    for i in 0..BUFFER_BYTES {
         bytes[i] = byte_with(&old, at, i);
     }
     File {
@@ -49,12 +51,12 @@ fn with_field(f: File, at: usize) -> File {
     }
 }
 
-// The place in the file of a system where the field of its type at index t ends, before those of its q and its costs there: how long the file of the types up to
-// that one is without them.
+// The place in the file of a system where the field of its type at index t ends, before those of its q, its C and T and its costs there: how long the file of the types
+// up to that one is without them.
 fn end_of(y: System, t: usize) -> usize {
     let first = with_number(y, b'k', 0, wrapping_add_usize(t, 1));
-    let bare = systems::with_there_at(with_number(first, b'q', t, NOT_GIVEN), t, There::Absent);
-    let f = files::file_of(bare);
+    let alone = systems::with_pace_at(with_number(first, b'q', t, NOT_GIVEN), t, Pace::Unpaced);
+    let f = files::file_of(systems::with_there_at(alone, t, There::Absent));
     f.size
 }
 

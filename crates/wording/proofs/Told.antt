@@ -129,8 +129,8 @@ why-promised {file = file} {table = table} {a = a} size p w = record {
   tells = tells-why file;
 }
 
--- main: the first 256 bytes decide
-pub prefix-promised : {front file old new : List ℕ} {r : ℕ} → front ≡ take 256 file → WhyPromises front old new r → WhyPromises file old new r
+-- main: the first 384 bytes decide
+pub prefix-promised : {front file old new : List ℕ} {r : ℕ} → front ≡ take 384 file → WhyPromises front old new r → WhyPromises file old new r
 prefix-promised {front = front} {file = file} first p = record {
   written = rw (ap whyText first ∙ ap readingLine (read-prefix file)) at (p .written);
   tells = tells-why file;

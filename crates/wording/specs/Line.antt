@@ -38,7 +38,7 @@ abbrev pub answerLine : CauseAnswer → List ℕ
 answerLine (Because c) = causeLine c
 answerLine (Refused why) = refusalLine (numberOf why)
 
--- both parts of the table are the function's own and long enough, so 11 does not arise: 1 to 10, 31, 41 and 42, or the cause
+-- both parts of the table are the function's own and long enough, so 11 does not arise: 1 to 10, 31 and 41 to 43, or the cause
 unfoldable pub readingLine : Reading → List ℕ
 readingLine (unread n) = refusalLine n
 readingLine (opened y) = causeLine (causeOn y (enginesTo (y .engines)) (ceilingsOf y))

@@ -1,5 +1,5 @@
 -- The bytes of a file, as the writer's code is described, are document 01's layout byte by byte, without a zero tag 3; a platform has 13 of them, a second kind 12, a type 13, its d 7, its q 5,
--- and its u and s on the second kind 11.
+-- its C and T 11, and its u and s on the second kind 11.
 -- A number's four bytes agree as quotients and remainders; the fields of types agree by one type more at the end.
 use Prim.Native.Nat.{ℕ, zero, suc, _+_, _-_, _*_, _/_, _%_, _≤_}
 use mathlib.Core.Path.{_≡_, refl, sym, ap, ap₂, _∙_}
@@ -13,6 +13,9 @@ use lib.Dec.{eqb}
 use Rattle.buffer.specs.Bytes.{bytes4}
 use Rattle.system.specs.declared.Most.{Most}
 use Rattle.system.specs.declared.Most.the-variants.{NotGiven, AtMost}
+use Rattle.system.specs.declared.Cycle.{Cycle}
+use Rattle.system.specs.declared.Pace.{Pace}
+use Rattle.system.specs.declared.Pace.the-variants.{Unpaced, Paced}
 use Rattle.system.specs.declared.Costs.{Costs}
 use Rattle.system.specs.declared.There.{There}
 use Rattle.system.specs.declared.There.the-variants.{Absent, Takes}
@@ -25,8 +28,8 @@ use Rattle.system.specs.Limits.{typeLimit}
 use Rattle.system.specs.Values.{noTask}
 use Rattle.system.specs.Rules.{ruleOf, longestFile}
 use Rattle.partition.specs.Plain.{typeNo}
-use Rattle.writer.specs.File.{fieldBytes, platformBytes, secondBytes, dataBytes, mostBytes, costsBytes, typeBytes, typesBytes, fileOf}
-use Rattle.writer.specs.Meaning.{twoOut, fourOut, platformOut, secondOut, dataOut, mostOut, costsOut, typeOut, typesOut, fileOut}
+use Rattle.writer.specs.File.{fieldBytes, platformBytes, secondBytes, dataBytes, mostBytes, paceBytes, costsBytes, typeBytes, typesBytes, fileOf}
+use Rattle.writer.specs.Meaning.{twoOut, fourOut, platformOut, secondOut, dataOut, mostOut, paceOut, costsOut, typeOut, typesOut, fileOut}
 
 -- intermediate: one field
 
@@ -50,6 +53,11 @@ unfolding fieldBytes ruleOf
 most-out NotGiven = refl
 most-out (AtMost q) = refl
 
+pace-out : (p : Pace) → paceBytes p ≡ paceOut p
+unfolding fieldBytes ruleOf
+pace-out Unpaced = refl
+pace-out (Paced c) = λ i. 5 ∷ 0 ∷ 8 ∷ (four-out (c .run) i ++ four-out (c .period) i)
+
 second-out : (s : Second) → secondBytes s ≡ secondOut s
 unfolding fieldBytes ruleOf
 second-out OneKind = refl
@@ -63,7 +71,7 @@ costs-out (Takes c) = λ i. 7 ∷ 0 ∷ 8 ∷ (four-out (c .time) i ++ four-out 
 type-out : (t : TaskType) → typeBytes t ≡ typeOut false t
 unfolding fieldBytes ruleOf
 type-out t =
-    λ i. 2 ∷ 0 ∷ 10 ∷ (four-out (t .time) i ++ (four-out (t .memory) i ++ (twoOut (t .ceiling) ++ (data-out (t .data) i ++ (most-out (t .most) i ++ costs-out (t .there) i)))))
+    λ i. 2 ∷ 0 ∷ 10 ∷ (four-out (t .time) i ++ (four-out (t .memory) i ++ (twoOut (t .ceiling) ++ (data-out (t .data) i ++ (most-out (t .most) i ++ (pace-out (t .pace) i ++ costs-out (t .there) i))))))
 
 -- intermediate: one type more
 
@@ -111,6 +119,11 @@ pub most-some : (q : ℕ) → length (mostBytes (AtMost q)) ≡ 5
 unfolding fieldBytes ruleOf
 most-some q = refl
 
+-- C and T that are given have 11
+pub pace-some : (x : Pace) {c : Cycle} → x ≡ Paced c → length (paceBytes x) ≡ 11
+unfolding fieldBytes ruleOf
+pace-some x {c = c} is = ap (λ (z : Pace). length (paceBytes z)) is
+
 -- a second kind has 12, and u and s there 11, where they are given
 pub second-some : (s : Second) {k : Kind} → s ≡ TwoKinds k → length (secondBytes s) ≡ 12
 unfolding fieldBytes ruleOf
@@ -120,15 +133,20 @@ pub costs-some : (x : There) {c : Costs} → x ≡ Takes c → length (costsByte
 unfolding fieldBytes ruleOf
 costs-some x {c = c} is = ap (λ (z : There). length (costsBytes z)) is
 
-pub type-size : (t : TaskType) → length (typeBytes t) ≡ 13 + length (dataBytes (t .data)) + length (mostBytes (t .most)) + length (costsBytes (t .there))
+pub type-size : (t : TaskType) → length (typeBytes t) ≡ 13 + length (dataBytes (t .data)) + length (mostBytes (t .most)) + length (paceBytes (t .pace)) + length (costsBytes (t .there))
 unfolding fieldBytes ruleOf
 type-size t =
-    omega (arith, length-append (dataBytes (t .data)) (mostBytes (t .most) ++ costsBytes (t .there)), length-append (mostBytes (t .most)) (costsBytes (t .there)))
+    omega (
+      arith,
+      length-append (dataBytes (t .data)) (mostBytes (t .most) ++ (paceBytes (t .pace) ++ costsBytes (t .there))),
+      length-append (mostBytes (t .most)) (paceBytes (t .pace) ++ costsBytes (t .there)),
+      length-append (paceBytes (t .pace)) (costsBytes (t .there)),
+    )
 
 pub types-size : (ts : List TaskType) (t : TaskType) → length (typesBytes (ts ++ (t ∷ []))) ≡ length (typesBytes ts) + length (typeBytes t)
 types-size ts t = ap length (types-more ts t) ∙ length-append (typesBytes ts) (typeBytes t)
 
--- the longest: 13 + 12 + 6 × 36 = 241
+-- the longest: 13 + 12 + 6 × 47 = 307
 
 pub data-longest : (d : ℕ) → length (dataBytes d) ≤ 7
 data-longest d = at (eqb d 0) refl
@@ -141,6 +159,10 @@ pub most-longest : (m : Most) → length (mostBytes m) ≤ 5
 most-longest NotGiven = omega arith
 most-longest (AtMost q) = omega (arith, most-some q)
 
+pub pace-longest : (p : Pace) → length (paceBytes p) ≤ 11
+pace-longest Unpaced = omega arith
+pace-longest (Paced c) = omega (arith, pace-some (Paced c) refl)
+
 pub second-longest : (s : Second) → length (secondBytes s) ≤ 12
 second-longest OneKind = omega arith
 second-longest (TwoKinds k) = omega (arith, second-some (TwoKinds k) refl)
@@ -149,15 +171,15 @@ pub costs-longest : (x : There) → length (costsBytes x) ≤ 11
 costs-longest Absent = omega arith
 costs-longest (Takes c) = omega (arith, costs-some (Takes c) refl)
 
-type-longest : (t : TaskType) → length (typeBytes t) ≤ 36
-type-longest t = omega (arith, type-size t, data-longest (t .data), most-longest (t .most), costs-longest (t .there))
+type-longest : (t : TaskType) → length (typeBytes t) ≤ 47
+type-longest t = omega (arith, type-size t, data-longest (t .data), most-longest (t .most), pace-longest (t .pace), costs-longest (t .there))
 
-types-longest : (ts : List TaskType) → length (typesBytes ts) ≤ 36 * length ts
+types-longest : (ts : List TaskType) → length (typesBytes ts) ≤ 47 * length ts
 unfolding typesBytes
 types-longest [] = omega arith
 types-longest (t ∷ ts) = omega (arith, length-append (typeBytes t) (typesBytes ts), type-longest t, types-longest ts)
 
-pub first-longest : (ts : List TaskType) (k : ℕ) → length (typesBytes (take k ts)) ≤ 36 * k
+pub first-longest : (ts : List TaskType) (k : ℕ) → length (typesBytes (take k ts)) ≤ 47 * k
 first-longest ts k = omega (arith, types-longest (take k ts), length-take k ts)
 
 pub file-longest : (y : System) → y .typecount ≤ typeLimit → length (fileOf y) ≤ longestFile

@@ -13,6 +13,9 @@ use Rattle.buffer.specs.Bytes.{bytes2}
 use Rattle.buffer.proofs.Laws.{bytes2-small, bytes4-small}
 use Rattle.system.specs.declared.Most.{Most}
 use Rattle.system.specs.declared.Most.the-variants.{NotGiven, AtMost}
+use Rattle.system.specs.declared.Cycle.{Cycle}
+use Rattle.system.specs.declared.Pace.{Pace}
+use Rattle.system.specs.declared.Pace.the-variants.{Unpaced, Paced}
 use Rattle.system.specs.declared.Costs.{Costs}
 use Rattle.system.specs.declared.There.{There}
 use Rattle.system.specs.declared.There.the-variants.{Absent, Takes}
@@ -26,7 +29,7 @@ use Rattle.system.specs.Layout.{readCard, readFile, opened}
 use Rattle.system.proofs.Laws.{CardLimits, card-of, card-keep, limits-of, limits-card, read-keeps-card, read-keeps-limits, file-card, card-file, ceiling-lt}
 use Rattle.partition.specs.Plain.{typeNo, LimitsOut, CardOut}
 use Rattle.partition.proofs.Plain.{limits-out, card-out}
-use Rattle.writer.specs.Meaning.{twoOut, fourOut, platformOut, secondOut, dataOut, mostOut, costsOut, typeOut, typesOut, fileWith, fileOut, IsBytes, ReadsExactly, CardExactly, Given, ReplicasFit}
+use Rattle.writer.specs.Meaning.{twoOut, fourOut, platformOut, secondOut, dataOut, mostOut, paceOut, costsOut, typeOut, typesOut, fileWith, fileOut, IsBytes, ReadsExactly, CardExactly, Given, ReplicasFit}
 use Rattle.writer.proofs.Bytes.{four-out}
 use Rattle.writer.proofs.Told.{HasData, left-out, given, has-data}
 use Rattle.writer.proofs.Writable.{card-writable}
@@ -79,9 +82,12 @@ second-bytes (TwoKinds k) h i = bytes-head 6 9 (k .number ∷ sizes) (lit< tt) (
     body zero = h k refl .number
     body (suc j) = bytes-append (fourOut (k .timecap)) (fourOut (k .memorycap)) (four-bytes (k .timecap) (h k refl .time)) (four-bytes (k .memorycap) (h k refl .memory)) j
 
--- u, s and d fit four bytes, n and q two, and u and s on the second kind four
+-- u, s and d fit four bytes, n and q two, and C and T, and u and s on the second kind, four
 abbrev MostFits : Most → Type 0
 MostFits m = (q : ℕ) → m ≡ AtMost q → q < 65536
+
+abbrev PaceFits : Pace → Type 0
+PaceFits x = (c : Cycle) → x ≡ Paced c → (c .run < 4294967296) × (c .period < 4294967296)
 
 abbrev CostsFit : There → Type 0
 CostsFit x = (c : Costs) → x ≡ Takes c → (c .time < 4294967296) × (c .memory < 4294967296)
@@ -92,6 +98,7 @@ record Small (t : TaskType) : Type 0 where
   ceiling : t .ceiling < 65536
   «data» : t .data < 4294967296
   most : MostFits (t .most)
+  paces : PaceFits (t .pace)
   costs : CostsFit (t .there)
 
 data-bytes : (told : Bool) (d : ℕ) → d < 4294967296 → IsBytes (dataOut told d)
@@ -105,18 +112,24 @@ most-bytes : (m : Most) → MostFits m → IsBytes (mostOut m)
 most-bytes NotGiven h i = lit< tt
 most-bytes (AtMost q) h i = bytes-head 4 2 (twoOut q) (lit< tt) (lit< tt) (λ j. bytes2-small q j (h q refl)) i
 
+pace-bytes : (x : Pace) → PaceFits x → IsBytes (paceOut x)
+pace-bytes Unpaced h i = lit< tt
+pace-bytes (Paced c) h i =
+    bytes-head 5 8 (fourOut (c .run) ++ fourOut (c .period)) (lit< tt) (lit< tt)
+    (bytes-append (fourOut (c .run)) (fourOut (c .period)) (four-bytes (c .run) (h c refl .0)) (four-bytes (c .period) (h c refl .1))) i
+
 costs-bytes : (x : There) → CostsFit x → IsBytes (costsOut x)
 costs-bytes Absent h i = lit< tt
 costs-bytes (Takes c) h i =
     bytes-head 7 8 (fourOut (c .time) ++ fourOut (c .memory)) (lit< tt) (lit< tt)
     (bytes-append (fourOut (c .time)) (fourOut (c .memory)) (four-bytes (c .time) (h c refl .0)) (four-bytes (c .memory) (h c refl .1))) i
 
--- the bytes of u, s and n, and those that follow: of d, of q, and of u and s on the second kind
+-- the bytes of u, s and n, and those that follow: of d, of q, of C and T, and of u and s on the second kind
 abbrev front : TaskType → List ℕ
 front t = typeOut false (taskOf (t .time) (t .memory) (t .ceiling))
 
 abbrev after : Bool → TaskType → List ℕ
-after told t = dataOut told (t .data) ++ (mostOut (t .most) ++ costsOut (t .there))
+after told t = dataOut told (t .data) ++ (mostOut (t .most) ++ (paceOut (t .pace) ++ costsOut (t .there)))
 
 type-bytes : (told : Bool) (t : TaskType) → Small t → IsBytes (typeOut told t)
 type-bytes told t h =
@@ -124,8 +137,9 @@ type-bytes told t h =
     let body = bytes-append (fourOut (t .time)) (fourOut (t .memory) ++ bytes2 (t .ceiling)) (four-bytes (t .time) (h .time)) costs in
     let first = bytes-head 2 10 (fourOut (t .time) ++ (fourOut (t .memory) ++ bytes2 (t .ceiling))) (lit< tt) (lit< tt) body in
     bytes-append (front t) (after told t) first
-    (bytes-append (dataOut told (t .data)) (mostOut (t .most) ++ costsOut (t .there)) (data-bytes told (t .data) (h .data))
-    (bytes-append (mostOut (t .most)) (costsOut (t .there)) (most-bytes (t .most) (h .most)) (costs-bytes (t .there) (h .costs))))
+    (bytes-append (dataOut told (t .data)) (mostOut (t .most) ++ (paceOut (t .pace) ++ costsOut (t .there))) (data-bytes told (t .data) (h .data))
+    (bytes-append (mostOut (t .most)) (paceOut (t .pace) ++ costsOut (t .there)) (most-bytes (t .most) (h .most))
+    (bytes-append (paceOut (t .pace)) (costsOut (t .there)) (pace-bytes (t .pace) (h .paces)) (costs-bytes (t .there) (h .costs)))))
 
 types-bytes : (told : ℕ → Bool) (y : System) (n : ℕ) → ((t : ℕ) → 1 ≤ t → t ≤ n → Small (typeNo y t)) → IsBytes (typesOut told y n)
 unfolding typesOut
@@ -155,6 +169,7 @@ file-bytes told y l w fit =
           ceiling = omega (arith, few, ceiling-lt (ceilingsOf y) (t - 1), l .columns);
           «data» = omega (arith, sized .data);
           most = λ q is. fit t q low high is;
+          paces = λ c is. let within = w .paces t c low high is in (omega (arith, within .run .1), omega (arith, within .period .1));
           costs = λ c is. let sizes = w .secondSizes .costs t c low high is in (omega arith, omega arith);
         }
 
@@ -188,8 +203,9 @@ types-fit told y (suc n) bytes t low high = at (leb t n) refl (types-fit told y 
     -- the bytes of its q
     own : IsBytes (mostOut (last .most))
     own =
-        let rest = bytes-parts (dataOut (told (suc n)) (last .data)) (mostOut (last .most) ++ costsOut (last .there)) (bytes-parts (front last) tail (parts .1) .1) .1 in
-        bytes-parts (mostOut (last .most)) (costsOut (last .there)) rest .0
+        let later = paceOut (last .pace) ++ costsOut (last .there) in
+        let rest = bytes-parts (dataOut (told (suc n)) (last .data)) (mostOut (last .most) ++ later) (bytes-parts (front last) tail (parts .1) .1) .1 in
+        bytes-parts (mostOut (last .most)) later rest .0
 
     at : (b : Bool) → leb t n ≡ b → (t ≤ n → MostFits (typeNo y t .most)) → MostFits (typeNo y t .most)
     at true e before = before (leb-true t n e)

@@ -1,16 +1,16 @@
--- Tests one after another, where the first that finds a fault decides; and one test of each type. The laws are of any test of a type, so that they serve 8 (u, s and d, and u and s on the second kind)
--- and 31 (q).
-use Prim.Native.Nat.{ℕ, zero, suc}
+-- Tests one after another, where the first that finds a fault decides; and one test of each type. The laws are of any test of a type, so that they serve 8 (u, s and d, and u and s on the second kind),
+-- 31 (q) and 43 (C and T).
+use Prim.Native.Nat.{ℕ, zero, suc, _≤_}
 use mathlib.Core.Path.{_≡_, refl, ap, ap₂}
 use mathlib.Core.List.{List, [], _∷_}
 use mathlib.Core.Bool.{Bool, true, false, cond}
 use native.Mathlib.Omega.{arith}
 use borrow.Author.Tests.{eqb-true, eqb-false, eq-eqb}
-use lib.ListN.{getD}
+use lib.ListN.{length, getD}
 use lib.Dec.{eqb}
 use Rattle.system.specs.declared.TaskType.{TaskType}
 use Rattle.system.specs.Values.{noTask}
-use Rattle.system.specs.Limits.{mostFault}
+use Rattle.system.specs.Limits.{mostFault, paceFault, pacesFault}
 use Rattle.writer.specs.Writing.{orElse, taskFault, typesFault, mostsFault, enginesFault}
 
 -- `orElse` is 0 exactly where both are
@@ -43,7 +43,7 @@ unfoldable pub firstOf : (TaskType → ℕ) → List TaskType → ℕ
 firstOf test [] = 0
 firstOf test (t ∷ ts) = orElse (test t) (firstOf test ts)
 
--- 8 of some types, and 31
+-- 8 of some types, 31, and 43 on engines with this U, where none of the types stands past those that are asked
 pub types-first : (ts : List TaskType) → typesFault ts ≡ firstOf taskFault ts
 unfolding typesFault firstOf
 types-first [] = refl
@@ -56,6 +56,15 @@ pub mosts-first : (ts : List TaskType) → mostsFault ts ≡ firstOf replicaFaul
 unfolding mostsFault firstOf
 mosts-first [] = refl
 mosts-first (t ∷ ts) = ap (orElse (replicaFault t)) (mosts-first ts)
+
+abbrev pub cycleFault : ℕ → TaskType → ℕ
+cycleFault whole t = paceFault whole (t .time) (t .pace)
+
+pub paces-first : (whole k : ℕ) (ts : List TaskType) → length ts ≤ k → pacesFault whole k ts ≡ firstOf (cycleFault whole) ts
+unfolding pacesFault firstOf
+paces-first whole k [] h = refl
+paces-first whole zero (t ∷ ts) h = absurd (omega arith)
+paces-first whole (suc k) (t ∷ ts) h = ap (orElse (cycleFault whole t)) (paces-first whole k ts (omega arith))
 
 -- none is found exactly where each type passes
 module _ (test : TaskType → ℕ) where

@@ -1,4 +1,4 @@
--- The laws of crate `writer`, in the order of their proofs: the bytes of a file; what is written reads back and what was read comes back; the order of the refusals; what the call promises, and two worked examples.
+-- The laws of crate `writer`, in the order of their proofs: the bytes of a file; what is written reads back and what was read comes back; the order of the refusals; what the call promises, and three worked examples.
 pub mod Bytes
 pub mod Told
 pub mod Cleared

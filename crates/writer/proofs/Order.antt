@@ -15,14 +15,14 @@ use Rattle.system.specs.Limits.{engineLimit, typeLimit, sizeFault, platformFaul
 use Rattle.system.specs.Outcome.{accepted, refused, fromInput}
 use Rattle.partition.specs.Assignment.{among}
 use Rattle.writer.specs.File.{fileOf}
-use Rattle.partition.specs.Plain.{AllOrNone}
+use Rattle.partition.specs.Plain.{PacesWithin, AllOrNone}
 use Rattle.writer.specs.Writing.{orElse, typesFault, enginesFault, typesLimits, systemFault, writeFault, writeOutcome}
 use Rattle.writer.specs.Meaning.{fileOut, CountWithin, EnginesWithin, SizesWithin, ReplicasWithin, columnsTo, MayBeWritten, WritesInOrder}
 use Rattle.writer.proofs.Bytes.{file-out}
 use Rattle.writer.proofs.Faults.{or-none}
 use Rattle.writer.proofs.Tests.{Test, finds-nothing, holds, fails, says, says-alone, row, skips}
-use Rattle.writer.proofs.Tests.{manyFault, noneFault, kindOver, numbersFault, ruleFault, kindSizes, sizesFault, replicasFault, productFault, shortFault, second-apart, sizes-no-five}
-use Rattle.writer.proofs.Tests.{many-test, none-test, kinds-test, engines-test, rule-test, sizes-test, replicas-test, columns-test, room-test}
+use Rattle.writer.proofs.Tests.{manyFault, noneFault, kindOver, numbersFault, ruleFault, kindSizes, sizesFault, replicasFault, cyclesFault, productFault, shortFault, second-apart, sizes-no-five}
+use Rattle.writer.proofs.Tests.{many-test, none-test, kinds-test, engines-test, rule-test, sizes-test, replicas-test, cycles-test, columns-test, room-test}
 
 -- intermediate: no fault, so none in the system, and the file fits
 
@@ -42,8 +42,11 @@ or-assoc a b c = at (eqb a 0) refl
 abbrev fromTen : System → ℕ → ℕ
 fromTen y room = orElse (productFault y) (shortFault y room)
 
+abbrev fromFortyThree : System → ℕ → ℕ
+fromFortyThree y room = orElse (cyclesFault y) (fromTen y room)
+
 abbrev fromThirtyOne : System → ℕ → ℕ
-fromThirtyOne y room = orElse (replicasFault y) (fromTen y room)
+fromThirtyOne y room = orElse (replicasFault y) (fromFortyThree y room)
 
 abbrev fromEight : System → ℕ → ℕ
 fromEight y room = orElse (sizesFault y) (fromThirtyOne y room)
@@ -68,8 +71,11 @@ numbersThirty = 30 ∷ 0 ∷ []
 abbrev numbersTen : List ℕ
 numbersTen = 10 ∷ numbersThirty
 
+abbrev numbersFortyThree : List ℕ
+numbersFortyThree = 43 ∷ numbersTen
+
 abbrev numbersThirtyOne : List ℕ
-numbersThirtyOne = 31 ∷ numbersTen
+numbersThirtyOne = 31 ∷ numbersFortyThree
 
 abbrev numbersEight : List ℕ
 numbersEight = 8 ∷ numbersThirtyOne
@@ -87,18 +93,21 @@ abbrev numbersNine : List ℕ
 numbersNine = 9 ∷ numbersFortyOne
 
 -- the engines: the platform's test c, d and s, the second kind's e and w, whose sizes say no 5
-module _ (s w t p q r : ℕ) (no-five : eqb w 5 ≡ false) where
+module _ (s w t p x q r : ℕ) (no-five : eqb w 5 ≡ false) where
   abbrev from-sizes : ℕ
-  from-sizes = orElse (orElse (orElse s w) t) (orElse p (orElse q r))
+  from-sizes = orElse (orElse (orElse s w) t) (orElse p (orElse x (orElse q r)))
 
-  after-rule : orElse (orElse (orElse s w) (orElse t (orElse p q))) r ≡ from-sizes
+  abbrev from-types : ℕ
+  from-types = orElse t (orElse p (orElse x q))
+
+  after-rule : orElse (orElse (orElse s w) from-types) r ≡ from-sizes
   after-rule =
-      or-assoc (orElse s w) (orElse t (orElse p q)) r
-      ∙ ap (orElse (orElse s w)) (or-assoc t (orElse p q) r ∙ ap (orElse t) (or-assoc p q r))
-      ∙ sym (or-assoc (orElse s w) t (orElse p (orElse q r)))
+      or-assoc (orElse s w) from-types r
+      ∙ ap (orElse (orElse s w)) (or-assoc t (orElse p (orElse x q)) r ∙ ap (orElse t) (or-assoc p (orElse x q) r ∙ ap (orElse p) (or-assoc x q r)))
+      ∙ sym (or-assoc (orElse s w) t (orElse p (orElse x (orElse q r))))
 
   engines-regroup : (c d e : Bool)
-      → orElse (orElse (enginesFault (cond c 5 (cond d 6 s)) (cond e 5 w)) (orElse t (orElse p q))) r
+      → orElse (orElse (enginesFault (cond c 5 (cond d 6 s)) (cond e 5 w)) from-types) r
       ≡ orElse (orElse (cond c 5 0) (cond e 5 0)) (orElse (cond d 6 0) from-sizes)
   engines-regroup true d true = refl
   engines-regroup false d true = refl
@@ -107,11 +116,11 @@ module _ (s w t p q r : ℕ) (no-five : eqb w 5 ≡ false) where
   engines-regroup false false false = rw no-five after-rule
 
   regroup : (a b c d e : Bool) (k : ℕ)
-      → orElse (orElse (cond a 7 (cond b 9 0)) (orElse k (orElse (enginesFault (cond c 5 (cond d 6 s)) (cond e 5 w)) (orElse t (orElse p q))))) r
+      → orElse (orElse (cond a 7 (cond b 9 0)) (orElse k (orElse (enginesFault (cond c 5 (cond d 6 s)) (cond e 5 w)) from-types))) r
       ≡ orElse (cond a 7 0) (orElse (cond b 9 0) (orElse k (orElse (orElse (cond c 5 0) (cond e 5 0)) (orElse (cond d 6 0) from-sizes))))
   regroup true b c d e k = refl
   regroup false true c d e k = refl
-  regroup false false c d e k = or-assoc k (orElse (enginesFault (cond c 5 (cond d 6 s)) (cond e 5 w)) (orElse t (orElse p q))) r ∙ ap (orElse k) (engines-regroup c d e)
+  regroup false false c d e k = or-assoc k (orElse (enginesFault (cond c 5 (cond d 6 s)) (cond e 5 w)) from-types) r ∙ ap (orElse k) (engines-regroup c d e)
 
 from-seven : (y : System) (room : ℕ) → writeFault y room ≡ orElse (manyFault y) (fromNine y room)
 unfolding writeFault systemFault
@@ -119,9 +128,9 @@ from-seven y room =
     let platform = platformFault (y .engines) (y .rule) (y .timecap) (y .memorycap) in
     let count : ℕ = cond (ltb typeLimit (y .typecount)) 7 (cond (eqb (y .typecount) 0) 9 0) in
     ap
-    (λ (second : ℕ). orElse (orElse count (orElse (kindsFault y) (orElse (enginesFault platform second) (typesLimits (cleared y .types))))) (shortFault y room))
+    (λ (second : ℕ). orElse (orElse count (orElse (kindsFault y) (orElse (enginesFault platform second) (typesLimits (y .timecap) (cleared y .types))))) (shortFault y room))
     (second-apart (y .engines) (y .second))
-    ∙ regroup (sizeFault (y .timecap) (y .memorycap)) (kindSizes (y .second)) (typesFault (cleared y .types)) (replicasFault y) (productFault y) (shortFault y room) (sizes-no-five (y .second))
+    ∙ regroup (sizeFault (y .timecap) (y .memorycap)) (kindSizes (y .second)) (typesFault (cleared y .types)) (replicasFault y) (cyclesFault y) (productFault y) (shortFault y room) (sizes-no-five (y .second))
     (ltb typeLimit (y .typecount)) (eqb (y .typecount) 0) (not (leb 1 (y .engines) && leb (y .engines) engineLimit)) (not (leb (y .rule) 1)) (kindOver (y .engines) (y .second))
     (kindsFault y)
 
@@ -145,12 +154,15 @@ module _ (y : System) (room : ℕ) (six : length (y .types) ≡ 6) where
   left-thirty-one : CountWithin y → AllOrNone y → EnginesWithin y → y .rule ≤ 1 → SizesWithin y → writeFault y room ≡ fromThirtyOne y room
   left-thirty-one k a m r s = left-eight k a m r ∙ skips (fromThirtyOne y room) (sizes-test y) s
 
-  left-ten : CountWithin y → AllOrNone y → EnginesWithin y → y .rule ≤ 1 → SizesWithin y → ReplicasWithin y → writeFault y room ≡ fromTen y room
-  left-ten k a m r s q = left-thirty-one k a m r s ∙ skips (fromTen y room) (replicas-test y) q
+  left-forty-three : CountWithin y → AllOrNone y → EnginesWithin y → y .rule ≤ 1 → SizesWithin y → ReplicasWithin y → writeFault y room ≡ fromFortyThree y room
+  left-forty-three k a m r s q = left-thirty-one k a m r s ∙ skips (fromFortyThree y room) (replicas-test y) q
+
+  left-ten : CountWithin y → AllOrNone y → EnginesWithin y → y .rule ≤ 1 → SizesWithin y → ReplicasWithin y → PacesWithin y → writeFault y room ≡ fromTen y room
+  left-ten k a m r s q c = left-forty-three k a m r s q ∙ skips (fromTen y room) (cycles-test y (k .1)) c
 
   left-thirty : MayBeWritten y → writeFault y room ≡ shortFault y room
   left-thirty w =
-      left-ten (w .count) (w .kinds) (w .engines) (w .rule) (w .sizes) (w .replicas)
+      left-ten (w .count) (w .kinds) (w .engines) (w .rule) (w .sizes) (w .replicas) (w .paces)
       ∙ skips (shortFault y room) (columns-test y (omega (arith, w .count .1))) (w .columns)
 
   -- what the tests from each number on say
@@ -167,8 +179,11 @@ module _ (y : System) (room : ℕ) (six : length (y .types) ≡ 6) where
     says-ten : among numbersTen (fromTen y room) ≡ true
     says-ten = says numbersThirty (shortFault y room) (omega arith) columns-asked (says-alone room-asked)
 
+    says-forty-three : among numbersFortyThree (fromFortyThree y room) ≡ true
+    says-forty-three = says numbersTen (fromTen y room) (omega arith) (cycles-test y few) says-ten
+
     says-thirty-one : among numbersThirtyOne (fromThirtyOne y room) ≡ true
-    says-thirty-one = says numbersTen (fromTen y room) (omega arith) (replicas-test y) says-ten
+    says-thirty-one = says numbersFortyThree (fromFortyThree y room) (omega arith) (replicas-test y) says-forty-three
 
     says-eight : among numbersEight (fromEight y room) ≡ true
     says-eight = says numbersThirtyOne (fromThirtyOne y room) (omega arith) (sizes-test y) says-thirty-one
@@ -235,8 +250,9 @@ module _ (y : System) (room : ℕ) (six : length (y .types) ≡ 6) where
       let c = or-none (numbersFault y) (fromSix y room) (g .1) in
       let d = or-none (ruleFault y) (fromEight y room) (c .1) in
       let s = or-none (sizesFault y) (fromThirtyOne y room) (d .1) in
-      let p = or-none (replicasFault y) (fromTen y room) (s .1) in
-      let q = or-none (productFault y) (shortFault y room) (p .1) in
+      let p = or-none (replicasFault y) (fromFortyThree y room) (s .1) in
+      let t = or-none (cyclesFault y) (fromTen y room) (p .1) in
+      let q = or-none (productFault y) (shortFault y room) (t .1) in
       let few = holds (omega arith) (many-test y) (a .0) in
       record {
         count = (holds (omega arith) (none-test y) (b .0), few);
@@ -245,6 +261,7 @@ module _ (y : System) (room : ℕ) (six : length (y .types) ≡ 6) where
         rule = holds (omega arith) (rule-test y) (d .0);
         sizes = holds (omega arith) (sizes-test y) (s .0);
         replicas = holds (omega arith) (replicas-test y) (p .0);
+        paces = holds (omega arith) (cycles-test y few) (t .0);
         columns = holds (omega arith) (columns-asked y room six few) (q .0);
       }
 
@@ -272,10 +289,13 @@ module _ (y : System) (room : ℕ) (six : length (y .types) ≡ 6) where
         in-row y room (fromThirtyOne y room) numbersThirtyOne (omega arith) (sizes-test y) (left-eight y room six k a m r)
         (says-thirty-one y room six (k .1)) refl Iff·rfl;
     thenThirtyOne = λ k a m r s.
-        in-row y room (fromTen y room) numbersTen (omega arith) (replicas-test y) (left-thirty-one y room six k a m r s)
+        in-row y room (fromFortyThree y room) numbersFortyThree (omega arith) (replicas-test y) (left-thirty-one y room six k a m r s)
+        (says-forty-three y room six (k .1)) refl Iff·rfl;
+    thenFortyThree = λ k a m r s q.
+        in-row y room (fromTen y room) numbersTen (omega arith) (cycles-test y (k .1)) (left-forty-three y room six k a m r s q)
         (says-ten y room six (k .1)) refl Iff·rfl;
-    thenTen = λ k a m r s q.
-        in-row y room (shortFault y room) numbersThirty (omega arith) (columns-asked y room six (k .1)) (left-ten y room six k a m r s q)
+    thenTen = λ k a m r s q c.
+        in-row y room (shortFault y room) numbersThirty (omega arith) (columns-asked y room six (k .1)) (left-ten y room six k a m r s q c)
         (says-alone (room-asked y room six (k .1))) refl (over (columnsTo y (y .typecount)) 4096);
     thenThirty = then-thirty;
     orWritten = or-written;

@@ -1,6 +1,7 @@
 -- What is read comes back: along a reading, some file of the system so far and the bytes that are left are the whole file.
 -- A field that was accepted has the bytes that its platform, its second kind, its type, or what belongs to a type is written with, since bytes that were read as a number are that number's bytes.
--- A platform comes without a second kind, which a tag 6 gives. A type comes without d and q, and without u and s there. Where a tag 3 follows, it is told; a tag 4 gives q, a tag 7 u and s there.
+-- A platform comes without a second kind, which a tag 6 gives. A type comes without d, q, C and T, and without u and s there. Where a tag 3 follows, it is told; a tag 4 gives q, a tag 5 C
+-- and T, a tag 7 u and s there.
 use Prim.Native.Nat.{ℕ, zero, suc, _+_, _-_, _≤_, _<_}
 use mathlib.Core.Path.{_≡_, refl, sym, ap, ap₂, _∙_, subst}
 use mathlib.Core.List.{List, [], _∷_, _++_, append-nil, append-assoc}
@@ -14,25 +15,26 @@ use lib.Seq.{drop-cons, getD-drop, getD-set-same, getD-set-other}
 use lib.Dec.{leb, eqb, lit<}
 use Rattle.buffer.proofs.Laws.{bytes2-back, bytes4-back}
 use Rattle.system.specs.declared.Most.the-variants.{NotGiven, AtMost}
+use Rattle.system.specs.declared.Pace.the-variants.{Unpaced, Paced}
 use Rattle.system.specs.declared.There.the-variants.{Absent, Takes}
 use Rattle.system.specs.declared.Second.{Second}
 use Rattle.system.specs.declared.Second.the-variants.{OneKind}
 use Rattle.system.specs.declared.TaskType.{TaskType}
 use Rattle.system.specs.declared.System.{System}
 use Rattle.system.specs.declared.rules.FieldRule.{FieldRule}
-use Rattle.system.specs.Values.{taskOf, withData, withMost, withCosts, noTask, blank, withPlatform, withSecond, withType, lastType, withLast}
-use Rattle.system.specs.Limits.{orElse, typeLimit, platformFault, kindFault, typeFault, mostFault, costsFault, kindsFault, columnsFault}
-use Rattle.system.specs.Rules.{platformRule, typeRule, dataRule, mostRule, secondRule, costsRule, headSize, ruledSize}
+use Rattle.system.specs.Values.{taskOf, withData, withMost, withPace, withCosts, noTask, blank, withPlatform, withSecond, withType, lastType, withLast}
+use Rattle.system.specs.Limits.{orElse, typeLimit, platformFault, kindFault, typeFault, mostFault, paceFault, costsFault, kindsFault, columnsFault}
+use Rattle.system.specs.Rules.{platformRule, typeRule, dataRule, mostRule, paceRule, secondRule, costsRule, headSize, ruledSize}
 use Rattle.system.specs.Layout.{Reading, opened, unread, byteAt, word2, word4, fieldSize, wholeField, bodyPart}
-use Rattle.system.specs.Layout.{platformFrom, platformOf, typeFrom, typeOf, dataFrom, dataOf, mostFrom, mostOf, secondFrom, secondOf, costsFrom, costsOf}
+use Rattle.system.specs.Layout.{platformFrom, platformOf, typeFrom, typeOf, dataFrom, dataOf, mostFrom, mostOf, paceFrom, paceOf, secondFrom, secondOf, costsFrom, costsOf}
 use Rattle.system.specs.Layout.{bodyOf, fieldOf, endOf, afterField, fieldsFrom, readCard}
 use Rattle.system.specs.Inner.{PastTypes}
-use Rattle.system.proofs.Laws.{passes, no-fault, either-false, platform-first, type-later, data-after-type, most-after-type, second-after-platform, costs-after-type}
-use Rattle.system.proofs.Laws.{OneOf, a-platform, a-type, a-data, a-most, a-second, a-costs, Passed, fieldOf-opened, Sound, sound-blank, sound-field}
+use Rattle.system.proofs.Laws.{passes, no-fault, either-false, platform-first, type-later, data-after-type, most-after-type, pace-after-type, second-after-platform, costs-after-type}
+use Rattle.system.proofs.Laws.{OneOf, a-platform, a-type, a-data, a-most, a-pace, a-second, a-costs, Passed, fieldOf-opened, Sound, sound-blank, sound-field}
 use Rattle.partition.specs.Plain.{typeNo}
 use Rattle.writer.specs.Meaning.{twoOut, fourOut, platformOut, secondOut, typeOut, typesOut, fileWith, IsBytes}
 use Rattle.writer.proofs.Bytes.{four-out}
-use Rattle.writer.proofs.Told.{type-given, type-limited, type-costed, types-same}
+use Rattle.writer.proofs.Told.{type-given, type-limited, type-paced, type-costed, types-same}
 
 -- intermediate: the bytes of a field, one by one
 
@@ -98,6 +100,11 @@ module _ (s : List ℕ) (bytes : IsBytes s) where
   most-back f =
       (λ i. sym (f .first) i ∷ high mostRule (lit< tt) f i ∷ low mostRule (lit< tt) f i ∷ bytes2-back (byteAt s 3) (byteAt s 4) (bytes 4) i)
       ∙ sym (whole-bytes mostRule (lit< tt) f)
+
+  pace-back : Whole s paceRule → 5 ∷ 0 ∷ 8 ∷ (fourOut (word4 s 3) ++ fourOut (word4 s 7)) ≡ take (fieldSize s) s
+  pace-back f =
+      (λ i. sym (f .first) i ∷ high paceRule (lit< tt) f i ∷ low paceRule (lit< tt) f i ∷ (four-back 3 i ++ four-back 7 i))
+      ∙ sym (whole-bytes paceRule (lit< tt) f)
 
   second-back : Whole s secondRule → 6 ∷ 0 ∷ 9 ∷ byteAt s 3 ∷ (fourOut (word4 s 4) ++ fourOut (word4 s 8)) ≡ take (fieldSize s) s
   second-back f =
@@ -186,13 +193,14 @@ written told last z = cond (eqb last 0) [] (fileWith told z)
 written-some : (told : ℕ → Bool) (last : ℕ) (z : System) → (last ≡ 0 → ⊥) → written told last z ≡ fileWith told z
 written-some told last z n = rw (ne-eqb last 0 n)
 
--- a system so far: no type and no second kind before the platform and directly after it, no d directly after a type, no q before the tag 4, and no u and s there before the tag 7
+-- a system so far: no type and no second kind before the platform and directly after it, no d directly after a type, no q before the tag 4, no C and T before the tag 5, and no u and s there before the tag 7
 record SoFar (told : ℕ → Bool) (last : ℕ) (z : System) : Type 0 where
   sound : Sound last z
   start : last ≤ 1 → (z .typecount ≡ 0) × (z .second ≡ OneKind)
   quiet : last ≡ 2 → (told (z .typecount) ≡ false) × (lastType z .data ≡ 0)
   free : 1 < last → last < 4 → lastType z .most ≡ NotGiven
-  alone : 1 < last → last < 5 → lastType z .there ≡ Absent
+  idle : 1 < last → last < 5 → lastType z .pace ≡ Unpaced
+  alone : 1 < last → last < 6 → lastType z .there ≡ Absent
 
 -- an accepted field adds its bytes to what is written
 record Adds (told : ℕ → Bool) (s : List ℕ) (last : ℕ) (z next : System) : Type 0 where
@@ -200,7 +208,8 @@ record Adds (told : ℕ → Bool) (s : List ℕ) (last : ℕ) (z next : System) 
   start : byteAt s 0 ≤ 1 → (next .typecount ≡ 0) × (next .second ≡ OneKind)
   quiet : byteAt s 0 ≡ 2 → (tells-now (next .typecount) ≡ false) × (lastType next .data ≡ 0)
   free : 1 < byteAt s 0 → byteAt s 0 < 4 → lastType next .most ≡ NotGiven
-  alone : 1 < byteAt s 0 → byteAt s 0 < 5 → lastType next .there ≡ Absent
+  idle : 1 < byteAt s 0 → byteAt s 0 < 5 → lastType next .pace ≡ Unpaced
+  alone : 1 < byteAt s 0 → byteAt s 0 < 6 → lastType next .there ≡ Absent
   bytes : written tells-now (byteAt s 0) next ≡ written told last z ++ take (fieldSize s) s
 
 module _ (told : ℕ → Bool) (s : List ℕ) (bytes : IsBytes s) (last : ℕ) (z next : System) (soFar : SoFar told last z) where
@@ -218,6 +227,7 @@ module _ (told : ℕ → Bool) (s : List ℕ) (bytes : IsBytes s) (last : ℕ) (
         start = λ w. early;
         quiet = λ w. absurd (omega (arith, f .first));
         free = λ low high. absurd (omega (arith, f .first));
+        idle = λ low high. absurd (omega (arith, f .first));
         alone = λ low high. absurd (omega (arith, f .first));
         bytes =
             written-some told (byteAt s 0) new some
@@ -239,6 +249,7 @@ module _ (told : ℕ → Bool) (s : List ℕ) (bytes : IsBytes s) (last : ℕ) (
         start = λ w. absurd (omega (arith, f .first));
         quiet = λ w. absurd (omega (arith, f .first));
         free = λ low high. absurd (omega (arith, f .first));
+        idle = λ low high. absurd (omega (arith, f .first));
         alone = λ low high. absurd (omega (arith, f .first));
         bytes =
             written-some told (byteAt s 0) new (λ w. omega (arith, f .first))
@@ -263,6 +274,7 @@ module _ (told : ℕ → Bool) (s : List ℕ) (bytes : IsBytes s) (last : ℕ) (
         start = λ w. absurd (omega (arith, f .first));
         quiet = λ w. (tells-it (suc (z .typecount)) false told, ap (λ (x : TaskType). x .data) here);
         free = λ low high. ap (λ (x : TaskType). x .most) here;
+        idle = λ low high. ap (λ (x : TaskType). x .pace) here;
         alone = λ low high. ap (λ (x : TaskType). x .there) here;
         bytes =
             written-some now (byteAt s 0) (withType t z) some
@@ -271,9 +283,10 @@ module _ (told : ℕ → Bool) (s : List ℕ) (bytes : IsBytes s) (last : ℕ) (
       })
 
   -- a field of the last type: the type's bytes, and then those of the field
-  adds-last : (b : Bool) (t : TaskType) (field : List ℕ) → PastTypes last → 2 < byteAt s 0 → (byteAt s 0 < 4 → t .most ≡ NotGiven) → (byteAt s 0 < 5 → t .there ≡ Absent)
+  adds-last : (b : Bool) (t : TaskType) (field : List ℕ) → PastTypes last → 2 < byteAt s 0
+      → (byteAt s 0 < 4 → t .most ≡ NotGiven) → (byteAt s 0 < 5 → t .pace ≡ Unpaced) → (byteAt s 0 < 6 → t .there ≡ Absent)
       → typeOut b t ≡ typeOut (told (z .typecount)) (lastType z) ++ field → field ≡ take (fieldSize s) s → Adds told s last z (withLast t z)
-  adds-last b t field after later free alone more is =
+  adds-last b t field after later free idle alone more is =
       let sound = soFar .sound in
       let some = sound .some-type after in
       let most : z .typecount ≤ length (z .types) = omega (arith, sound .six, sound .typecount) in
@@ -284,6 +297,7 @@ module _ (told : ℕ → Bool) (s : List ℕ) (bytes : IsBytes s) (last : ℕ) (
         start = λ w. absurd (omega arith);
         quiet = λ w. absurd (omega arith);
         free = λ low high. ap (λ (x : TaskType). x .most) here ∙ free high;
+        idle = λ low high. ap (λ (x : TaskType). x .pace) here ∙ idle high;
         alone = λ low high. ap (λ (x : TaskType). x .there) here ∙ alone high;
         bytes =
             written-some now (byteAt s 0) (withLast t z) (λ w. omega arith)
@@ -298,29 +312,46 @@ module _ (told : ℕ → Bool) (s : List ℕ) (bytes : IsBytes s) (last : ℕ) (
       let t = withData d (lastType z) in
       let old = soFar .quiet after in
       let free = soFar .free (omega arith) (omega arith) in
+      let idle = soFar .idle (omega arith) (omega arith) in
       let alone = soFar .alone (omega arith) (omega arith) in
       let field : List ℕ = 3 ∷ 0 ∷ 4 ∷ fourOut d in
       let read : dataOf (bytesFrom 4 3 s) z ≡ opened next = ap (λ (b : List ℕ). dataOf b z) (sym (f .body)) ∙ e in
       let q = no-fault (typeFault t) (withLast t z) next read in
       subst (Adds told s last z) (q .1)
-      (adds-last true t field (omega arith, λ w. omega arith) (omega (arith, f .first)) (λ low. free) (λ low. alone)
-      (type-given (lastType z) d (old .1) free alone ∙ ap (λ (b : Bool). typeOut b (lastType z) ++ field) (sym (old .0)))
+      (adds-last true t field (omega arith, λ w. omega arith) (omega (arith, f .first)) (λ low. free) (λ low. idle) (λ low. alone)
+      (type-given (lastType z) d (old .1) free idle alone ∙ ap (λ (b : Bool). typeOut b (lastType z) ++ field) (sym (old .0)))
       (data-back s bytes f))
 
   adds-most : Whole s mostRule → 1 < last → last < 4 → mostOf (bodyPart s) z ≡ opened next → Adds told s last z next
   unfolding mostFrom
   adds-most f low high e =
       let n = word2 s 3 in
+      let idle = soFar .idle low (omega arith) in
       let alone = soFar .alone low (omega arith) in
       let t = withMost n (lastType z) in
       let read : mostOf (bytesFrom 2 3 s) z ≡ opened next = ap (λ (b : List ℕ). mostOf b z) (sym (f .body)) ∙ e in
       let q = no-fault (mostFault (AtMost n)) (withLast t z) next read in
       subst (Adds told s last z) (q .1)
-      (adds-last (told (z .typecount)) t (4 ∷ 0 ∷ 2 ∷ twoOut n) (low, λ w. omega arith) (omega (arith, f .first)) (λ less. absurd (omega (arith, f .first))) (λ less. alone)
-      (type-limited (told (z .typecount)) (lastType z) n (soFar .free low high) alone)
+      (adds-last (told (z .typecount)) t (4 ∷ 0 ∷ 2 ∷ twoOut n) (low, λ w. omega arith) (omega (arith, f .first)) (λ less. absurd (omega (arith, f .first))) (λ less. idle) (λ less. alone)
+      (type-limited (told (z .typecount)) (lastType z) n (soFar .free low high) idle alone)
       (most-back s bytes f))
 
-  adds-costs : Whole s costsRule → 1 < last → last < 5 → costsOf (bodyPart s) z ≡ opened next → Adds told s last z next
+  adds-pace : Whole s paceRule → 1 < last → last < 5 → paceOf (bodyPart s) z ≡ opened next → Adds told s last z next
+  unfolding paceFrom
+  adds-pace f low high e =
+      let c = word4 s 3 in
+      let p = word4 s 7 in
+      let alone = soFar .alone low (omega arith) in
+      let t = withPace c p (lastType z) in
+      let read : paceOf (bytesFrom 8 3 s) z ≡ opened next = ap (λ (b : List ℕ). paceOf b z) (sym (f .body)) ∙ e in
+      let q = no-fault (paceFault (z .timecap) (lastType z .time) (Paced (record { run = c; period = p }))) (withLast t z) next read in
+      subst (Adds told s last z) (q .1)
+      (adds-last (told (z .typecount)) t (5 ∷ 0 ∷ 8 ∷ (fourOut c ++ fourOut p)) (low, λ w. omega arith) (omega (arith, f .first)) (λ less. absurd (omega (arith, f .first)))
+      (λ less. absurd (omega (arith, f .first))) (λ less. alone)
+      (type-paced (told (z .typecount)) (lastType z) c p (soFar .idle low high) alone)
+      (pace-back s bytes f))
+
+  adds-costs : Whole s costsRule → 1 < last → last < 6 → costsOf (bodyPart s) z ≡ opened next → Adds told s last z next
   unfolding costsFrom
   adds-costs f low high e =
       let u = word4 s 3 in
@@ -330,7 +361,7 @@ module _ (told : ℕ → Bool) (s : List ℕ) (bytes : IsBytes s) (last : ℕ) (
       let q = no-fault (costsFault (Takes (record { time = u; memory = m }))) (withLast t z) next read in
       subst (Adds told s last z) (q .1)
       (adds-last (told (z .typecount)) t (7 ∷ 0 ∷ 8 ∷ (fourOut u ++ fourOut m)) (low, λ w. omega arith) (omega (arith, f .first)) (λ less. absurd (omega (arith, f .first)))
-      (λ less. absurd (omega (arith, f .first)))
+      (λ less. absurd (omega (arith, f .first))) (λ less. absurd (omega (arith, f .first)))
       (type-costed (told (z .typecount)) (lastType z) u m (soFar .alone low high))
       (costs-back s bytes f))
 
@@ -354,11 +385,16 @@ module _ (told : ℕ → Bool) (s : List ℕ) (bytes : IsBytes s) (last : ℕ) (
           let low : 1 < last = ⊎-elim (λ e. omega arith) (λ e. omega arith) after in
           let high : last < 4 = ⊎-elim (λ e. omega arith) (λ e. omega arith) after in
           adds-most (of-rule r mostRule w p) low high (rw w at b)
+      at r p b (a-pace w) =
+          let after = pace-after-type last .0 (rw w at (p .place)) in
+          let low : 1 < last = ⊎-elim (λ e. omega arith) (⊎-elim (λ e. omega arith) (λ e. omega arith)) after in
+          let high : last < 5 = ⊎-elim (λ e. omega arith) (⊎-elim (λ e. omega arith) (λ e. omega arith)) after in
+          adds-pace (of-rule r paceRule w p) low high (rw w at b)
       at r p b (a-second w) = adds-second (of-rule r secondRule w p) (second-after-platform last .0 (rw w at (p .place))) (rw w at b)
       at r p b (a-costs w) =
           let after = costs-after-type last .0 (rw w at (p .place)) in
-          let low : 1 < last = ⊎-elim (λ e. omega arith) (⊎-elim (λ e. omega arith) (λ e. omega arith)) after in
-          let high : last < 5 = ⊎-elim (λ e. omega arith) (⊎-elim (λ e. omega arith) (λ e. omega arith)) after in
+          let low : 1 < last = ⊎-elim (λ e. omega arith) (⊎-elim (λ e. omega arith) (⊎-elim (λ e. omega arith) (λ e. omega arith))) after in
+          let high : last < 6 = ⊎-elim (λ e. omega arith) (⊎-elim (λ e. omega arith) (⊎-elim (λ e. omega arith) (λ e. omega arith))) after in
           adds-costs (of-rule r costsRule w p) low high (rw w at b)
 
 -- intermediate: along a reading
@@ -401,7 +437,7 @@ fields-back (suc f) told (b ∷ s) last z y enough bytes soFar e =
         ap (λ (l : List ℕ). l ++ left) (a .bytes)
         ∙ append-assoc (written told last z) (take (fieldSize (b ∷ s)) (b ∷ s)) left
         ∙ ap (λ (l : List ℕ). written told last z ++ l) (take-append-drop (fieldSize (b ∷ s)) (b ∷ s)) in
-        let now : SoFar (a .tells-now) b next = record { sound = sound-field (b ∷ s) last z next (soFar .sound) q; start = a .start; quiet = a .quiet; free = a .free; alone = a .alone } in
+        let now : SoFar (a .tells-now) b next = record { sound = sound-field (b ∷ s) last z next (soFar .sound) q; start = a .start; quiet = a .quiet; free = a .free; idle = a .idle; alone = a .alone } in
         subst (λ (l : List ℕ). IsFile l y) joined
         (rest (a .tells-now) next (omega (arith, length-drop (fieldSize (b ∷ s)) (b ∷ s))) left-bytes now e)
 
@@ -416,6 +452,7 @@ read-comes-back file y bytes e =
       start = λ n. (refl, refl);
       quiet = λ n. absurd (omega arith);
       free = λ low high. absurd (omega arith);
+      idle = λ low high. absurd (omega arith);
       alone = λ low high. absurd (omega arith);
     })
     e

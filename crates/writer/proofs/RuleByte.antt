@@ -25,6 +25,7 @@ under-limits rule y small l = record {
   six = l .six;
   costs = l .costs;
   replicas = l .replicas;
+  paces = l .paces;
   past = l .past;
   columns = l .columns;
   oneKind = l .oneKind;

@@ -14,7 +14,7 @@ use Rattle.system.specs.declared.rules.FieldRule.{FieldRule}
 use Rattle.system.specs.declared.rules.RuleFound.{RuleFound}
 use Rattle.system.specs.declared.rules.RuleFound.the-variants.{Known}
 use Rattle.system.specs.Rules.{fieldRules, ruleOf}
-use Rattle.system.proofs.Laws.{OneOf, a-platform, a-type, a-data, a-most, a-second, a-costs, ruleOf-known}
+use Rattle.system.proofs.Laws.{OneOf, a-platform, a-type, a-data, a-most, a-pace, a-second, a-costs, ruleOf-known}
 use Rattle.system.specs.Values.{cleared}
 use Rattle.system.specs.Limits.{platformFault, secondFault, kindsFault}
 use Rattle.writer.specs.File.{typeBytes, typesBytes}
@@ -32,6 +32,7 @@ body-short tag {r = r} look known = at (ruleOf-known tag r (sym look ∙ known) 
     at (a-type w) = rw w (lit< tt)
     at (a-data w) = rw w (lit< tt)
     at (a-most w) = rw w (lit< tt)
+    at (a-pace w) = rw w (lit< tt)
     at (a-second w) = rw w (lit< tt)
     at (a-costs w) = rw w (lit< tt)
 
@@ -64,7 +65,7 @@ module _ (y : System) {counted : ℕ} (a : counted ≡ countFault (y .typecount)
       unfolding systemFault
       fault-of-engines some = or-on _ _ _ a few (or-on _ _ _ b agree (or-first _ _ _ c some))
 
-      pub fault-of-types : equipped ≡ 0 → {limits : ℕ} → limits ≡ typesLimits (cleared y .types) → limits ≡ systemFault y
+      pub fault-of-types : equipped ≡ 0 → {limits : ℕ} → limits ≡ typesLimits (y .timecap) (cleared y .types) → limits ≡ systemFault y
       unfolding systemFault
       fault-of-types keeps e = or-on _ _ _ a few (or-on _ _ _ b agree (or-on _ _ _ c keeps e))
 

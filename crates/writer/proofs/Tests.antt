@@ -8,11 +8,14 @@ use mathlib.Core.Logic.{_↔_}
 use native.Mathlib.Nat.{one-mul, mul-one, mul-assoc}
 use native.Mathlib.Omega.{arith}
 use borrow.Author.Tests.{ltb-true, ltb-false, leb-true, eqb-true, eqb-false, le-leb, eq-eqb, ne-eqb, not-true, not-false}
-use lib.ListN.{length, getD, take, replicate}
+use lib.ListN.{length, getD, take, replicate, length-append, length-take, length-replicate}
 use lib.Seq.{take-suc}
 use lib.Dec.{leb, ltb, eqb}
 use Rattle.system.specs.declared.Most.{Most}
 use Rattle.system.specs.declared.Most.the-variants.{NotGiven, AtMost}
+use Rattle.system.specs.declared.Cycle.{Cycle}
+use Rattle.system.specs.declared.Pace.{Pace}
+use Rattle.system.specs.declared.Pace.the-variants.{Unpaced, Paced}
 use Rattle.system.specs.declared.Costs.{Costs}
 use Rattle.system.specs.declared.There.{There}
 use Rattle.system.specs.declared.There.the-variants.{Absent, Takes}
@@ -22,14 +25,14 @@ use Rattle.system.specs.declared.Second.the-variants.{OneKind, TwoKinds}
 use Rattle.system.specs.declared.TaskType.{TaskType}
 use Rattle.system.specs.declared.System.{System}
 use Rattle.system.specs.Values.{noTask, cleared}
-use Rattle.system.specs.Limits.{engineLimit, typeLimit, sizeLimit, columnLimit, sizeFault, kindCounted, secondFault, typeFault, mostFault, costsFault, columnsOf, columnsFault, given, isOneKind, kindsAgree, kindsFault}
-use Rattle.system.proofs.Laws.{and-parts, and-both, sized-task, one-kind, two-kinds, given-takes, kinds-absent, kinds-given, given-kinds}
+use Rattle.system.specs.Limits.{engineLimit, typeLimit, sizeLimit, columnLimit, sizeFault, kindCounted, secondFault, typeFault, mostFault, cycleKeeps, paceFault, pacesFault, costsFault, columnsOf, columnsFault, given, isOneKind, kindsAgree, kindsFault}
+use Rattle.system.proofs.Laws.{and-parts, and-both, sized-task, CycleLimits, cycle-limits, cycle-keep, one-kind, two-kinds, given-takes, kinds-absent, kinds-given, given-kinds}
 use Rattle.partition.specs.Assignment.{among}
-use Rattle.partition.specs.Plain.{typeNo, AllOrNone}
+use Rattle.partition.specs.Plain.{typeNo, PaceWithin, PacesWithin, AllOrNone}
 use Rattle.writer.specs.File.{fileOf}
 use Rattle.writer.specs.Writing.{orElse, taskFault, typesFault, mostsFault, roomFault}
 use Rattle.writer.specs.Meaning.{EnginesWithin, SizesWithin, ReplicasWithin, columnsTo}
-use Rattle.writer.proofs.Faults.{none-or, firstOf, types-first, replicaFault, mosts-first}
+use Rattle.writer.proofs.Faults.{none-or, firstOf, types-first, replicaFault, mosts-first, cycleFault, paces-first}
 
 -- one test: what it asks holds and it finds nothing, or it does not hold and the test says its number
 pub data Test (P : Type 0) (n : ℕ) : ℕ → Type 0 where
@@ -118,6 +121,9 @@ sizesFault y = orElse (orElse (sizeFault (y .timecap) (y .memorycap)) (kindSizes
 
 abbrev pub replicasFault : System → ℕ
 replicasFault y = mostsFault (cleared y .types)
+
+abbrev pub cyclesFault : System → ℕ
+cyclesFault y = pacesFault (y .timecap) typeLimit (cleared y .types)
 
 abbrev pub productFault : System → ℕ
 productFault y = columnsFault (cleared y .types)
@@ -321,6 +327,53 @@ replicas-test y = asked (told, back) (mosts-test (y .typecount) (typeLimit - y .
     back w i less =
         let same : suc i - 1 ≡ i = omega arith in
         subst (λ (j : ℕ). Apart (getD (y .types) j noTask .most)) same (λ q is. w (suc i) q (omega arith) (omega arith) is)
+
+-- 43: C and T of types 1 to k, with their u and the platform's U
+
+abbrev Runs : ℕ → TaskType → Type 0
+Runs whole t = (c : Cycle) → t .pace ≡ Paced c → PaceWithin whole (t .time) c
+
+within-limits : (whole u : ℕ) (c : Cycle) → CycleLimits whole u c → PaceWithin whole u c
+within-limits whole u c l = record {
+  run = (l .some-run, omega (arith, l .runs, l .period));
+  period = (omega (arith, l .some-run, l .runs), l .period);
+  runs = l .runs;
+  some = l .some-time;
+  share = l .share;
+}
+
+limits-within : (whole u : ℕ) (c : Cycle) → PaceWithin whole u c → CycleLimits whole u c
+limits-within whole u c w = record { some-run = w .run .0; runs = w .runs; period = w .period .1; some-time = w .some; share = w .share }
+
+pace-test : (whole u : ℕ) (x : Pace) → Test ((c : Cycle) → x ≡ Paced c → PaceWithin whole u c) 43 (paceFault whole u x)
+pace-test whole u Unpaced = passed (λ c is. let z : _≡_ {A = ℕ} 0 1 = cc in absurd (omega arith))
+pace-test whole u (Paced d) =
+    test-of (not (cycleKeeps whole u d))
+    (λ q all.
+    let none : _≡_ {A = ℕ} (cond (not (cycleKeeps whole u d)) 43 0) 0 = cycle-keep whole u (Paced d) (λ c is. limits-within whole u c (all c is)) in
+    let z : _≡_ {A = ℕ} 43 0 = rw q at none in
+    omega arith)
+    (λ q c is. within-limits whole u c (cycle-limits whole u (Paced d) c (rw q) is))
+
+paces-test : (whole k m : ℕ) (ts : List TaskType) → Test ((i : ℕ) → i < k → Runs whole (getD ts i noTask)) 43 (pacesFault whole (k + m) (take k ts ++ replicate m noTask))
+paces-test whole k m ts =
+    let all = take k ts ++ replicate m noTask in
+    let few : length all ≤ k + m = omega (arith, length-append (take k ts) (replicate m noTask), length-take k ts, length-replicate m noTask) in
+    rw (paces-first whole (k + m) all few) (first-test (cycleFault whole) (Runs whole) (omega arith) (λ t. pace-test whole (t .time) (t .pace)) refl k m ts)
+
+pub cycles-test : (y : System) → y .typecount ≤ 6 → Test (PacesWithin y) 43 (cyclesFault y)
+cycles-test y few =
+    let six : y .typecount + (typeLimit - y .typecount) ≡ typeLimit = omega arith in
+    let cleared-test = paces-test (y .timecap) (y .typecount) (typeLimit - y .typecount) (y .types) in
+    subst (λ (n : ℕ). Test (PacesWithin y) 43 (pacesFault (y .timecap) n (cleared y .types))) six (asked (told, back) cleared-test)
+  where
+    told : ((i : ℕ) → i < y .typecount → Runs (y .timecap) (getD (y .types) i noTask)) → PacesWithin y
+    told h t c low high is = h (t - 1) (omega arith) c is
+
+    back : PacesWithin y → (i : ℕ) → i < y .typecount → Runs (y .timecap) (getD (y .types) i noTask)
+    back w i less =
+        let same : suc i - 1 ≡ i = omega arith in
+        subst (λ (j : ℕ). Runs (y .timecap) (getD (y .types) j noTask)) same (λ c is. w (suc i) c (omega arith) (omega arith) is)
 
 -- 10: the columns of types 1 to k, where those past k are cleared
 

@@ -10,12 +10,13 @@ use borrow.Author.Tests.{eqb-true, leb-true, leb-false}
 use lib.ListN.{length, length-append}
 use lib.Dec.{eqb, leb}
 use Rattle.system.specs.declared.Most.the-variants.{NotGiven}
+use Rattle.system.specs.declared.Pace.the-variants.{Unpaced}
 use Rattle.system.specs.declared.There.the-variants.{Absent}
 use Rattle.system.specs.declared.TaskType.{TaskType}
 use Rattle.system.specs.declared.System.{System}
-use Rattle.system.specs.Values.{taskOf, withData, withMost, withCosts}
+use Rattle.system.specs.Values.{taskOf, withData, withMost, withPace, withCosts}
 use Rattle.partition.specs.Plain.{typeNo}
-use Rattle.writer.specs.Meaning.{twoOut, fourOut, platformOut, secondOut, dataOut, mostOut, costsOut, typeOut, typesOut, fileWith, fileOut, NoZero, ComesBackExactly}
+use Rattle.writer.specs.Meaning.{twoOut, fourOut, platformOut, secondOut, dataOut, mostOut, paceOut, costsOut, typeOut, typesOut, fileWith, fileOut, NoZero, ComesBackExactly}
 
 -- intermediate: one type
 
@@ -35,21 +36,31 @@ has-data false d = at (eqb d 0) refl
     at true q = left-out refl (eqb-true d 0 q)
     at false q = given (rw q)
 
--- its bytes with a tag 3: those without, and then the field of d; and so with a tag 4, and with a tag 7
-pub type-given : (t : TaskType) (d : ℕ) → t .data ≡ 0 → t .most ≡ NotGiven → t .there ≡ Absent → typeOut true (withData d t) ≡ typeOut false t ++ (3 ∷ 0 ∷ 4 ∷ fourOut d)
-type-given t d none free alone = rw (none, free, alone, data-given d)
+-- its bytes with a tag 3: those without, and then the field of d; and so with a tag 4, with a tag 5, and with a tag 7
+pub type-given : (t : TaskType) (d : ℕ) → t .data ≡ 0 → t .most ≡ NotGiven → t .pace ≡ Unpaced → t .there ≡ Absent → typeOut true (withData d t) ≡ typeOut false t ++ (3 ∷ 0 ∷ 4 ∷ fourOut d)
+type-given t d none free idle alone = rw (none, free, idle, alone, data-given d)
 
-pub type-limited : (told : Bool) (t : TaskType) (q : ℕ) → t .most ≡ NotGiven → t .there ≡ Absent → typeOut told (withMost q t) ≡ typeOut told t ++ (4 ∷ 0 ∷ 2 ∷ twoOut q)
-type-limited told t q free alone = rw (free, alone, append-nil (dataOut told (t .data)))
+pub type-limited : (told : Bool) (t : TaskType) (q : ℕ) → t .most ≡ NotGiven → t .pace ≡ Unpaced → t .there ≡ Absent → typeOut told (withMost q t) ≡ typeOut told t ++ (4 ∷ 0 ∷ 2 ∷ twoOut q)
+type-limited told t q free idle alone = rw (free, idle, alone, append-nil (dataOut told (t .data)))
+
+pub type-paced : (told : Bool) (t : TaskType) (c p : ℕ) → t .pace ≡ Unpaced → t .there ≡ Absent → typeOut told (withPace c p t) ≡ typeOut told t ++ (5 ∷ 0 ∷ 8 ∷ (fourOut c ++ fourOut p))
+type-paced told t c p idle alone =
+    rw (idle, alone, append-nil (mostOut (t .most)), append-assoc (dataOut told (t .data)) (mostOut (t .most)) (5 ∷ 0 ∷ 8 ∷ (fourOut c ++ fourOut p)))
 
 pub type-costed : (told : Bool) (t : TaskType) (u s : ℕ) → t .there ≡ Absent → typeOut told (withCosts u s t) ≡ typeOut told t ++ (7 ∷ 0 ∷ 8 ∷ (fourOut u ++ fourOut s))
 type-costed told t u s alone =
-    rw (alone, append-nil (mostOut (t .most)), append-assoc (dataOut told (t .data)) (mostOut (t .most)) (7 ∷ 0 ∷ 8 ∷ (fourOut u ++ fourOut s)))
+    let field : List ℕ = 7 ∷ 0 ∷ 8 ∷ (fourOut u ++ fourOut s) in
+    rw (
+      alone,
+      append-nil (paceOut (t .pace)),
+      append-assoc (dataOut told (t .data)) (mostOut (t .most) ++ paceOut (t .pace)) field,
+      append-assoc (mostOut (t .most)) (paceOut (t .pace)) field,
+    )
 
 -- where a d of 0 is not told, nothing is
 same-type : (told : Bool) (t : TaskType) → (t .data ≡ 0 → told ≡ false) → typeOut false t ≡ typeOut told t
 same-type told t quiet =
-    ap (λ (l : List ℕ). typeOut false (taskOf (t .time) (t .memory) (t .ceiling)) ++ (l ++ (mostOut (t .most) ++ costsOut (t .there)))) (at (eqb (t .data) 0) refl)
+    ap (λ (l : List ℕ). typeOut false (taskOf (t .time) (t .memory) (t .ceiling)) ++ (l ++ (mostOut (t .most) ++ (paceOut (t .pace) ++ costsOut (t .there))))) (at (eqb (t .data) 0) refl)
   where
     field : List ℕ
     field = 3 ∷ 0 ∷ 4 ∷ fourOut (t .data)
@@ -59,9 +70,14 @@ same-type told t quiet =
     at false q = refl
 
 -- a zero tag 3 takes room, and no choice takes less than none
-type-length : (told : Bool) (t : TaskType) → length (typeOut told t) ≡ 13 + length (dataOut told (t .data)) + length (mostOut (t .most)) + length (costsOut (t .there))
+type-length : (told : Bool) (t : TaskType) → length (typeOut told t) ≡ 13 + length (dataOut told (t .data)) + length (mostOut (t .most)) + length (paceOut (t .pace)) + length (costsOut (t .there))
 type-length told t =
-    omega (arith, length-append (dataOut told (t .data)) (mostOut (t .most) ++ costsOut (t .there)), length-append (mostOut (t .most)) (costsOut (t .there)))
+    omega (
+      arith,
+      length-append (dataOut told (t .data)) (mostOut (t .most) ++ (paceOut (t .pace) ++ costsOut (t .there))),
+      length-append (mostOut (t .most)) (paceOut (t .pace) ++ costsOut (t .there)),
+      length-append (paceOut (t .pace)) (costsOut (t .there)),
+    )
 
 longer-data : (told : Bool) (d : ℕ) → length (dataOut false d) ≤ length (dataOut told d)
 longer-data false d = le-refl (length (dataOut false d))

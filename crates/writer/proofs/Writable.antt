@@ -11,9 +11,9 @@ use lib.Dec.{ltb, eqb}
 use Rattle.system.specs.declared.TaskType.{TaskType}
 use Rattle.system.specs.declared.System.{System}
 use Rattle.system.specs.Values.{noTask, cleared}
-use Rattle.system.specs.Limits.{engineLimit, typeLimit, columnLimit, platformFault, secondFault, typeFault, mostFault, costsFault, kindsFault, columnsFault, columns, keepsCard, keepsLimits}
+use Rattle.system.specs.Limits.{engineLimit, typeLimit, columnLimit, platformFault, secondFault, typeFault, mostFault, pacesFault, costsFault, kindsFault, columnsFault, columns, keepsCard, keepsLimits}
 use Rattle.system.specs.Layout.{readCard, opened}
-use Rattle.system.proofs.Laws.{CardLimits, Sized, card-of, limits-of, limits-card, read-card-limits, sizes-keep, sized-test}
+use Rattle.system.proofs.Laws.{CardLimits, Sized, card-of, limits-of, limits-card, read-card-limits, sizes-keep, sized-test, each-paces}
 use Rattle.writer.specs.Writing.{countFault, taskFault, typesFault, mostsFault, enginesFault, typesLimits, systemFault}
 use Rattle.writer.proofs.Cleared.{cleared-same}
 use Rattle.writer.proofs.Faults.{or-none, none-or, engines-none, none-engines, types-first, replicaFault, mosts-first, first-each, first-none}
@@ -62,6 +62,7 @@ pub record Faultless (y : System) : Type 0 where
   pub second : secondFault (y .engines) (y .second) ≡ 0
   pub types : typesFault (cleared y .types) ≡ 0
   pub replicas : mostsFault (cleared y .types) ≡ 0
+  pub paces : pacesFault (y .timecap) typeLimit (cleared y .types) ≡ 0
   pub columns : columnsFault (cleared y .types) ≡ 0
 
 pub faultless-of : (y : System) → systemFault y ≡ 0 → Faultless y
@@ -70,11 +71,12 @@ faultless-of y e =
     let a = or-none (countFault (y .typecount)) _ e in
     let k = or-none (kindsFault y) _ (a .1) in
     let platform = platformFault (y .engines) (y .rule) (y .timecap) (y .memorycap) in
-    let b = or-none (enginesFault platform (secondFault (y .engines) (y .second))) (typesLimits (cleared y .types)) (k .1) in
+    let b = or-none (enginesFault platform (secondFault (y .engines) (y .second))) (typesLimits (y .timecap) (cleared y .types)) (k .1) in
     let both = engines-none platform (secondFault (y .engines) (y .second)) (b .0) in
     let c = or-none (typesFault (cleared y .types)) _ (b .1) in
-    let d = or-none (mostsFault (cleared y .types)) (columnsFault (cleared y .types)) (c .1) in
-    record { count = count-kept (y .typecount) (a .0); kinds = k .0; platform = both .0; second = both .1; types = c .0; replicas = d .0; columns = d .1 }
+    let d = or-none (mostsFault (cleared y .types)) _ (c .1) in
+    let r = or-none (pacesFault (y .timecap) typeLimit (cleared y .types)) (columnsFault (cleared y .types)) (d .1) in
+    record { count = count-kept (y .typecount) (a .0); kinds = k .0; platform = both .0; second = both .1; types = c .0; replicas = d .0; paces = r .0; columns = r .1 }
 
 pub faultless-none : (y : System) → Faultless y → systemFault y ≡ 0
 unfolding systemFault
@@ -83,7 +85,8 @@ faultless-none y f =
     (none-or (kindsFault y) _ (f .kinds)
     (none-or (enginesFault (platformFault (y .engines) (y .rule) (y .timecap) (y .memorycap)) (secondFault (y .engines) (y .second))) _ (none-engines _ _ (f .platform) (f .second))
     (none-or (typesFault (cleared y .types)) _ (f .types)
-    (none-or (mostsFault (cleared y .types)) (columnsFault (cleared y .types)) (f .replicas) (f .columns)))))
+    (none-or (mostsFault (cleared y .types)) _ (f .replicas)
+    (none-or (pacesFault (y .timecap) typeLimit (cleared y .types)) (columnsFault (cleared y .types)) (f .paces) (f .columns))))))
 
 -- main: a card within the limits
 
@@ -92,6 +95,8 @@ limits-writable y l =
     let same : cleared y ≡ y = cleared-same y (l .six) (l .typecount) (l .past) in
     let all : typesFault (cleared y .types) ≡ 0 = ap (λ (z : System). typesFault (z .types)) same ∙ types-sized (y .types) (l .sized) (l .costs) in
     let apart : mostsFault (cleared y .types) ≡ 0 = ap (λ (z : System). mostsFault (z .types)) same ∙ mosts-sound (y .types) (l .replicas) in
+    let run : pacesFault (y .timecap) typeLimit (cleared y .types) ≡ 0 =
+    ap (λ (z : System). pacesFault (y .timecap) typeLimit (z .types)) same ∙ each-paces (y .timecap) typeLimit (y .types) (λ i h. l .paces i) in
     let few : columnsFault (y .types) ≡ 0 = rw (le-leb (columns y) columnLimit (l .columns)) in
     let platform : platformFault (y .engines) (y .rule) (y .timecap) (y .memorycap) ≡ 0 =
     rw (
@@ -108,6 +113,7 @@ limits-writable y l =
             second = l .second;
             types = all;
             replicas = apart;
+            paces = run;
             columns = ap (λ (z : System). columnsFault (z .types)) same ∙ few;
           }),
       same,

@@ -1,5 +1,6 @@
 -- What is written reads, and so does every file of the system: the reader goes over its fields one by one. After the platform, any second kind and some types it holds them, with 0 past them;
--- a type's d is set by the tag 3 after it, and is 0 where there is none; its q is set by the tag 4 after both, and its u and s on the second kind by the tag 7 after these; neither is given where there is none.
+-- a type's d is set by the tag 3 after it, and is 0 where there is none; its q is set by the tag 4 after both, its C and T by the tag 5 after these, and its u and s on the second kind by the tag 7 after them all; none is given
+-- where there is no such tag.
 -- At the end 9, 41 and 10 pass, since the writer asked them.
 use Prim.Native.Nat.{ℕ, zero, suc, _+_, _-_, _≤_, _<_}
 use mathlib.Core.Path.{_≡_, refl, sym, ap, _∙_, subst}
@@ -13,6 +14,8 @@ use lib.Seq.{append-snoc, set-append-seam, set-set, getD-set-same, take-suc, len
 use Rattle.buffer.proofs.Laws.{bytes2-read, bytes4-read}
 use Rattle.system.specs.declared.Most.{Most}
 use Rattle.system.specs.declared.Most.the-variants.{NotGiven, AtMost}
+use Rattle.system.specs.declared.Pace.{Pace}
+use Rattle.system.specs.declared.Pace.the-variants.{Unpaced, Paced}
 use Rattle.system.specs.declared.There.{There}
 use Rattle.system.specs.declared.There.the-variants.{Absent, Takes}
 use Rattle.system.specs.declared.Kind.{Kind}
@@ -23,16 +26,16 @@ use Rattle.system.specs.declared.System.{System}
 use Rattle.system.specs.declared.rules.FieldRule.{FieldRule}
 use Rattle.system.specs.declared.reader.Head.{Head}
 use Rattle.system.specs.declared.reader.Head.the-variants.{Ruled}
-use Rattle.system.specs.Values.{taskOf, withData, withMost, withCosts, noTask, blank, withPlatform, withSecond, withType, lastType, withLast, cleared}
-use Rattle.system.specs.Limits.{typeLimit, platformFault, kindFault, secondFault, typeFault, mostFault, costsFault, kindsFault, columnsFault}
-use Rattle.system.specs.Rules.{platformRule, typeRule, dataRule, mostRule, secondRule, costsRule, ruleOf, follows, mayFollow, headSize}
-use Rattle.system.specs.Layout.{Reading, opened, word4, headOf, ruledHead, bodyPart, bodyOf, platformFrom, typeFrom, dataFrom, mostFrom, secondFrom, costsFrom}
+use Rattle.system.specs.Values.{taskOf, withData, withMost, withPace, withCosts, noTask, blank, withPlatform, withSecond, withType, lastType, withLast, cleared}
+use Rattle.system.specs.Limits.{typeLimit, platformFault, kindFault, secondFault, typeFault, mostFault, paceFault, costsFault, kindsFault, columnsFault}
+use Rattle.system.specs.Rules.{platformRule, typeRule, dataRule, mostRule, paceRule, secondRule, costsRule, ruleOf, follows, mayFollow, headSize}
+use Rattle.system.specs.Layout.{Reading, opened, word4, headOf, ruledHead, bodyPart, bodyOf, platformFrom, typeFrom, dataFrom, mostFrom, paceFrom, secondFrom, costsFrom}
 use Rattle.system.specs.Layout.{unlessFault, ruledField, fieldOf, endOf, afterField, fieldsFrom, readCard}
-use Rattle.system.proofs.Laws.{sized-task, sized-test, type-later, fieldsFrom-nil}
+use Rattle.system.proofs.Laws.{sized-task, sized-test, paces-each, type-later, fieldsFrom-nil}
 use Rattle.partition.specs.Plain.{typeNo}
 use Rattle.writer.specs.File.{fileOf}
 use Rattle.writer.specs.Writing.{orElse, systemFault}
-use Rattle.writer.specs.Meaning.{twoOut, fourOut, platformOut, secondOut, dataOut, mostOut, costsOut, typeOut, typesOut, fileWith}
+use Rattle.writer.specs.Meaning.{twoOut, fourOut, platformOut, secondOut, dataOut, mostOut, paceOut, costsOut, typeOut, typesOut, fileWith}
 use Rattle.writer.proofs.Bytes.{four-out, file-out}
 use Rattle.writer.proofs.Told.{HasData, left-out, given, has-data}
 use Rattle.writer.proofs.Cleared.{same-to-k, kinds-cleared}
@@ -159,7 +162,34 @@ module _ (q : ℕ) (rest : List ℕ) (last : ℕ) (z : System) (place : mayFollo
       ap (λ (x : Reading). afterField x (λ (next : System). fieldsFrom f rest 4 next))
       (field-ruled most-field last z mostRule most-head ∙ most-body)
 
--- u and s of the last type on the second kind, after it, its d or its q
+-- C and T of the last type, after it, its d or its q
+module _
+    (c p : ℕ)
+    (rest : List ℕ)
+    (last : ℕ)
+    (z : System)
+    (place : mayFollow follows last (paceRule .tag) ≡ true)
+    (sound : paceFault (z .timecap) (lastType z .time) (Paced (record { run = c; period = p })) ≡ 0) where
+  abbrev pace-field : List ℕ
+  pace-field = 5 ∷ 0 ∷ 8 ∷ ((fourOut c ++ fourOut p) ++ rest)
+
+  pace-head : headOf pace-field last ≡ Ruled paceRule
+  unfolding ruleOf headOf ruledHead
+  pace-head = rw (le-leb headSize (length pace-field) (omega arith), place, le-leb 11 (length pace-field) (omega arith))
+
+  pace-body : bodyOf paceRule (bodyPart pace-field) z ≡ opened (withLast (withPace c p (lastType z)) z)
+  unfolding bodyOf paceFrom
+  pace-body =
+      rw (le-leb 11 (length pace-field) (omega arith), four-read c, four-read p)
+      (unless-none (paceFault (z .timecap) (lastType z .time) (Paced (record { run = c; period = p }))) (withLast (withPace c p (lastType z)) z) sound)
+
+  pace-step : (f : ℕ) → fieldsFrom (suc f) pace-field last z ≡ fieldsFrom f rest 5 (withLast (withPace c p (lastType z)) z)
+  unfolding fieldsFrom
+  pace-step f =
+      ap (λ (x : Reading). afterField x (λ (next : System). fieldsFrom f rest 5 next))
+      (field-ruled pace-field last z paceRule pace-head ∙ pace-body)
+
+-- u and s of the last type on the second kind, after it, its d, its q, or its C and T
 module _ (u s : ℕ) (rest : List ℕ) (last : ℕ) (z : System) (place : mayFollow follows last (costsRule .tag) ≡ true) (sound : costsFault (Takes (record { time = u; memory = s })) ≡ 0) where
   abbrev costs-field : List ℕ
   costs-field = 7 ∷ 0 ∷ 8 ∷ ((fourOut u ++ fourOut s) ++ rest)
@@ -180,17 +210,20 @@ module _ (u s : ℕ) (rest : List ℕ) (last : ℕ) (z : System) (place : mayFol
       ap (λ (x : Reading). afterField x (λ (next : System). fieldsFrom f rest 7 next))
       (field-ruled costs-field last z costsRule costs-head ∙ costs-body)
 
--- intermediate: a type with its d, its q, and its u and s on the second kind, where it has a tag 3, 4 or 7 and where not
+-- intermediate: a type with its d, its q, its C and T, and its u and s on the second kind, where it has a tag 3, 4, 5 or 7 and where not
 
--- what may follow a tag: a type, before that u and s on the second kind, and before these a q
+-- what may follow a tag: a type, before that u and s on the second kind, before these C and T, and before these a q
 abbrev TypeMay : ℕ → Type 0
 TypeMay tag = mayFollow follows tag (typeRule .tag) ≡ true
 
 abbrev CostsMay : ℕ → Type 0
 CostsMay tag = TypeMay tag × (mayFollow follows tag (costsRule .tag) ≡ true)
 
+abbrev PaceMay : ℕ → Type 0
+PaceMay tag = CostsMay tag × (mayFollow follows tag (paceRule .tag) ≡ true)
+
 abbrev MostMay : ℕ → Type 0
-MostMay tag = CostsMay tag × (mayFollow follows tag (mostRule .tag) ≡ true)
+MostMay tag = PaceMay tag × (mayFollow follows tag (mostRule .tag) ≡ true)
 
 -- the reader has come to `rest`, where P tells what may stand there, with steps enough for it, and holds `next`
 record Comes (P : ℕ → Type 0) (f : ℕ) (s : List ℕ) (last : ℕ) (z : System) (rest : List ℕ) (next : System) : Type 0 where
@@ -237,7 +270,7 @@ module _ (z : System) (six : length (z .types) ≡ typeLimit) (few : z .typecoun
             steps = f;
             enough = omega (arith, long);
             tag = 2;
-            place = ((refl, refl), refl);
+            place = (((refl, refl), refl), refl);
             goes = ap (λ (l : List ℕ). fieldsFrom f (l ++ rest) 2 (withType t z)) nothing ∙ ap (λ (x : TaskType). fieldsFrom f rest 2 (withType x z)) same;
           }
       at (given e) zero enough = absurd (omega (arith, long, ap length e))
@@ -245,7 +278,7 @@ module _ (z : System) (six : length (z .types) ≡ typeLimit) (few : z .typecoun
         steps = f;
         enough = omega (arith, long, ap length e);
         tag = 3;
-        place = ((refl, refl), refl);
+        place = (((refl, refl), refl), refl);
         goes =
             ap (λ (l : List ℕ). fieldsFrom (suc f) (l ++ rest) 2 (withType t z)) e
             ∙ data-step d rest (withType t z) (ap (λ (x : TaskType). typeFault (withData d x)) last-of ∙ sound) f
@@ -254,10 +287,10 @@ module _ (z : System) (six : length (z .types) ≡ typeLimit) (few : z .typecoun
 
   -- its q
   abbrev limited : Most → TaskType
-  limited m = record { time = t .time; memory = t .memory; ceiling = t .ceiling; «data» = t .data; most = m; there = t .there }
+  limited m = record { time = t .time; memory = t .memory; ceiling = t .ceiling; «data» = t .data; most = m; pace = t .pace; there = t .there }
 
   most-comes : (m : Most) → t .most ≡ NotGiven → mostFault m ≡ 0 → (rest : List ℕ) (f tag : ℕ) → length (mostOut m ++ rest) ≤ f → MostMay tag
-      → Comes CostsMay f (mostOut m ++ rest) tag (withType t z) rest (withType (limited m) z)
+      → Comes PaceMay f (mostOut m ++ rest) tag (withType t z) rest (withType (limited m) z)
   most-comes NotGiven free sound rest f tag enough place = record {
     steps = f;
     enough = enough;
@@ -270,13 +303,37 @@ module _ (z : System) (six : length (z .types) ≡ typeLimit) (few : z .typecoun
     steps = f;
     enough = omega arith;
     tag = 4;
-    place = (refl, refl);
+    place = ((refl, refl), refl);
     goes = most-step q rest tag (withType t z) (place .1) sound f ∙ ap (fieldsFrom f rest 4) (last-set (withMost q));
+  }
+
+  -- its C and T
+  abbrev pacing : Pace → TaskType
+  pacing x = record { time = t .time; memory = t .memory; ceiling = t .ceiling; «data» = t .data; most = t .most; pace = x; there = t .there }
+
+  pace-comes : (x : Pace) → t .pace ≡ Unpaced → paceFault (z .timecap) (t .time) x ≡ 0 → (rest : List ℕ) (f tag : ℕ) → length (paceOut x ++ rest) ≤ f → PaceMay tag
+      → Comes CostsMay f (paceOut x ++ rest) tag (withType t z) rest (withType (pacing x) z)
+  pace-comes Unpaced idle sound rest f tag enough place = record {
+    steps = f;
+    enough = enough;
+    tag = tag;
+    place = place .0;
+    goes = let same : t ≡ pacing Unpaced = λ i. pacing (idle i) in ap (λ (x : TaskType). fieldsFrom f rest tag (withType x z)) same;
+  }
+  pace-comes (Paced c) idle sound rest zero tag enough place = absurd (omega arith)
+  pace-comes (Paced c) idle sound rest (suc f) tag enough place = record {
+    steps = f;
+    enough = omega arith;
+    tag = 5;
+    place = (refl, refl);
+    goes =
+        pace-step (c .run) (c .period) rest tag (withType t z) (place .1) (ap (λ (x : TaskType). paceFault (z .timecap) (x .time) (Paced c)) last-of ∙ sound) f
+        ∙ ap (fieldsFrom f rest 5) (last-set (withPace (c .run) (c .period)));
   }
 
   -- its u and s on the second kind
   abbrev costing : There → TaskType
-  costing x = record { time = t .time; memory = t .memory; ceiling = t .ceiling; «data» = t .data; most = t .most; there = x }
+  costing x = record { time = t .time; memory = t .memory; ceiling = t .ceiling; «data» = t .data; most = t .most; pace = t .pace; there = x }
 
   costs-comes : (x : There) → t .there ≡ Absent → costsFault x ≡ 0 → (rest : List ℕ) (f tag : ℕ) → length (costsOut x ++ rest) ≤ f → CostsMay tag
       → Comes TypeMay f (costsOut x ++ rest) tag (withType t z) rest (withType (costing x) z)
@@ -297,16 +354,39 @@ module _ (z : System) (six : length (z .types) ≡ typeLimit) (few : z .typecoun
   }
 
 module _ (told : Bool) (t : TaskType) (rest : List ℕ) (last : ℕ) (z : System) (place : TypeMay last) where
-  module _ (six : length (z .types) ≡ typeLimit) (few : z .typecount < typeLimit) (sound : typeFault t ≡ 0) (apart : mostFault (t .most) ≡ 0) (there : costsFault (t .there) ≡ 0) where
-    -- the type as it stands before its d, its q, and its u and s on the second kind are read
+  module _
+      (six : length (z .types) ≡ typeLimit)
+      (few : z .typecount < typeLimit)
+      (sound : typeFault t ≡ 0)
+      (apart : mostFault (t .most) ≡ 0)
+      (paced : paceFault (z .timecap) (t .time) (t .pace) ≡ 0)
+      (there : costsFault (t .there) ≡ 0) where
+    -- the type as it stands before its d, its q, its C and T, and its u and s on the second kind are read
     abbrev bare : TaskType
     bare = taskOf (t .time) (t .memory) (t .ceiling)
 
     bare-sound : typeFault bare ≡ 0
     bare-sound = let s = sized-task t sound in eqb-true (typeFault bare) 0 (sized-test bare (record { time = s .time; memory = s .memory; «data» = omega arith }))
 
+    -- what follows it: from its C and T on, from its q on, and from its d on
+    abbrev paces : List ℕ
+    paces = paceOut (t .pace) ++ (costsOut (t .there) ++ rest)
+
+    abbrev mosts : List ℕ
+    mosts = mostOut (t .most) ++ paces
+
     abbrev tail : List ℕ
-    tail = dataOut told (t .data) ++ (mostOut (t .most) ++ (costsOut (t .there) ++ rest))
+    tail = dataOut told (t .data) ++ mosts
+
+    -- and what it is once they are read
+    abbrev loaded : TaskType
+    loaded = withData (t .data) bare
+
+    abbrev limited-type : TaskType
+    limited-type = limited z six few loaded (t .most)
+
+    abbrev paced-type : TaskType
+    paced-type = pacing z six few limited-type (t .pace)
 
     bare-comes : (f : ℕ) → length (typeOut false bare ++ tail) ≤ f → Comes (λ (tag : ℕ). tag ≡ 2) f (typeOut false bare ++ tail) last z tail (withType bare z)
     bare-comes zero enough = absurd (omega arith)
@@ -322,19 +402,23 @@ module _ (told : Bool) (t : TaskType) (rest : List ℕ) (last : ℕ) (z : System
     one-type f enough =
         let joined : typeOut false bare ++ tail ≡ typeOut told t ++ rest =
         ap (λ (l : List ℕ). typeOut false bare ++ l)
-        (ap (λ (l : List ℕ). dataOut told (t .data) ++ l) (sym (append-assoc (mostOut (t .most)) (costsOut (t .there)) rest))
-        ∙ sym (append-assoc (dataOut told (t .data)) (mostOut (t .most) ++ costsOut (t .there)) rest)) in
+        (ap (λ (l : List ℕ). dataOut told (t .data) ++ l)
+        (ap (λ (l : List ℕ). mostOut (t .most) ++ l) (sym (append-assoc (paceOut (t .pace)) (costsOut (t .there)) rest))
+        ∙ sym (append-assoc (mostOut (t .most)) (paceOut (t .pace) ++ costsOut (t .there)) rest))
+        ∙ sym (append-assoc (dataOut told (t .data)) (mostOut (t .most) ++ (paceOut (t .pace) ++ costsOut (t .there))) rest)) in
         subst (λ (s : List ℕ). Comes TypeMay f s last z rest (withType t z)) joined
         (comes-then (bare-comes f (omega (arith, ap length joined)))
         (λ steps tag more is.
         comes-then
         (subst
-        (λ (n : ℕ). Comes MostMay steps tail n (withType bare z) (mostOut (t .most) ++ (costsOut (t .there) ++ rest)) (withType (withData (t .data) bare) z))
+        (λ (n : ℕ). Comes MostMay steps tail n (withType bare z) mosts (withType loaded z))
         (sym is)
-        (data-comes z six few bare told (t .data) refl sound (mostOut (t .most) ++ (costsOut (t .there) ++ rest)) steps more))
+        (data-comes z six few bare told (t .data) refl sound mosts steps more))
         (λ steps tag more place.
-        comes-then (most-comes z six few (withData (t .data) bare) (t .most) refl apart (costsOut (t .there) ++ rest) steps tag more place)
-        (λ steps tag more place. costs-comes z six few (limited z six few (withData (t .data) bare) (t .most)) (t .there) refl there rest steps tag more place))))
+        comes-then (most-comes z six few loaded (t .most) refl apart paces steps tag more place)
+        (λ steps tag more place.
+        comes-then (pace-comes z six few limited-type (t .pace) refl paced (costsOut (t .there) ++ rest) steps tag more place)
+        (λ steps tag more place. costs-comes z six few paced-type (t .there) refl there rest steps tag more place)))))
 
 -- intermediate: the system that the reader holds after the platform of y and some types
 
@@ -415,6 +499,11 @@ module _ (told : ℕ → Bool) (y : System) (six : length (y .types) ≡ 6) (non
   each-apart t low high =
       ap (λ (x : TaskType). mostFault (x .most)) (sym (same-to-k y six few-types .types t low high)) ∙ mosts-each (cleared y .types) (faultless-of y none .replicas) (t - 1)
 
+  each-paced : (t : ℕ) → 1 ≤ t → t ≤ y .typecount → paceFault (y .timecap) (typeNo y t .time) (typeNo y t .pace) ≡ 0
+  each-paced t low high =
+      ap (λ (x : TaskType). paceFault (y .timecap) (x .time) (x .pace)) (sym (same-to-k y six few-types .types t low high))
+      ∙ paces-each (y .timecap) typeLimit (cleared y .types) (faultless-of y none .paces) (t - 1) (omega (arith, few-types))
+
   next-type : (n : ℕ) → n < y .typecount → withType (typeNo y (suc n)) (holding y (take n (y .types))) ≡ holding y (take (suc n) (y .types))
   next-type n h =
       let back : suc n - 1 ≡ n = omega arith in
@@ -437,7 +526,7 @@ module _ (told : ℕ → Bool) (y : System) (six : length (y .types) ≡ 6) (non
       (comes-then (types-read n (omega arith) first start f (typeOut (told (suc n)) t ++ rest) (omega (arith, ap length joined)))
       (λ steps tag more place.
       one-type (told (suc n)) t rest tag (holding y done) place (holding-six y done (omega arith)) few (each-sound (suc n) (omega arith) h) (each-apart (suc n) (omega arith) h)
-      (each-costs (suc n) (omega arith) h) steps more)))
+      (each-paced (suc n) (omega arith) h) (each-costs (suc n) (omega arith) h) steps more)))
 
   reads-cleared : holding y (take (y .typecount) (y .types)) ≡ cleared y
   reads-cleared =

@@ -7,6 +7,8 @@ use lib.Dec.{eqb}
 use Rattle.buffer.specs.Bytes.{bytes2, bytes4}
 use Rattle.system.specs.declared.Most.{Most}
 use Rattle.system.specs.declared.Most.the-variants.{NotGiven, AtMost}
+use Rattle.system.specs.declared.Pace.{Pace}
+use Rattle.system.specs.declared.Pace.the-variants.{Unpaced, Paced}
 use Rattle.system.specs.declared.There.{There}
 use Rattle.system.specs.declared.There.the-variants.{Absent, Takes}
 use Rattle.system.specs.declared.Second.{Second}
@@ -15,7 +17,7 @@ use Rattle.system.specs.declared.TaskType.{TaskType}
 use Rattle.system.specs.declared.System.{System}
 use Rattle.system.specs.declared.rules.RuleFound.{RuleFound}
 use Rattle.system.specs.declared.rules.RuleFound.the-variants.{Known, Unknown}
-use Rattle.system.specs.Rules.{platformRule, typeRule, dataRule, mostRule, secondRule, costsRule, fieldRules, ruledSize}
+use Rattle.system.specs.Rules.{platformRule, typeRule, dataRule, mostRule, paceRule, secondRule, costsRule, fieldRules, ruledSize}
 unfoldable use Rattle.system.specs.Rules.{ruleOf}
 
 -- "tag (1 byte), body length (2 bytes)", as the table's rule has them; nothing for a tag that it does not have
@@ -45,6 +47,11 @@ abbrev pub mostBytes : Most → List ℕ
 mostBytes NotGiven = []
 mostBytes (AtMost q) = fieldBytes (mostRule .tag) (bytes2 q)
 
+-- C (4), T (4): "the writer emits it where given" (request 2026-14)
+abbrev pub paceBytes : Pace → List ℕ
+paceBytes Unpaced = []
+paceBytes (Paced c) = fieldBytes (paceRule .tag) (bytes4 (c .run) ++ bytes4 (c .period))
+
 -- "the writer emits tags 6 and 7 where given" (request 2026-13): the second kind's number (1), U (4), S (4), and a type's u (4), s (4) there
 abbrev pub secondBytes : Second → List ℕ
 secondBytes OneKind = []
@@ -54,10 +61,10 @@ abbrev pub costsBytes : There → List ℕ
 costsBytes Absent = []
 costsBytes (Takes c) = fieldBytes (costsRule .tag) (bytes4 (c .time) ++ bytes4 (c .memory))
 
--- a type: u (4), s (4), n (2); then its d, its q, and its u and s on the second kind
+-- a type: u (4), s (4), n (2); then its d, its q, its C and T, and its u and s on the second kind
 abbrev pub typeBytes : TaskType → List ℕ
 typeBytes t =
-    fieldBytes (typeRule .tag) (bytes4 (t .time) ++ (bytes4 (t .memory) ++ bytes2 (t .ceiling))) ++ (dataBytes (t .data) ++ (mostBytes (t .most) ++ costsBytes (t .there)))
+    fieldBytes (typeRule .tag) (bytes4 (t .time) ++ (bytes4 (t .memory) ++ bytes2 (t .ceiling))) ++ (dataBytes (t .data) ++ (mostBytes (t .most) ++ (paceBytes (t .pace) ++ costsBytes (t .there))))
 
 -- the fields of some types, one after another
 unfoldable pub typesBytes : List TaskType → List ℕ

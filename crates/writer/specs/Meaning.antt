@@ -9,6 +9,8 @@ use lib.ListN.{length, getD, take, drop}
 use lib.Dec.{eqb}
 use Rattle.system.specs.declared.Most.{Most}
 use Rattle.system.specs.declared.Most.the-variants.{NotGiven, AtMost}
+use Rattle.system.specs.declared.Pace.{Pace}
+use Rattle.system.specs.declared.Pace.the-variants.{Unpaced, Paced}
 use Rattle.system.specs.declared.There.{There}
 use Rattle.system.specs.declared.There.the-variants.{Absent, Takes}
 use Rattle.system.specs.declared.Second.{Second}
@@ -19,7 +21,7 @@ use Rattle.system.specs.declared.Answer.{Answer}
 use Rattle.system.specs.Layout.{readCard, readFile, opened}
 use Rattle.system.specs.Outcome.{Outcome, Source, accepted, refused, fromInput, outcomeOf}
 use Rattle.partition.specs.OwnWords.{noType}
-use Rattle.partition.specs.Plain.{typeNo, ceilingNo, LimitsOut, SecondWithin, SecondSizes, AllOrNone, CardOut}
+use Rattle.partition.specs.Plain.{typeNo, ceilingNo, PacesWithin, LimitsOut, SecondWithin, SecondSizes, AllOrNone, CardOut}
 use Rattle.writer.specs.Writing.{writeOutcome, writtenTo}
 
 -- The layout
@@ -44,6 +46,11 @@ abbrev pub mostOut : Most → List ℕ
 mostOut NotGiven = []
 mostOut (AtMost q) = 4 ∷ 0 ∷ 2 ∷ twoOut q
 
+-- request 2026-14: tag 5, length 8, C and T; nothing where they are not given
+abbrev pub paceOut : Pace → List ℕ
+paceOut Unpaced = []
+paceOut (Paced c) = 5 ∷ 0 ∷ 8 ∷ (fourOut (c .run) ++ fourOut (c .period))
+
 -- request 2026-13: tag 6, length 9, the second kind's number, U and S; and tag 7, length 8, u and s there; nothing where they are not given
 abbrev pub secondOut : Second → List ℕ
 secondOut OneKind = []
@@ -53,10 +60,10 @@ abbrev pub costsOut : There → List ℕ
 costsOut Absent = []
 costsOut (Takes c) = 7 ∷ 0 ∷ 8 ∷ (fourOut (c .time) ++ fourOut (c .memory))
 
--- type t, counted from 1: tag 2, length 10, u, s, n; then its d, its q, and last its u and s on the second kind
+-- type t, counted from 1: tag 2, length 10, u, s, n; then its d, its q, its C and T, and last its u and s on the second kind
 abbrev pub typeOut : Bool → TaskType → List ℕ
 typeOut told t =
-    2 ∷ 0 ∷ 10 ∷ (fourOut (t .time) ++ (fourOut (t .memory) ++ (twoOut (t .ceiling) ++ (dataOut told (t .data) ++ (mostOut (t .most) ++ costsOut (t .there))))))
+    2 ∷ 0 ∷ 10 ∷ (fourOut (t .time) ++ (fourOut (t .memory) ++ (twoOut (t .ceiling) ++ (dataOut told (t .data) ++ (mostOut (t .most) ++ (paceOut (t .pace) ++ costsOut (t .there)))))))
 
 -- types 1 to n, in order of their number; `told t` says whether type t has a tag 3 where its d is 0
 unfoldable pub typesOut : (ℕ → Bool) → System → ℕ → List ℕ
@@ -145,6 +152,7 @@ pub record MayBeWritten (y : System) : Type 0 where
   pub rule : y .rule ≤ 1
   pub sizes : SizesWithin y
   pub replicas : ReplicasWithin y
+  pub paces : PacesWithin y
   pub columns : columnsTo y (y .typecount) ≤ 4096
 
 pub record WritesInOrder (y : System) (room : ℕ) (o : Outcome) : Type 0 where
@@ -155,7 +163,8 @@ pub record WritesInOrder (y : System) (room : ℕ) (o : Outcome) : Type 0 where
   pub thenSix : CountWithin y → AllOrNone y → EnginesWithin y → (o ≡ refused fromInput 6) ↔ (1 < y .rule)
   pub thenEight : CountWithin y → AllOrNone y → EnginesWithin y → y .rule ≤ 1 → (o ≡ refused fromInput 8) ↔ (SizesWithin y → ⊥)
   pub thenThirtyOne : CountWithin y → AllOrNone y → EnginesWithin y → y .rule ≤ 1 → SizesWithin y → (o ≡ refused fromInput 31) ↔ (ReplicasWithin y → ⊥)
-  pub thenTen : CountWithin y → AllOrNone y → EnginesWithin y → y .rule ≤ 1 → SizesWithin y → ReplicasWithin y → (o ≡ refused fromInput 10) ↔ (4096 < columnsTo y (y .typecount))
+  pub thenFortyThree : CountWithin y → AllOrNone y → EnginesWithin y → y .rule ≤ 1 → SizesWithin y → ReplicasWithin y → (o ≡ refused fromInput 43) ↔ (PacesWithin y → ⊥)
+  pub thenTen : CountWithin y → AllOrNone y → EnginesWithin y → y .rule ≤ 1 → SizesWithin y → ReplicasWithin y → PacesWithin y → (o ≡ refused fromInput 10) ↔ (4096 < columnsTo y (y .typecount))
   pub thenThirty : MayBeWritten y → (o ≡ refused fromInput 30) ↔ (room < length (fileOut y))
   pub orWritten : MayBeWritten y → length (fileOut y) ≤ room → o ≡ accepted (length (fileOut y) ∷ [])
 

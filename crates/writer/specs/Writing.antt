@@ -1,4 +1,4 @@
--- When a system is written, and what the lent buffer then holds: request 2026-01, with 31 of request 2026-04 and 41 of 2026-13. A test gives the number of the refusal that it calls for, 0 for none.
+-- When a system is written, and what the lent buffer then holds: request 2026-01, with 31 of request 2026-04, 41 of 2026-13 and 43 of 2026-14. A test gives the number of the refusal that it calls for, 0 for none.
 use Prim.Native.Nat.{ℕ}
 use mathlib.Core.List.{List, [], _∷_, _++_}
 use mathlib.Core.Bool.{cond}
@@ -8,7 +8,7 @@ use Rattle.system.specs.declared.TaskType.{TaskType}
 use Rattle.system.specs.declared.System.{System}
 use Rattle.system.specs.Values.{cleared}
 pub use Rattle.system.specs.Limits.{orElse}
-use Rattle.system.specs.Limits.{typeLimit, platformFault, secondFault, typeFault, mostFault, costsFault, kindsFault, columnsFault}
+use Rattle.system.specs.Limits.{typeLimit, platformFault, secondFault, typeFault, mostFault, pacesFault, costsFault, kindsFault, columnsFault}
 use Rattle.system.specs.Outcome.{Outcome, accepted, refused, fromInput}
 use Rattle.writer.specs.File.{fileOf}
 
@@ -30,9 +30,9 @@ unfoldable pub mostsFault : List TaskType → ℕ
 mostsFault [] = 0
 mostsFault (t ∷ ts) = orElse (mostFault (t .most)) (mostsFault ts)
 
--- the types' limits: 8, then 31, then 10
-abbrev pub typesLimits : List TaskType → ℕ
-typesLimits ts = orElse (typesFault ts) (orElse (mostsFault ts) (columnsFault ts))
+-- the types' limits, on engines with this U: 8, then 31, then 43, then 10. What stands past k has no C and T where it is judged
+abbrev pub typesLimits : ℕ → List TaskType → ℕ
+typesLimits whole ts = orElse (typesFault ts) (orElse (mostsFault ts) (orElse (pacesFault whole typeLimit ts) (columnsFault ts)))
 
 -- the buffer's length: 30
 abbrev pub roomFault : ℕ → ℕ → ℕ
@@ -42,13 +42,13 @@ roomFault size room = cond (ltb room size) 30 0
 abbrev pub enginesFault : ℕ → ℕ → ℕ
 enginesFault platform second = cond (eqb second 5) second (orElse platform second)
 
--- "in the order 7, 9, 5, 6, 8, 10", 31 after every 8 (request 2026-04), and 41 "after 9" (2026-13): "types past k .. are not judged", so the system is judged as it is with 0 there
+-- "in the order 7, 9, 5, 6, 8, 10", 31 after every 8 (request 2026-04), 43 after every 31 (2026-14), and 41 "after 9" (2026-13): "types past k .. are not judged", so the system is judged as it is with 0 there
 unfoldable pub systemFault : System → ℕ
 systemFault y =
     orElse (countFault (y .typecount))
     (orElse (kindsFault y)
     (orElse (enginesFault (platformFault (y .engines) (y .rule) (y .timecap) (y .memorycap)) (secondFault (y .engines) (y .second)))
-    (typesLimits (cleared y .types))))
+    (typesLimits (y .timecap) (cleared y .types))))
 
 -- "30, when the buffer is shorter than the file, after 10"
 unfoldable pub writeFault : System → ℕ → ℕ

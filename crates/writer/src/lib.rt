@@ -1,4 +1,4 @@
-// The writer of system files: request 2026-01, with the d of request 2026-03, the q of 2026-04 and the second kind of 2026-13. A system within document 01's limits becomes the bytes that the reader reads as it.
+// The writer of system files: request 2026-01, with the d of request 2026-03, the q of 2026-04, the second kind of 2026-13 and the C and T of 2026-14. A system within document 01's limits becomes the bytes that the reader reads as it.
 //
 // The functions that put something into the buffer answer the place after it. Tag and length of a field are asked of the reader's own table of field rules.
 ghost use mathlib.Core.Path.{_≡_};
@@ -7,7 +7,7 @@ ghost use lib.ListN.{length, take};
 ghost use Rattle.buffer.specs.Written.{Puts};
 ghost use Rattle.system.specs.Limits.{engineLimit, typeLimit};
 ghost use Rattle.system.specs.Rules.{platformRule, fieldRules, ruleOf, headSize, ruledSize};
-ghost use Rattle.writer.specs.File.{headBytes, foundSize, platformBytes, secondBytes, dataBytes, mostBytes, costsBytes, typeBytes, typesBytes, fileOf};
+ghost use Rattle.writer.specs.File.{headBytes, foundSize, platformBytes, secondBytes, dataBytes, mostBytes, paceBytes, costsBytes, typeBytes, typesBytes, fileOf};
 ghost use Rattle.writer.specs.Writing.{countFault, enginesFault, taskFault, typesFault, mostsFault, typesLimits, systemFault, writeFault};
 ghost use Rattle.writer.specs.Inner.{SecondFits};
 ghost use Rattle.writer.specs.Meaning.{WritePromises};
@@ -20,7 +20,9 @@ use system::DATA;
 use system::HEAD_SIZE;
 use system::MOST;
 use system::Most;
+use system::PACE;
 use system::PLATFORM;
+use system::Pace;
 use system::Refusal;
 use system::RuleFound;
 use system::SECOND;
@@ -35,6 +37,7 @@ use system::columns_fault;
 use system::costs_fault;
 use system::kinds_fault;
 use system::most_fault;
+use system::paces_fault;
 use system::platform_fault;
 use system::rule_of;
 use system::second_fault;
@@ -107,9 +110,9 @@ fn engines_fault(platform: u8, second: u8) -> u8
     second
 }
 
-// The limits of the types, in the order 8, 31, 10.
-fn types_limits(types: [TaskType; TYPE_LIMIT]) -> u8
-    ensures { λ r. ⌜ r ≡ typesLimits types ⌝ }
+// The limits of the types on engines with this U, in the order 8, 31, 43, 10.
+fn types_limits(timecap: u32, types: [TaskType; TYPE_LIMIT]) -> u8
+    ensures { λ r. ⌜ r ≡ typesLimits timecap types ⌝ }
 {
     let sized = types_fault(types);
     if sized != 0 {
@@ -119,10 +122,14 @@ fn types_limits(types: [TaskType; TYPE_LIMIT]) -> u8
     if limited != 0 {
         return limited;
     }
+    let paced = paces_fault(timecap, TYPE_LIMIT, types);
+    if paced != 0 {
+        return paced;
+    }
     columns_fault(types)
 }
 
-// The limits of a system, in the order 7, 9, 41, 5, 6, 8, 31, 10; 0 where it keeps them. What stands past k is not judged: it is cleared first.
+// The limits of a system, in the order 7, 9, 41, 5, 6, 8, 31, 43, 10; 0 where it keeps them. What stands past k is not judged: it is cleared first.
 fn system_fault(y: System) -> u8
     ensures { λ r. ⌜ r ≡ systemFault y ⌝ }
 {
@@ -142,7 +149,7 @@ fn system_fault(y: System) -> u8
     }
     let z = cleared(y);
     let types = z.types;
-    types_limits(types)
+    types_limits(y.timecap, types)
 }
 
 // The bytes of a whole field of this tag; none where the table has no rule for it.
@@ -176,6 +183,16 @@ fn most_size(most: Most) -> usize
     }
 }
 
+// The bytes of a type's C and T, which have a field where they are given.
+fn pace_size(pace: Pace) -> usize
+    ensures { λ r. ⌜ r ≡ length (paceBytes pace) ⌝ }
+{
+    match pace {
+        Pace::Unpaced => 0,
+        Pace::Paced(c) => field_size(PACE),
+    }
+}
+
 // The bytes of a type's u and s on the second kind, which have a field where they are given.
 fn costs_size(there: There) -> usize
     ensures { λ r. ⌜ r ≡ length (costsBytes there) ⌝ }
@@ -196,13 +213,14 @@ fn second_size(second: Second) -> usize
     }
 }
 
-// The bytes of a type, with those of its d, its q, and its u and s on the second kind.
+// The bytes of a type, with those of its d, its q, its C and T, and its u and s on the second kind.
 fn type_size(t: TaskType) -> usize
     ensures { λ r. ⌜ r ≡ length (typeBytes t) ⌝ }
 {
     let most = t.most;
+    let pace = t.pace;
     let there = t.there;
-    field_size(TYPE) + data_size(t.data) + most_size(most) + costs_size(there)
+    field_size(TYPE) + data_size(t.data) + most_size(most) + pace_size(pace) + costs_size(there)
 }
 
 // The bytes of the first `typecount` types.
@@ -304,6 +322,19 @@ fn put_most(out: &mut [u8], at: usize, most: Most) -> usize
     put_two(out, headed, q)
 }
 
+// Puts the C and T of a type; nothing where they are not given.
+fn put_pace(out: &mut [u8], at: usize, pace: Pace) -> usize
+    requires { ⌜ at + length (paceBytes pace) ≤ length (now out) ⌝ }
+    ensures { λ r. ⌜ Puts (paceBytes pace) at (now (out .entry)) (now (out .exit)) r ⌝ }
+{
+    let Pace::Paced(c) = pace else {
+        return at;
+    };
+    let headed = put_head(out, at, PACE);
+    let run = put_four(out, headed, c.run);
+    put_four(out, run, c.period)
+}
+
 // Puts the u and s of a type on the second kind; nothing where they are not given.
 fn put_costs(out: &mut [u8], at: usize, there: There) -> usize
     requires { ⌜ at + length (costsBytes there) ≤ length (now out) ⌝ }
@@ -317,7 +348,7 @@ fn put_costs(out: &mut [u8], at: usize, there: There) -> usize
     put_four(out, timed, c.memory)
 }
 
-// Puts one type: u, s, n, and then its d, its q, and its u and s on the second kind.
+// Puts one type: u, s, n, and then its d, its q, its C and T, and its u and s on the second kind.
 fn put_type(out: &mut [u8], at: usize, t: TaskType) -> usize
     requires { ⌜ at + length (typeBytes t) ≤ length (now out) ⌝ }
     ensures { λ r. ⌜ Puts (typeBytes t) at (now (out .entry)) (now (out .exit)) r ⌝ }
@@ -328,9 +359,11 @@ fn put_type(out: &mut [u8], at: usize, t: TaskType) -> usize
     let limited = put_two(out, stored, t.ceiling);
     let loaded = put_data(out, limited, t.data);
     let most = t.most;
+    let pace = t.pace;
     let there = t.there;
     let kept = put_most(out, loaded, most);
-    put_costs(out, kept, there)
+    let paced = put_pace(out, kept, pace);
+    put_costs(out, paced, there)
 }
 
 // Puts the first `typecount` types.
@@ -357,7 +390,7 @@ fn put_file(out: &mut [u8], y: System) -> usize
     put_types(out, next, types, y.typecount)
 }
 
-// Writes the file of a system at the start of the buffer, and answers its length; or 7, 9, 41, 5, 6, 8, 31, 10, 30 in this order, and nothing is written.
+// Writes the file of a system at the start of the buffer, and answers its length; or 7, 9, 41, 5, 6, 8, 31, 43, 10, 30 in this order, and nothing is written.
 // Types past k are neither judged nor written. Bytes past the file stay as they were.
 pub fn write_system(y: System, out: &mut [u8]) -> Answer
     ensures { λ r. ⌜ WritePromises y (now (out .entry)) (now (out .exit)) r ⌝ }

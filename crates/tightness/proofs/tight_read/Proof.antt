@@ -1,4 +1,4 @@
--- `tight_read`: what was read is the first 256 bytes of the file, and these decide (`prefix-promised`).
+-- `tight_read`: what was read is the first 384 bytes of the file, and these decide (`prefix-promised`).
 use Prim.Native.Nat.{ℕ, min}
 use mathlib.Core.Path.{_≡_, sym, ap, _∙_}
 use native.Mathlib.Nat.{min-le-right}
@@ -19,8 +19,8 @@ array-share-prefix-front c = search needs
 
 slice-aggregate-tight-of : tie.Need-slice-aggregate-tight-of
 slice-aggregate-tight-of c =
-    let l : length (c .before .before .args .t1) ≡ 256 = search needs in
-    sym (length-take-le (c .before .least .result) (c .before .before .args .t1) (omega (arith, c .before .least .ensures, min-le-right (c .before .before .args .read) 256)))
+    let l : length (c .before .before .args .t1) ≡ 384 = search needs in
+    sym (length-take-le (c .before .least .result) (c .before .before .args .t1) (omega (arith, c .before .least .ensures, min-le-right (c .before .before .args .read) 384)))
 
 tight-of-requires : tie.Need-tight-of-requires
 tight-of-requires c κs = search needs
@@ -29,7 +29,7 @@ returns : tie.Need-returns
 returns c =
     let start = c .before .before .before .before in
     let front = start .args .t1 in
-    let l : length front ≡ 256 = search needs in
+    let l : length front ≡ 384 = search needs in
     let least = c .before .before .before .least in
     let end : least .result ≡ min (start .args .read) (length front) = least .ensures ∙ ap (min (start .args .read)) (sym l) in
     let read : take (least .result) front ≡ take (start .args .read) front = ap (λ (n : ℕ). take n front) end ∙ take-min (start .args .read) front in

@@ -1,14 +1,14 @@
--- The loop's invariant: `at` is at most 256.
+-- The loop's invariant: `at` is at most 400.
 use Prim.Native.Nat.{_-_, _≤_}
 use borrow.Author.Needs.{needs}
 use Rattle.trial_damage.proofs.changes.Statement.{statement}
 use Rattle.trial_damage.proofs.changes.Tie as tie
 
 abbrev Inv-loop : tie.InvT-loop
-Inv-loop f t₀ at₀ t at = at ≤ 256
+Inv-loop f t₀ at₀ t at = at ≤ 400
 
 abbrev μ-loop : tie.MeasureT-loop
-μ-loop f t₀ at₀ t at = 256 - at
+μ-loop f t₀ at₀ t at = 400 - at
 
 no-tally-requires : tie.Need-no-tally-requires Inv-loop μ-loop
 no-tally-requires c κs = search needs

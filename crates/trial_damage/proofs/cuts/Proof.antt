@@ -1,14 +1,14 @@
--- The loop's invariant: `n` is at most 256.
+-- The loop's invariant: `n` is at most 400.
 use Prim.Native.Nat.{_-_, _≤_}
 use borrow.Author.Needs.{needs}
 use Rattle.trial_damage.proofs.cuts.Statement.{statement}
 use Rattle.trial_damage.proofs.cuts.Tie as tie
 
 abbrev Inv-loop : tie.InvT-loop
-Inv-loop f bytes t₀ n₀ t n = n ≤ 256
+Inv-loop f bytes t₀ n₀ t n = n ≤ 400
 
 abbrev μ-loop : tie.MeasureT-loop
-μ-loop f bytes t₀ n₀ t n = 256 - n
+μ-loop f bytes t₀ n₀ t n = 400 - n
 
 no-tally-requires : tie.Need-no-tally-requires Inv-loop μ-loop
 no-tally-requires c κs = search needs

@@ -1,14 +1,14 @@
--- The loop's invariant: `i` is at most 163.
+-- The loop's invariant: `i` is at most 400.
 use Prim.Native.Nat.{_-_, _≤_}
 use borrow.Author.Needs.{needs}
 use Rattle.trial_listing.proofs.longer.Statement.{statement}
 use Rattle.trial_listing.proofs.longer.Tie as tie
 
 abbrev Inv-loop : tie.InvT-loop
-Inv-loop byte old bytes₀ i₀ bytes i = i ≤ 163
+Inv-loop f byte old bytes₀ i₀ bytes i = i ≤ 400
 
 abbrev μ-loop : tie.MeasureT-loop
-μ-loop byte old bytes₀ i₀ bytes i = 163 - i
+μ-loop f byte old bytes₀ i₀ bytes i = 400 - i
 
 loop-holds : tie.Need-loop-holds Inv-loop μ-loop
 loop-holds c = search needs

@@ -1,14 +1,14 @@
--- The loop's invariant: `n` is at most 31.
+-- The loop's invariant: `n` is at most 43.
 use Prim.Native.Nat.{_-_, _≤_}
 use borrow.Author.Needs.{needs}
 use Rattle.trial_listing.proofs.say_numbers.Statement.{statement}
 use Rattle.trial_listing.proofs.say_numbers.Tie as tie
 
 abbrev Inv-loop : tie.InvT-loop
-Inv-loop n₀ n = n ≤ 31
+Inv-loop n₀ n = n ≤ 43
 
 abbrev μ-loop : tie.MeasureT-loop
-μ-loop n₀ n = 31 - n
+μ-loop n₀ n = 43 - n
 
 loop-holds : tie.Need-loop-holds Inv-loop μ-loop
 loop-holds c = search needs

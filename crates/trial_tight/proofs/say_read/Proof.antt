@@ -1,4 +1,4 @@
--- The 256 bytes that are put are as many as the front holds.
+-- The 384 bytes that are put are as many as the front holds.
 use mathlib.Core.Path.{_≡_, sym}
 use native.Mathlib.Omega.{arith}
 use lib.ListN.{length, take}
@@ -13,10 +13,10 @@ slice-aggregate-put-bytes c = search needs
 array-share-prefix-bytes : tie.Need-array-share-prefix-bytes
 array-share-prefix-bytes c = search needs
 
-front : (c : tie.After-bytes) → length (take 256 (c .before .before .args .t1)) ≡ 256
+front : (c : tie.After-bytes) → length (take 384 (c .before .before .args .t1)) ≡ 384
 front c =
     let l : length (c .before .before .args .t1) ≡ 512 = search needs in
-    length-take-le 256 (c .before .before .args .t1) (omega arith)
+    length-take-le 384 (c .before .before .args .t1) (omega arith)
 
 slice-aggregate-put-bytes-2 : tie.Need-slice-aggregate-put-bytes-2
 slice-aggregate-put-bytes-2 c = sym (front c)

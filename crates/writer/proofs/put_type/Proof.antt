@@ -1,12 +1,12 @@
--- `put_type`: the head, then u, s and n, and then d, q, and u and s on the second kind.
+-- `put_type`: the head, then u, s and n, and then d, q, C and T, and u and s on the second kind.
 use Prim.Native.Nat.{_≤_}
-use mathlib.Core.List.{append-assoc}
+use mathlib.Core.List.{_++_, append-assoc}
 use native.Mathlib.Omega.{arith}
 use lib.ListN.{length}
 use borrow.Author.Needs.{needs}
 use Rattle.system.specs.Rules.{ruleOf}
 use Rattle.buffer.proofs.Laws.{puts-then}
-use Rattle.writer.specs.File.{fieldBytes, dataBytes, mostBytes, costsBytes}
+use Rattle.writer.specs.File.{fieldBytes, dataBytes, mostBytes, paceBytes, costsBytes}
 use Rattle.writer.proofs.Bytes.{type-size}
 use Rattle.writer.proofs.put_type.Statement.{statement}
 use Rattle.writer.proofs.put_type.Tie as tie
@@ -65,10 +65,33 @@ put-most-requires c κs =
       put .put-data .ensures .next,
     )
 
+put-pace-requires : tie.Need-put-pace-requires
+unfolding fieldBytes ruleOf
+put-pace-requires c κs =
+    let apart = c .before .before .before in
+    let held = apart .before .before .before .before in
+    let limit = held .before .before .before .before in
+    let stored = limit .before .before .before .before in
+    let timed = stored .before .before .before .before in
+    let headed = timed .before .before .before .before in
+    let start = headed .before .before .before in
+    omega (
+      arith,
+      start .pre,
+      type-size (start .args .t),
+      headed .put-head .ensures .next,
+      timed .put-four .ensures .next,
+      stored .put-four2 .ensures .next,
+      limit .put-two .ensures .next,
+      held .put-data .ensures .next,
+      apart .put-most .ensures .next,
+    )
+
 put-costs-requires : tie.Need-put-costs-requires
 unfolding fieldBytes ruleOf
 put-costs-requires c κs =
-    let kept = c .before .before .before in
+    let paced = c .before .before .before in
+    let kept = paced .before .before .before .before in
     let load = kept .before .before .before .before in
     let limit = load .before .before .before .before in
     let stored = limit .before .before .before .before in
@@ -85,6 +108,7 @@ put-costs-requires c κs =
       limit .put-two .ensures .next,
       load .put-data .ensures .next,
       kept .put-most .ensures .next,
+      paced .put-pace .ensures .next,
     )
 
 same-length : tie.Need-same-length
@@ -94,7 +118,8 @@ returns : tie.Need-returns
 unfolding fieldBytes ruleOf
 returns c =
     let given = c .before .before in
-    let apart = given .before .before .before .before in
+    let paced = given .before .before .before .before in
+    let apart = paced .before .before .before .before in
     let loaded = apart .before .before .before .before in
     let limit = loaded .before .before .before .before in
     let stored = limit .before .before .before .before in
@@ -105,7 +130,10 @@ returns c =
     let costs = puts-then room (puts-then room (headed .put-head .ensures) (timed .put-four .ensures)) (stored .put-four2 .ensures) in
     let kept = puts-then room (puts-then room (puts-then room costs (limit .put-two .ensures)) (loaded .put-data .ensures)) (apart .put-most .ensures) in
     let t = start .args .t in
-    rw (← append-assoc (dataBytes (t .data)) (mostBytes (t .most)) (costsBytes (t .there))) (puts-then room kept (given .put-costs .ensures))
+    let last = append-assoc (mostBytes (t .most)) (paceBytes (t .pace)) (costsBytes (t .there)) in
+    let all = append-assoc (dataBytes (t .data)) (mostBytes (t .most) ++ paceBytes (t .pace)) (costsBytes (t .there)) in
+    let first = append-assoc (dataBytes (t .data)) (mostBytes (t .most)) (paceBytes (t .pace)) in
+    rw (← last, ← all, ← first) (puts-then room (puts-then room kept (paced .put-pace .ensures)) (given .put-costs .ensures))
 
 pub put-type-spec : {M : Type 1} → statement M
 put-type-spec =
@@ -117,6 +145,7 @@ put-type-spec =
     put-two-requires
     put-data-requires
     put-most-requires
+    put-pace-requires
     put-costs-requires
     same-length
     returns)

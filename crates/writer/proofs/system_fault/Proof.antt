@@ -27,8 +27,10 @@ engines-found c = c .engines-fault .ensures ∙ ap₂ enginesFault (c .before .b
 abbrev equipped-of : tie.After-types-limits → tie.Else3
 equipped-of c = c .before .before .before
 
-limits-found : (c : tie.After-types-limits) → c .types-limits .result ≡ typesLimits (cleared (system-of (equipped-of c .before .before .before .before)) .types)
-limits-found c = c .types-limits .ensures ∙ ap (λ z. typesLimits (z .types)) (c .before .before .cleared .ensures)
+limits-found : (c : tie.After-types-limits) → let y = system-of (equipped-of c .before .before .before .before) in c .types-limits .result ≡ typesLimits (y .timecap) (cleared y .types)
+limits-found c =
+    let y = system-of (equipped-of c .before .before .before .before) in
+    c .types-limits .ensures ∙ ap (λ z. typesLimits (y .timecap) (z .types)) (c .before .before .cleared .ensures)
 
 count-fault-requires : tie.Need-count-fault-requires
 count-fault-requires c κs = search needs

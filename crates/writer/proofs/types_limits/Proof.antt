@@ -18,14 +18,27 @@ returns-2 c =
     let small = c .before .before in
     or-on _ _ _ (small .before .types-fault .ensures) (small .if1 .left) (or-first _ _ _ (c .before .mosts-fault .ensures) (c .if2 .taken))
 
-columns-fault-requires : tie.Need-columns-fault-requires
-columns-fault-requires c κs = search needs
+paces-fault-requires : tie.Need-paces-fault-requires
+paces-fault-requires c κs = search needs
 
 returns-3 : tie.Need-returns-3
 returns-3 c =
-    let apart = c .before in
+    let free = c .before .before in
+    let sized = free .before .before in
+    or-on _ _ _ (sized .before .types-fault .ensures) (sized .if1 .left)
+    (or-on _ _ _ (free .before .mosts-fault .ensures) (free .if2 .left) (or-first _ _ _ (c .before .paces-fault .ensures) (c .if3 .taken)))
+
+columns-fault-requires : tie.Need-columns-fault-requires
+columns-fault-requires c κs = search needs
+
+returns-4 : tie.Need-returns-4
+returns-4 c =
+    let paced = c .before in
+    let apart = paced .before .before in
     let small = apart .before .before in
-    or-on _ _ _ (small .before .types-fault .ensures) (small .if1 .left) (or-on _ _ _ (apart .before .mosts-fault .ensures) (apart .if2 .left) (c .columns-fault .ensures))
+    or-on _ _ _ (small .before .types-fault .ensures) (small .if1 .left)
+    (or-on _ _ _ (apart .before .mosts-fault .ensures) (apart .if2 .left)
+    (or-on _ _ _ (paced .before .paces-fault .ensures) (paced .if3 .left) (c .columns-fault .ensures)))
 
 pub types-limits-spec : {M : Type 1} → statement M
 types-limits-spec =
@@ -35,5 +48,7 @@ types-limits-spec =
     returns
     mosts-fault-requires
     returns-2
+    paces-fault-requires
+    returns-3
     columns-fault-requires
-    returns-3)
+    returns-4)

@@ -14,6 +14,9 @@ types-keep-requires c κs = search needs
 columns-fault-requires : tie.Need-columns-fault-requires
 columns-fault-requires c κs = search needs
 
+paces-fault-requires : tie.Need-paces-fault-requires
+paces-fault-requires c κs = search needs
+
 second-fault-requires : tie.Need-second-fault-requires
 second-fault-requires c κs = search needs
 
@@ -23,8 +26,16 @@ kinds-fault-requires c κs = search needs
 returns : tie.Need-returns
 unfolding keepsCard
 returns c =
-    let p = c .before .before .before in
-    rw (p .before .platform-fault .ensures, p .types-keep .ensures, c .before .before .columns-fault .ensures, c .before .second-fault .ensures, c .kinds-fault .ensures) (simp and-assoc)
+    let r = c .before .before in
+    let p = r .before .before in
+    rw (
+      p .before .platform-fault .ensures,
+      p .types-keep .ensures,
+      r .before .columns-fault .ensures,
+      r .paces-fault .ensures,
+      c .before .second-fault .ensures,
+      c .kinds-fault .ensures,
+    ) (simp and-assoc)
 
 pub keeps-card-spec : {M : Type 1} → statement M
 keeps-card-spec =
@@ -33,6 +44,7 @@ keeps-card-spec =
     platform-fault-requires
     types-keep-requires
     columns-fault-requires
+    paces-fault-requires
     second-fault-requires
     kinds-fault-requires
     returns)

@@ -1,6 +1,6 @@
 -- `reader::body_of` meets its contract: one law for each answer.
 use native.Mathlib.Omega.{arith}
-use Rattle.system.proofs.Goes.{body-many, body-type, body-data, body-most, body-second, body-costs, body-platform, types-seen}
+use Rattle.system.proofs.Goes.{body-many, body-type, body-data, body-most, body-pace, body-second, body-costs, body-platform, types-seen}
 use borrow.Author.Needs.{needs}
 use Rattle.system.proofs.reader.body_of.Statement.{statement}
 use Rattle.system.proofs.reader.body_of.Tie as tie
@@ -55,40 +55,53 @@ returns-4 c =
     body-most (a .rule) (a .b .now) (a .y) (c .most-of .result) (n .result) (n .ensures) (p .before .before .if1 .left) (p .before .if2 .left) (p .if3 .left)
     (c .before .if4 .taken) (c .most-of .ensures)
 
-second-of-requires : tie.Need-second-of-requires
-second-of-requires c κs = search needs
+pace-of-requires : tie.Need-pace-of-requires
+pace-of-requires c κs =
+    let tag = c .if5 .taken in
+    c .before .before .before .before .before .before .before .before .pre .typed (omega (arith, tag)) (λ n. omega (arith, tag, n))
 
 returns-5 : tie.Need-returns-5
 returns-5 c =
     let p = c .before .before .before in
     let a = p .before .before .before .before .before .before .args in
     let n = p .before .before .before .before .seen-of in
-    body-second (a .rule) (a .b .now) (a .y) (c .second-of .result) (n .result) (n .ensures) (p .before .before .if1 .left) (p .before .if2 .left) (p .if3 .left)
-    (c .before .before .if4 .left) (c .before .if5 .taken) (c .second-of .ensures)
+    body-pace (a .rule) (a .b .now) (a .y) (c .pace-of .result) (n .result) (n .ensures) (p .before .before .if1 .left) (p .before .if2 .left) (p .if3 .left)
+    (c .before .before .if4 .left) (c .before .if5 .taken) (c .pace-of .ensures)
 
-costs-of-requires : tie.Need-costs-of-requires
-costs-of-requires c κs =
-    let tag = c .if6 .taken in
-    c .before .before .before .before .before .before .before .before .before .pre .typed (omega (arith, tag)) (λ n. omega (arith, tag, n))
+second-of-requires : tie.Need-second-of-requires
+second-of-requires c κs = search needs
 
 returns-6 : tie.Need-returns-6
 returns-6 c =
     let p = c .before .before .before .before in
     let a = p .before .before .before .before .before .before .args in
     let n = p .before .before .before .before .seen-of in
+    body-second (a .rule) (a .b .now) (a .y) (c .second-of .result) (n .result) (n .ensures) (p .before .before .if1 .left) (p .before .if2 .left) (p .if3 .left)
+    (c .before .before .before .if4 .left) (c .before .before .if5 .left) (c .before .if6 .taken) (c .second-of .ensures)
+
+costs-of-requires : tie.Need-costs-of-requires
+costs-of-requires c κs =
+    let tag = c .if7 .taken in
+    c .before .before .before .before .before .before .before .before .before .before .pre .typed (omega (arith, tag)) (λ n. omega (arith, tag, n))
+
+returns-7 : tie.Need-returns-7
+returns-7 c =
+    let p = c .before .before .before .before .before in
+    let a = p .before .before .before .before .before .before .args in
+    let n = p .before .before .before .before .seen-of in
     body-costs (a .rule) (a .b .now) (a .y) (c .costs-of .result) (n .result) (n .ensures) (p .before .before .if1 .left) (p .before .if2 .left) (p .if3 .left)
-    (c .before .before .before .if4 .left) (c .before .before .if5 .left) (c .before .if6 .taken) (c .costs-of .ensures)
+    (c .before .before .before .before .if4 .left) (c .before .before .before .if5 .left) (c .before .before .if6 .left) (c .before .if7 .taken) (c .costs-of .ensures)
 
 platform-of-requires : tie.Need-platform-of-requires
 platform-of-requires c κs = search needs
 
-returns-7 : tie.Need-returns-7
-returns-7 c =
-    let p = c .before .before .before .before in
+returns-8 : tie.Need-returns-8
+returns-8 c =
+    let p = c .before .before .before .before .before in
     let a = p .before .before .before .before .before .before .args in
     let n = p .before .before .before .before .seen-of in
     body-platform (a .rule) (a .b .now) (a .y) (c .platform-of .result) (n .result) (n .ensures) (p .before .before .if1 .left) (p .before .if2 .left) (p .if3 .left)
-    (c .before .before .before .if4 .left) (c .before .before .if5 .left) (c .before .if6 .left) (c .platform-of .ensures)
+    (c .before .before .before .before .if4 .left) (c .before .before .before .if5 .left) (c .before .before .if6 .left) (c .before .if7 .left) (c .platform-of .ensures)
 
 pub body-of-spec : {M : Type 1} → statement M
 body-of-spec =
@@ -103,9 +116,11 @@ body-of-spec =
     returns-3
     most-of-requires
     returns-4
-    second-of-requires
+    pace-of-requires
     returns-5
-    costs-of-requires
+    second-of-requires
     returns-6
+    costs-of-requires
+    returns-7
     platform-of-requires
-    returns-7)
+    returns-8)

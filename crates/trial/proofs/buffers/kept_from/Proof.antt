@@ -1,14 +1,14 @@
--- The loop's invariant: `i` is at most 256.
+-- The loop's invariant: `i` is at most 400.
 use Prim.Native.Nat.{_-_, _≤_}
 use borrow.Author.Needs.{needs}
 use Rattle.trial.proofs.buffers.kept_from.Statement.{statement}
 use Rattle.trial.proofs.buffers.kept_from.Tie as tie
 
 abbrev Inv-loop : tie.InvT-loop
-Inv-loop fill start bytes kept₀ i₀ kept i = i ≤ 256
+Inv-loop fill start bytes kept₀ i₀ kept i = i ≤ 400
 
 abbrev μ-loop : tie.MeasureT-loop
-μ-loop fill start bytes kept₀ i₀ kept i = 256 - i
+μ-loop fill start bytes kept₀ i₀ kept i = 400 - i
 
 loop-holds : tie.Need-loop-holds Inv-loop μ-loop
 loop-holds c = search needs

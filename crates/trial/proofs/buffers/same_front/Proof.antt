@@ -1,14 +1,14 @@
--- The loop's invariant: `i` is at most 256.
+-- The loop's invariant: `i` is at most 400.
 use Prim.Native.Nat.{_-_, _≤_}
 use borrow.Author.Needs.{needs}
 use Rattle.trial.proofs.buffers.same_front.Statement.{statement}
 use Rattle.trial.proofs.buffers.same_front.Tie as tie
 
 abbrev Inv-loop : tie.InvT-loop
-Inv-loop end a b same₀ i₀ same i = i ≤ 256
+Inv-loop end a b same₀ i₀ same i = i ≤ 400
 
 abbrev μ-loop : tie.MeasureT-loop
-μ-loop end a b same₀ i₀ same i = 256 - i
+μ-loop end a b same₀ i₀ same i = 400 - i
 
 loop-holds : tie.Need-loop-holds Inv-loop μ-loop
 loop-holds c = search needs

@@ -1,14 +1,14 @@
--- The loop's invariant: `field` is at most 27.
+-- The loop's invariant: `field` is at most 33.
 use Prim.Native.Nat.{_-_, _≤_}
 use borrow.Author.Needs.{needs}
 use Rattle.trial.proofs.files.reading_of.Statement.{statement}
 use Rattle.trial.proofs.files.reading_of.Tie as tie
 
 abbrev Inv-loop : tie.InvT-loop
-Inv-loop file r₀ field₀ r field = field ≤ 27
+Inv-loop file r₀ field₀ r field = field ≤ 33
 
 abbrev μ-loop : tie.MeasureT-loop
-μ-loop file r₀ field₀ r field = 27 - field
+μ-loop file r₀ field₀ r field = 33 - field
 
 blank-system-requires : tie.Need-blank-system-requires Inv-loop μ-loop
 blank-system-requires c κs = search needs

@@ -31,6 +31,9 @@ task-in-requires c κs = search needs
 with-there-requires : tie.Need-with-there-requires Inv-loop μ-loop
 with-there-requires c κs = search needs
 
+with-pace-requires : tie.Need-with-pace-requires Inv-loop μ-loop
+with-pace-requires c κs = search needs
+
 mul-types : tie.Need-mul-types Inv-loop μ-loop
 mul-types c = search needs
 
@@ -62,6 +65,7 @@ types-in-spec =
     rest-at-requires
     task-in-requires
     with-there-requires
+    with-pace-requires
     mul-types
     array-set-from-types
     add-i

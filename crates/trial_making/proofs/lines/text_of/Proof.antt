@@ -1,14 +1,14 @@
--- The loop's invariant: `i` is at most 256.
+-- The loop's invariant: `i` is at most 400.
 use Prim.Native.Nat.{_-_, _≤_}
 use borrow.Author.Needs.{needs}
 use Rattle.trial_making.proofs.lines.text_of.Statement.{statement}
 use Rattle.trial_making.proofs.lines.text_of.Tie as tie
 
 abbrev Inv-loop : tie.InvT-loop
-Inv-loop bytes text₀ i₀ text i = i ≤ 256
+Inv-loop bytes text₀ i₀ text i = i ≤ 400
 
 abbrev μ-loop : tie.MeasureT-loop
-μ-loop bytes text₀ i₀ text i = 256 - i
+μ-loop bytes text₀ i₀ text i = 400 - i
 
 loop-holds : tie.Need-loop-holds Inv-loop μ-loop
 loop-holds c = search needs

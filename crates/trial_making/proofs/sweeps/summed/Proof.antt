@@ -1,14 +1,14 @@
--- The loop's invariant: `i` is at most 256.
+-- The loop's invariant: `i` is at most 400.
 use Prim.Native.Nat.{_-_, _≤_}
 use borrow.Author.Needs.{needs}
 use Rattle.trial_making.proofs.sweeps.summed.Statement.{statement}
 use Rattle.trial_making.proofs.sweeps.summed.Tie as tie
 
 abbrev Inv-loop : tie.InvT-loop
-Inv-loop sum size bytes all₀ i₀ all i = i ≤ 256
+Inv-loop sum size bytes all₀ i₀ all i = i ≤ 400
 
 abbrev μ-loop : tie.MeasureT-loop
-μ-loop sum size bytes all₀ i₀ all i = 256 - i
+μ-loop sum size bytes all₀ i₀ all i = 400 - i
 
 loop-holds : tie.Need-loop-holds Inv-loop μ-loop
 loop-holds c = search needs

@@ -1,14 +1,14 @@
--- The loop's invariant: `i` is at most 256.
+-- The loop's invariant: `i` is at most 400.
 use Prim.Native.Nat.{_-_, _≤_}
 use borrow.Author.Needs.{needs}
 use Rattle.trial_writer.proofs.lines.say_bytes.Statement.{statement}
 use Rattle.trial_writer.proofs.lines.say_bytes.Tie as tie
 
 abbrev Inv-loop : tie.InvT-loop
-Inv-loop n bytes i₀ t5 i = i ≤ 256
+Inv-loop n bytes i₀ t5 i = i ≤ 400
 
 abbrev μ-loop : tie.MeasureT-loop
-μ-loop n bytes i₀ t5 i = 256 - i
+μ-loop n bytes i₀ t5 i = 400 - i
 
 loop-holds : tie.Need-loop-holds Inv-loop μ-loop
 loop-holds c = search needs

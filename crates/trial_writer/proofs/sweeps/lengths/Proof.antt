@@ -1,14 +1,14 @@
--- The loop's invariant: `room` is at most 243.
+-- The loop's invariant: `room` is at most 309.
 use Prim.Native.Nat.{_-_, _≤_}
 use borrow.Author.Needs.{needs}
 use Rattle.trial_writer.proofs.sweeps.lengths.Statement.{statement}
 use Rattle.trial_writer.proofs.sweeps.lengths.Tie as tie
 
 abbrev Inv-loop : tie.InvT-loop
-Inv-loop y end all₀ room₀ all room = room ≤ 243
+Inv-loop y end all₀ room₀ all room = room ≤ 309
 
 abbrev μ-loop : tie.MeasureT-loop
-μ-loop y end all₀ room₀ all room = 243 - room
+μ-loop y end all₀ room₀ all room = 309 - room
 
 no-tally-requires : tie.Need-no-tally-requires Inv-loop μ-loop
 no-tally-requires c κs = search needs

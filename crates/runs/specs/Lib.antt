@@ -1,0 +1,3 @@
+-- The definitions of crate `runs`, in reading order.
+pub mod Run
+pub mod Trace

@@ -1,0 +1,46 @@
+-- The loop's invariant: `i` is at most 10000.
+use Prim.Native.Nat.{_-_, _≤_}
+use borrow.Author.Needs.{needs}
+use Rattle.trial_writer.proofs.sweeps.paces.Statement.{statement}
+use Rattle.trial_writer.proofs.sweeps.paces.Tie as tie
+
+abbrev Inv-loop : tie.InvT-loop
+Inv-loop r₀ i₀ r i = i ≤ 10000
+
+abbrev μ-loop : tie.MeasureT-loop
+μ-loop r₀ i₀ r i = 10000 - i
+
+first-run-requires : tie.Need-first-run-requires Inv-loop μ-loop
+first-run-requires c κs = search needs
+
+loop-holds : tie.Need-loop-holds Inv-loop μ-loop
+loop-holds c = search needs
+
+next-paces-requires : tie.Need-next-paces-requires Inv-loop μ-loop
+next-paces-requires c κs = search needs
+
+add-i : tie.Need-add-i Inv-loop μ-loop
+add-i c = search needs
+
+loop-less : tie.Need-loop-less Inv-loop μ-loop
+loop-less c = search needs
+
+loop-again : tie.Need-loop-again Inv-loop μ-loop
+loop-again c = search needs
+
+returns : tie.Need-returns Inv-loop μ-loop
+returns c = search needs
+
+pub paces-spec : {M : Type 1} → statement M
+paces-spec =
+    tie.close
+    (tie.spec
+    Inv-loop
+    μ-loop
+    first-run-requires
+    loop-holds
+    next-paces-requires
+    add-i
+    loop-less
+    loop-again
+    returns)
