@@ -90,7 +90,7 @@ module _ (y : System) (counts : List ℕ) (limits : LimitsOut y) (six : length c
           rw (f .1) (cycle-within y limits (suc k) (f .0) (omega arith) g .period .0)
 
   -- the schedule that the run makes
-  pub σ : Schedule
+  unfoldable pub σ : Schedule
   σ = record { kind = λ (τ : ℕ). kindAt counts (runner τ js); instance = λ (τ : ℕ). instanceAt counts (runner τ js) }
 
   ran-is : {p t i : ℕ} → Stood counts p t i → (start n : ℕ) → ranFor σ t i start n ≡ ranBetween p start (start + n) js

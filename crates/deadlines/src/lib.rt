@@ -52,7 +52,7 @@ fn all_paced(types: [TaskType; TYPE_LIMIT], counts: [u16; TYPE_LIMIT]) -> bool
 }
 
 // The instances of all types.
-fn instances(counts: [u16; TYPE_LIMIT]) -> usize
+pub fn instances(counts: [u16; TYPE_LIMIT]) -> usize
     ensures { λ r. ⌜ r ≡ instances counts ⌝ }
 {
     let mut all: usize = 0;
@@ -96,7 +96,7 @@ fn with_jobs(jobs: [Job; JOB_LIMIT], at: usize, count: usize, job: Job) -> [Job;
 }
 
 // The instances on the engine in order of type: what stands past them is no job.
-fn jobs_of(types: [TaskType; TYPE_LIMIT], counts: [u16; TYPE_LIMIT]) -> [Job; JOB_LIMIT]
+pub fn jobs_of(types: [TaskType; TYPE_LIMIT], counts: [u16; TYPE_LIMIT]) -> [Job; JOB_LIMIT]
     requires { ⌜ instances counts ≤ jobLimit ⌝ }
     ensures { λ r. ⌜ take (instances counts) r ≡ jobsOf types counts ⌝ }
 {
@@ -132,7 +132,7 @@ fn run_check(types: [TaskType; TYPE_LIMIT], counts: [u16; TYPE_LIMIT], ticks: us
 }
 
 // The run of an engine of this system.
-fn run_over(y: System, counts: [u16; TYPE_LIMIT], ticks: usize) -> RunAnswer
+pub fn run_over(y: System, counts: [u16; TYPE_LIMIT], ticks: usize) -> RunAnswer
     ensures { λ r. ⌜ r ≡ runOver y counts ticks ⌝ }
 {
     let types = y.types;

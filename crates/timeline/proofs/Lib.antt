@@ -1,0 +1,7 @@
+-- The laws of crate `timeline`: of the code's steps, of the plan's verdict, of what a reader finds in the text of a run and of a file, and of what the program reads.
+pub mod Laws
+pub mod Verdicts
+pub mod Each
+pub mod Shown
+pub mod Told
+pub mod Inputs
