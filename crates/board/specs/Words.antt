@@ -1,6 +1,7 @@
 -- The plain words in which the meaning of the calls and demand 3 speak of a board: counts, totals, sums, fit, room, and the engines that are used.
--- As with partition/specs/Plain, no contract of a function cites them, but for `IsTrue`, by `true_board`, and they go through no word that one cites, but for `IsRecovery`,
--- which `RecoveredOn` says once more in the table that is left; laws say that the code's words mean the same.
+-- As with partition/specs/Plain, of the parts of a contract by which code is described none cites them (the promises beside those parts are made of them), but for `IsTrue`,
+-- by `true_board`; and of the words that such a part cites they go through those alone that Plain goes through, and through those of `IsRecovery`, which `RecoveredOn` says once
+-- more in the table that is left. Laws say that the code's words mean the same.
 use Prim.Native.Nat.{ℕ, zero, suc, _+_, _-_, _*_, _≤_, _<_}
 use mathlib.Core.List.{List, [], _∷_}
 use mathlib.Core.Bool.{Bool, true, false, cond, _&&_}

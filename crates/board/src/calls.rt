@@ -18,11 +18,10 @@ pub fn open_board(file: &[u8]) -> Turn
     ensures { λ r. ⌜ OpenMeans (now (file .entry)) (outcomeOf (r .answer)) (r .board) ⌝ }
 {
     let o = system::read_system(file);
-    let y = o.system;
     let a = o.answer;
     Turn {
         answer: a,
-        board: work::empty_board(y),
+        board: work::empty_board(o.system),
     }
 }
 

@@ -48,8 +48,7 @@ fn ceiling_check(b: Board, t: usize) -> Check
     ensures { λ r. ⌜ checkedOf r ≡ ceilingCheck b t ⌝ }
 {
     let i = t - 1;
-    let y = b.system;
-    let types = y.types;
+    let types = b.system.types;
     let task = types[i];
     let counts = state::standing_counts(b);
     if counts[i] < task.ceiling {
@@ -103,12 +102,11 @@ pub fn check_newcomer(b: Board, t: usize, rows: usize, predecessors: usize) -> C
     if let Check::Fails(why) = board {
         return Check::Fails(why);
     }
-    let y = b.system;
-    let task = type_check(y, t);
+    let task = type_check(b.system, t);
     if let Check::Fails(why) = task {
         return Check::Fails(why);
     }
-    let table = table::table_check(y, rows, predecessors);
+    let table = table::table_check(b.system, rows, predecessors);
     if let Check::Fails(why) = table {
         return Check::Fails(why);
     }
@@ -123,12 +121,11 @@ pub fn check_retire(b: Board, t: usize, e: usize) -> Check
     if let Check::Fails(why) = board {
         return Check::Fails(why);
     }
-    let y = b.system;
-    let task = type_check(y, t);
+    let task = type_check(b.system, t);
     if let Check::Fails(why) = task {
         return Check::Fails(why);
     }
-    let engine = engine_check(y, e);
+    let engine = engine_check(b.system, e);
     if let Check::Fails(why) = engine {
         return Check::Fails(why);
     }

@@ -3,7 +3,7 @@ ghost use mathlib.Core.Path.{_≡_};
 ghost use mathlib.Core.Bool.{true};
 ghost use mathlib.Core.List.{map};
 ghost use mathlib.Core.Logic.{_↔_};
-ghost use Prim.Native.Nat.{ℕ, _+_, _-_, _≤_, _<_};
+ghost use Prim.Native.Nat.{ℕ, _+_, _-_, _*_, _≤_, _<_};
 ghost use lib.ListN.{getD};
 ghost use Rattle.system.specs.Limits.{engineLimit};
 ghost use Rattle.system.specs.declared.TaskType.{TaskType};
@@ -92,7 +92,7 @@ fn true_marks(b: Board) -> bool
 
 // A load added to a sum of at most 15 others.
 fn added(l: EngineLoad, sum: [u32; TYPE_LIMIT]) -> [u32; TYPE_LIMIT]
-    requires { ⌜ ((t : ℕ) → getD sum t 0 ≤ 1000000) ⌝ }
+    requires { ⌜ ((t : ℕ) → getD sum t 0 ≤ 15 * 65535) ⌝ }
     ensures { λ r. ⌜ (r ≡ plus (l .counts) sum) × ((t : ℕ) → getD r t 0 ≤ getD sum t 0 + 65535) ⌝ }
 {
     let counts = l.counts;

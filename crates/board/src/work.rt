@@ -91,8 +91,7 @@ fn takes_it(b: Board, t: usize, e: usize) -> bool
     requires { ⌜ CheckedNewcomer b t × OnEngine b e ⌝ }
     ensures { λ r. ⌜ r ≡ takes b t e ⌝ }
 {
-    let y = b.system;
-    loads::fits_engine(y, load_with(b, t, e))
+    loads::fits_engine(b.system, load_with(b, t, e))
 }
 
 // The lowest-numbered engine that takes a newcomer of type t.
@@ -186,10 +185,9 @@ pub fn no_engine(b: Board, t: usize, rows: &mut [u16], predecessors: &mut [u16])
     requires { ⌜ CheckedNewcomer b t × (longEnough (b .system) (lent (now rows) (now predecessors)) ≡ true) ⌝ }
     ensures { λ r. ⌜ Does (crowded b t (lent (now (rows .entry)) (now (predecessors .entry)))) r (lent (now (rows .exit)) (now (predecessors .exit))) ⌝ }
 {
-    let y = b.system;
     let counts = with_newcomer(b, t);
     let engines = engines_of(b);
-    let found = table::place(rows, predecessors, y, engines, counts);
+    let found = table::place(rows, predecessors, b.system, engines, counts);
     if found.placed {
         return refuse(b, Refusal::State(23));
     }

@@ -16,6 +16,7 @@ use Rattle.partition.proofs.Plain.{limits-out}
 use native.Mathlib.Omega.{arith}
 use Rattle.deadlines.specs.declared.RunAnswer.{RunAnswer}
 use Rattle.deadlines.specs.declared.RunAnswer.the-variants.{Refused}
+use Rattle.deadlines.specs.Outcome.{notRun, notRunFor, runOutcomeOf}
 use Rattle.deadlines.specs.Engine.{runOver, runEngine}
 use Rattle.deadlines.specs.Meaning.{RunPromises}
 use Rattle.deadlines.proofs.Promises.{promises-of}
@@ -24,8 +25,8 @@ use Rattle.deadlines.proofs.Promises.{promises-of}
 pub limits-read : (file : List ℕ) (y : System) → readFile file ≡ opened y → LimitsOut y
 limits-read file y is = limits-out y .0 (read-keeps-limits file y is)
 
-refused-input : (why : Refusal) (n : ℕ) → refusalOf why ≡ refused fromInput n → why ≡ Input n
-refused-input (Input m) n e = cc
+refused-input : (why : Refusal) (n : ℕ) → refusalOf why ≡ refused fromInput n → notRunFor why ≡ notRun fromInput n
+refused-input (Input m) n e = let same : m ≡ n = cc in ap (notRun fromInput) same
 refused-input (State m) n e = let z : _≡_ {A = ℕ} 0 1 = cc in absurd (omega arith)
 
 module _ (file counts : List ℕ) (ticks : ℕ) (six : length counts ≡ 6) where
@@ -34,9 +35,9 @@ module _ (file counts : List ℕ) (ticks : ℕ) (six : length counts ≡ 6) wher
   unfolding runEngine
   unread-promises r reads why is =
       let (n, same, says) = unread-with (readFile file) r reads why is in
-      promises-of file counts ticks (limits-read file) six (Refused why) (rw same (ap (λ (f : Refusal). Refused f) (refused-input why n says)))
+      promises-of file counts ticks (limits-read file) six (Refused why) (rw same (refused-input why n says))
 
   -- it reads as a system
-  pub opened-promises : (y : System) → readFile file ≡ opened y → (r : RunAnswer) → r ≡ runOver y counts ticks → RunPromises file counts ticks r
+  pub opened-promises : (y : System) → readFile file ≡ opened y → (r : RunAnswer) → runOutcomeOf r ≡ runOver y counts ticks → RunPromises file counts ticks r
   unfolding runEngine
   opened-promises y is r e = promises-of file counts ticks (limits-read file) six r (rw is e)

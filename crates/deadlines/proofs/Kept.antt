@@ -20,6 +20,7 @@ use Rattle.partition.specs.Plain.{typeNo, PaceWithin, LimitsOut, EngineOf, plac
 use Rattle.runs.specs.declared.Job.{Job}
 use Rattle.runs.specs.Run.{demand, Demand}
 use Rattle.runs.proofs.Owed.{Shares, no-share, and-share, demand-of, none-missed}
+use Rattle.deadlines.specs.Outcome.{missOf, runOutcomeOf}
 use Rattle.deadlines.specs.Engine.{allPaced, jobOfType, jobsOf, runOver, runEngine}
 use Rattle.deadlines.specs.Plans.{NoneMissed, PlansKept, ListsKept}
 use Rattle.planner.specs.Demands.{entryNo}
@@ -140,10 +141,10 @@ module _ (file : List ℕ) (y : System) (is : readFile file ≡ opened y) (χ : 
 
   pub none-missed-there : NoneMissed file counts
   unfolding runEngine
-  none-missed-there ticks r report promises ran =
-      let whole : r ≡ runOver y counts ticks = rw is at (promises .whole) in
-      let f = ran-of y counts ticks report (sym whole ∙ ran) in
-      rw (f .1) (none-missed ticks (jobsOf (y .types) counts) (periods-js y counts limits six (f .0)) (demands (f .0)))
+  none-missed-there ticks r idle miss promises told =
+      let whole : runOutcomeOf r ≡ runOver y counts ticks = rw is at (promises .answers) in
+      let f = ran-of y counts ticks idle miss (sym whole ∙ told) in
+      f .2 ∙ ap missOf (none-missed ticks (jobsOf (y .types) counts) (periods-js y counts limits six (f .0)) (demands (f .0)))
 
 -- of every engine of a plan
 pub plans-kept : PlansKept

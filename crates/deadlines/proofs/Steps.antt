@@ -19,7 +19,7 @@ use Rattle.runs.specs.declared.Report.{Report}
 use Rattle.system.specs.Values.{noTask}
 use Rattle.runs.specs.declared.Job.{Job}
 use Rattle.deadlines.specs.Engine.{pacedType, allPaced, instances, jobOfType, jobsOf, fewInstances, fewTicks, fewEnough, runChecks, runOver}
-use Rattle.deadlines.specs.declared.RunAnswer.the-variants.{Ran, Refused}
+use Rattle.deadlines.specs.Outcome.{reportedAs, notRunFor}
 
 -- the counts alone
 
@@ -165,7 +165,7 @@ passes-few ts ns ticks e = few-fits ns ticks (both-met (allPaced ts ns) (fewEnou
 
 -- the answers of `run_over`
 module _ (y : System) (ns : List ℕ) (ticks : ℕ) where
-  pub over-fails : (why : Refusal) → failsWith why ≡ runChecks (y .types) ns ticks → Refused why ≡ runOver y ns ticks
+  pub over-fails : (why : Refusal) → failsWith why ≡ runChecks (y .types) ns ticks → notRunFor why ≡ runOver y ns ticks
   unfolding runOver
   over-fails (Input n) e = rw (← e)
   over-fails (State n) e = rw (← e)
@@ -176,6 +176,6 @@ module _ (y : System) (ns : List ℕ) (ticks : ℕ) where
       → take (instances ns) jobs ≡ jobsOf (y .types) ns
       → all ≡ instances ns
       → r ≡ runOf ticks (take all jobs)
-      → Ran r ≡ runOver y ns ticks
+      → reportedAs r ≡ runOver y ns ticks
   unfolding runOver
-  over-runs e jobs all r same a is = rw (← e) (ap Ran (is ∙ ap (λ (n : ℕ). runOf ticks (take n jobs)) a ∙ ap (runOf ticks) same))
+  over-runs e jobs all r same a is = rw (← e) (ap reportedAs (is ∙ ap (λ (n : ℕ). runOf ticks (take n jobs)) a ∙ ap (runOf ticks) same))

@@ -15,6 +15,8 @@ use Rattle.system.specs.declared.System.{System}
 use Rattle.partition.specs.OwnWords.{noType}
 use Rattle.partition.specs.Plain.{typeNo, PaceWithin, LimitsOut}
 use Rattle.runs.specs.declared.Job.{Job}
+use Rattle.runs.specs.declared.Missed.{Missed}
+use Rattle.runs.specs.declared.Missed.the-variants.{Never, At}
 use Rattle.runs.specs.Run.{jobOf, Periods, runOf}
 use Rattle.runs.specs.Trace.{runner, ranBetween, idleBefore}
 use Rattle.runs.proofs.Choice.{jobAt}
@@ -22,6 +24,7 @@ use Rattle.runs.proofs.Steps.{chosen-le}
 use Rattle.runs.proofs.Trace.{ran-none}
 use Rattle.runs.proofs.Words.{hereAt, length-here, standing, pending-iff, Resting, runs-or-rests, report-missed, report-never, report-idle-missed, report-idle-never}
 use Rattle.runs.proofs.Words as words
+use Rattle.deadlines.specs.Outcome.{allKept, firstAt, missOf}
 use Rattle.deadlines.specs.Engine.{allPaced, instances, pacedJob, jobOfType, jobsOf}
 use Rattle.deadlines.specs.Meaning.{Schedule, ranFor, idleFor, countNo, Runs, arrival, deadline, Waits, GoesBefore, sooner, lowerType, lowerInstance, TickIs, nobody, somebody}
 use Rattle.deadlines.specs.Meaning.{MissedAt, ReportIs, RunMeans}
@@ -53,6 +56,15 @@ past-test ns q n e l = go (eqb q n) refl
     go : (b : Bool) → eqb q n ≡ b → eqb (kindAt ns q) 0 ≡ b
     go true f = eq-eqb (kindAt ns q) 0 (kind-past ns q (omega (arith, eqb-true q n f)))
     go false f = ne-eqb (kindAt ns q) 0 (λ (z : kindAt ns q ≡ 0). omega (arith, eqb-false q n f, stood-type (stood-here ns q (omega (arith, eqb-false q n f))) .0))
+
+-- what is said of the first missed deadline is what the code's report has
+pub kept-never : (m : Missed) → missOf m ≡ allKept → m ≡ Never
+kept-never Never e = refl
+kept-never (At d) e = let z : _≡_ {A = ℕ} 0 1 = cc in absurd (omega arith)
+
+pub first-at : (m : Missed) (d : ℕ) → missOf m ≡ firstAt d → m ≡ At d
+first-at Never d e = let z : _≡_ {A = ℕ} 0 1 = cc in absurd (omega arith)
+first-at (At k) d e = let same : k ≡ d = cc in ap At same
 
 -- C and T of a type that has them are within their limits
 pub cycle-within : (y : System) → LimitsOut y → (t : ℕ) (c : Cycle) → 1 ≤ t → typeNo y t .pace ≡ Paced c → PaceWithin (y .timecap) (typeNo y t .time) c
@@ -237,20 +249,20 @@ module _ (y : System) (counts : List ℕ) (limits : LimitsOut y) (six : length c
           due : d ≡ c .period * k + c .period
           due = e ∙ ap (λ (n : ℕ). k * n + n) (T-is this d) ∙ ap (λ (n : ℕ). n + c .period) (mul-comm k (c .period))
 
-  pub report-is : (ticks : ℕ) → ReportIs y counts σ ticks (runOf ticks js)
+  pub report-is : (ticks : ℕ) → ReportIs y counts σ ticks (runOf ticks js .idle) (missOf (runOf ticks js .missed))
   report-is ticks =
       record {
         first = λ d. (
-          (λ e. let f = report-missed js periods-js ticks d .0 e in (f .0, missed-back d (f .1 .0), λ s l m. f .1 .1 s l (missed-there s m))),
-          (λ f. report-missed js periods-js ticks d .1 (f .0, (missed-there d (f .1), λ s l m. f .2 s l (missed-back s m)))),
+          (λ e. let f = report-missed js periods-js ticks d .0 (first-at (runOf ticks js .missed) d e) in (f .0, missed-back d (f .1 .0), λ s l m. f .1 .1 s l (missed-there s m))),
+          (λ f. ap missOf (report-missed js periods-js ticks d .1 (f .0, (missed-there d (f .1), λ s l m. f .2 s l (missed-back s m))))),
         );
         none = (
-          (λ e d l m. report-never js periods-js ticks .0 e d l (missed-there d m)),
-          (λ f. report-never js periods-js ticks .1 (λ d l m. f d l (missed-back d m))),
+          (λ e d l m. report-never js periods-js ticks .0 (kept-never (runOf ticks js .missed) e) d l (missed-there d m)),
+          (λ f. ap missOf (report-never js periods-js ticks .1 (λ d l m. f d l (missed-back d m)))),
         );
-        idleToMiss = λ d e. report-idle-missed js periods-js ticks d e ∙ sym (idle-is d);
-        idleToEnd = λ e. report-idle-never js periods-js ticks e ∙ sym (idle-is ticks);
+        idleToMiss = λ d e. report-idle-missed js periods-js ticks d (first-at (runOf ticks js .missed) d e) ∙ sym (idle-is d);
+        idleToEnd = λ e. report-idle-never js periods-js ticks (kept-never (runOf ticks js .missed) e) ∙ sym (idle-is ticks);
       }
 
-  pub run-means : (ticks : ℕ) → RunMeans y counts ticks (runOf ticks js)
+  pub run-means : (ticks : ℕ) → RunMeans y counts ticks (runOf ticks js .idle) (missOf (runOf ticks js .missed))
   run-means ticks = record { schedule = σ; follows = tick-is; reports = report-is ticks }

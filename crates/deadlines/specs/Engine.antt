@@ -6,17 +6,14 @@ use lib.ListN.{replicate}
 use lib.Dec.{eqb, leb}
 use Rattle.system.specs.declared.Pace.{Pace}
 use Rattle.system.specs.declared.Pace.the-variants.{Unpaced, Paced}
-use Rattle.system.specs.declared.Refusal.{Refusal}
-use Rattle.system.specs.declared.Refusal.the-variants.{Input, State}
 use Rattle.system.specs.declared.TaskType.{TaskType}
 use Rattle.system.specs.declared.System.{System}
 use Rattle.system.specs.Limits.{tickLimit}
 use Rattle.system.specs.Layout.{Reading, opened, unread}
-use Rattle.system.specs.Outcome.{Source, fromInput, fromState, Checked, passes, fails, check, andThen}
+use Rattle.system.specs.Outcome.{fromInput, Checked, passes, fails, check, andThen}
 use Rattle.runs.specs.declared.Job.{Job}
 use Rattle.runs.specs.Run.{jobOf, noJob, jobLimit, runOf}
-use Rattle.deadlines.specs.declared.RunAnswer.{RunAnswer}
-use Rattle.deadlines.specs.declared.RunAnswer.the-variants.{Ran, Refused}
+use Rattle.deadlines.specs.Outcome.{RunOutcome, notRun, reportedAs}
 
 -- the type has a C and a T. One past k has none
 abbrev pub hasPace : Pace → Bool
@@ -65,18 +62,14 @@ fewEnough ns ticks = fewInstances ns && fewTicks ticks
 abbrev pub runChecks : List TaskType → List ℕ → ℕ → Checked
 runChecks ts ns ticks = andThen (check (allPaced ts ns) fromInput 44) (check (fewEnough ns ticks) fromInput 45)
 
-abbrev pub refusalFrom : Source → ℕ → Refusal
-refusalFrom fromInput n = Input n
-refusalFrom fromState n = State n
+abbrev pub runWhere : Checked → List TaskType → List ℕ → ℕ → RunOutcome
+runWhere (fails s n) ts ns ticks = notRun s n
+runWhere passes ts ns ticks = reportedAs (runOf ticks (jobsOf ts ns))
 
-abbrev pub runWhere : Checked → List TaskType → List ℕ → ℕ → RunAnswer
-runWhere (fails s n) ts ns ticks = Refused (refusalFrom s n)
-runWhere passes ts ns ticks = Ran (runOf ticks (jobsOf ts ns))
-
-unfoldable pub runOver : System → List ℕ → ℕ → RunAnswer
+unfoldable pub runOver : System → List ℕ → ℕ → RunOutcome
 runOver y ns ticks = runWhere (runChecks (y .types) ns ticks) (y .types) ns ticks
 
 -- the file's own refusals come first, 42 with them
-unfoldable pub runEngine : Reading → List ℕ → ℕ → RunAnswer
-runEngine (unread n) ns ticks = Refused (Input n)
+unfoldable pub runEngine : Reading → List ℕ → ℕ → RunOutcome
+runEngine (unread n) ns ticks = notRun fromInput n
 runEngine (opened y) ns ticks = runOver y ns ticks

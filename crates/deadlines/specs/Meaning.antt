@@ -9,14 +9,12 @@ use lib.ListN.{getD}
 use lib.Dec.{eqb}
 use Rattle.system.specs.declared.Cycle.{Cycle}
 use Rattle.system.specs.declared.Pace.the-variants.{Unpaced, Paced}
-use Rattle.system.specs.declared.Refusal.the-variants.{Input}
 use Rattle.system.specs.declared.System.{System}
 use Rattle.system.specs.Layout.{readFile, opened, unread}
+use Rattle.system.specs.Outcome.{fromInput}
 use Rattle.partition.specs.Plain.{typeNo}
-use Rattle.runs.specs.declared.Missed.the-variants.{Never, At}
-use Rattle.runs.specs.declared.Report.{Report}
 use Rattle.deadlines.specs.declared.RunAnswer.{RunAnswer}
-use Rattle.deadlines.specs.declared.RunAnswer.the-variants.{Ran, Refused}
+use Rattle.deadlines.specs.Outcome.{FirstMiss, allKept, firstAt, ran, notRun, runOutcomeOf}
 use Rattle.deadlines.specs.Engine.{runEngine}
 
 -- Who runs
@@ -83,17 +81,17 @@ pub record MissedAt (y : System) (counts : List ℕ) (σ : Schedule) (d : ℕ) :
   pub short : ranFor σ kind instance (cycle .period * job) (cycle .period) < cycle .run
 
 -- "the first missed deadline, where it ends: one at or before the last tick's end", and the idle ticks before that end
-pub record ReportIs (y : System) (counts : List ℕ) (σ : Schedule) (ticks : ℕ) (r : Report) : Type 0 where
-  pub first : (d : ℕ) → (r .missed ≡ At d) ↔ ((d ≤ ticks) × MissedAt y counts σ d × ((sooner : ℕ) → sooner < d → MissedAt y counts σ sooner → ⊥))
-  pub none : (r .missed ≡ Never) ↔ ((d : ℕ) → d ≤ ticks → MissedAt y counts σ d → ⊥)
-  pub idleToMiss : (d : ℕ) → r .missed ≡ At d → r .idle ≡ idleFor σ d
-  pub idleToEnd : r .missed ≡ Never → r .idle ≡ idleFor σ ticks
+pub record ReportIs (y : System) (counts : List ℕ) (σ : Schedule) (ticks idle : ℕ) (miss : FirstMiss) : Type 0 where
+  pub first : (d : ℕ) → (miss ≡ firstAt d) ↔ ((d ≤ ticks) × MissedAt y counts σ d × ((sooner : ℕ) → sooner < d → MissedAt y counts σ sooner → ⊥))
+  pub none : (miss ≡ allKept) ↔ ((d : ℕ) → d ≤ ticks → MissedAt y counts σ d → ⊥)
+  pub idleToMiss : (d : ℕ) → miss ≡ firstAt d → idle ≡ idleFor σ d
+  pub idleToEnd : miss ≡ allKept → idle ≡ idleFor σ ticks
 
 -- a report is that of the one schedule that the rule makes
-pub record RunMeans (y : System) (counts : List ℕ) (ticks : ℕ) (r : Report) : Type 0 where
+pub record RunMeans (y : System) (counts : List ℕ) (ticks idle : ℕ) (miss : FirstMiss) : Type 0 where
   pub schedule : Schedule
   pub follows : (τ : ℕ) → TickIs y counts schedule τ
-  pub reports : ReportIs y counts schedule ticks r
+  pub reports : ReportIs y counts schedule ticks idle miss
 
 -- What is refused
 
@@ -113,9 +111,9 @@ TooMuch counts ticks = (64 < instancesOn counts) ⊎ (65535 < ticks)
 
 -- What the call `run_engine` promises of every file, six counts and number of ticks: its whole answer; the order of its refusals; and what a report means
 pub record RunPromises (file : List ℕ) (counts : List ℕ) (ticks : ℕ) (r : RunAnswer) : Type 0 where
-  pub whole : r ≡ runEngine (readFile file) counts ticks
-  pub fileFirst : (n : ℕ) → readFile file ≡ unread n → r ≡ Refused (Input n)
-  pub then44 : (y : System) → readFile file ≡ opened y → (r ≡ Refused (Input 44)) ↔ NoPace y counts
-  pub then45 : (y : System) → readFile file ≡ opened y → (NoPace y counts → ⊥) → (r ≡ Refused (Input 45)) ↔ TooMuch counts ticks
-  pub else : (y : System) → readFile file ≡ opened y → (NoPace y counts → ⊥) → (TooMuch counts ticks → ⊥) → (report : Report) × (r ≡ Ran report)
-  pub means : (y : System) (report : Report) → readFile file ≡ opened y → r ≡ Ran report → RunMeans y counts ticks report
+  pub answers : runOutcomeOf r ≡ runEngine (readFile file) counts ticks
+  pub fileFirst : (n : ℕ) → readFile file ≡ unread n → runOutcomeOf r ≡ notRun fromInput n
+  pub then44 : (y : System) → readFile file ≡ opened y → (runOutcomeOf r ≡ notRun fromInput 44) ↔ NoPace y counts
+  pub then45 : (y : System) → readFile file ≡ opened y → (NoPace y counts → ⊥) → (runOutcomeOf r ≡ notRun fromInput 45) ↔ TooMuch counts ticks
+  pub else : (y : System) → readFile file ≡ opened y → (NoPace y counts → ⊥) → (TooMuch counts ticks → ⊥) → (idle : ℕ) × (miss : FirstMiss) × (runOutcomeOf r ≡ ran idle miss)
+  pub means : (y : System) (idle : ℕ) (miss : FirstMiss) → readFile file ≡ opened y → runOutcomeOf r ≡ ran idle miss → RunMeans y counts ticks idle miss

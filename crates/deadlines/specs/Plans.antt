@@ -10,15 +10,13 @@ use Rattle.partition.specs.Lent.{Lent}
 use Rattle.partition.specs.Plain.{EngineOf, recordNo}
 use Rattle.planner.specs.declared.EngineRecord.{EngineRecord}
 use Rattle.planner.specs.Demands.{Demand2, entryNo, ListHolds}
-use Rattle.runs.specs.declared.Missed.the-variants.{Never}
-use Rattle.runs.specs.declared.Report.{Report}
 use Rattle.deadlines.specs.declared.RunAnswer.{RunAnswer}
-use Rattle.deadlines.specs.declared.RunAnswer.the-variants.{Ran}
+use Rattle.deadlines.specs.Outcome.{FirstMiss, allKept, ran, runOutcomeOf}
 use Rattle.deadlines.specs.Meaning.{RunPromises}
 
 -- whatever a run of these counts on the file answers, at whatever number of ticks: a report says that none is missed
 abbrev pub NoneMissed : List ℕ → List ℕ → Type 0
-NoneMissed file counts = (ticks : ℕ) (r : RunAnswer) (report : Report) → RunPromises file counts ticks r → r ≡ Ran report → report .missed ≡ Never
+NoneMissed file counts = (ticks : ℕ) (r : RunAnswer) (idle : ℕ) (miss : FirstMiss) → RunPromises file counts ticks r → runOutcomeOf r ≡ ran idle miss → miss ≡ allKept
 
 -- of every load of a plan that was given
 abbrev pub PlanRuns : List ℕ → List EngineLoad → Type 0

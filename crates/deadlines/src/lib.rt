@@ -5,12 +5,14 @@ ghost use Prim.Native.Nat.{_+_, _≤_};
 ghost use mathlib.Core.List.{_++_};
 ghost use lib.ListN.{replicate, take, drop};
 ghost use Rattle.runs.specs.Run.{jobLimit};
+ghost use Rattle.deadlines.specs.Outcome.{runOutcomeOf};
 ghost use Rattle.deadlines.specs.Engine.{pacedType, allPaced, instances, jobOfType, jobsOf, runChecks, runOver};
 ghost use Rattle.deadlines.specs.Meaning.{RunPromises};
 ghost use Rattle.system.specs.Outcome.{checkedOf};
 use runs::JOB_LIMIT;
 use runs::Job;
 use runs::Report;
+use runs::job_of;
 use runs::run_of;
 use system::Answer;
 use system::Check;
@@ -68,19 +70,9 @@ fn job_of_type(t: TaskType) -> Job
 {
     let pace = t.pace;
     let Pace::Paced(c) = pace else {
-        return Job {
-            run: 0,
-            period: 0,
-            left: 0,
-            due: 0,
-        };
+        return job_of(0, 0);
     };
-    Job {
-        run: c.run,
-        period: c.period,
-        left: 0,
-        due: 0,
-    }
+    job_of(c.run, c.period)
 }
 
 // The jobs with `count` more of one kind from a place on.
@@ -100,13 +92,7 @@ pub fn jobs_of(types: [TaskType; TYPE_LIMIT], counts: [u16; TYPE_LIMIT]) -> [Job
     requires { ⌜ instances counts ≤ jobLimit ⌝ }
     ensures { λ r. ⌜ take (instances counts) r ≡ jobsOf types counts ⌝ }
 {
-    let none = Job {
-        run: 0,
-        period: 0,
-        left: 0,
-        due: 0,
-    };
-    let mut jobs = [none; JOB_LIMIT];
+    let mut jobs = [job_of(0, 0); JOB_LIMIT];
     let mut at: usize = 0;
     for i in 0..TYPE_LIMIT {
         let count = counts[i] as usize;
@@ -133,7 +119,7 @@ fn run_check(types: [TaskType; TYPE_LIMIT], counts: [u16; TYPE_LIMIT], ticks: us
 
 // The run of an engine of this system.
 pub fn run_over(y: System, counts: [u16; TYPE_LIMIT], ticks: usize) -> RunAnswer
-    ensures { λ r. ⌜ r ≡ runOver y counts ticks ⌝ }
+    ensures { λ r. ⌜ runOutcomeOf r ≡ runOver y counts ticks ⌝ }
 {
     let types = y.types;
     let check = run_check(types, counts, ticks);

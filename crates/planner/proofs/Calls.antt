@@ -34,7 +34,7 @@ use Rattle.planner.proofs.Front.{front, length-front-of, getD-front-new
 use Rattle.planner.proofs.Records.{length-recordsWith, getD-recordsWith, records-numbered}
 use Rattle.planner.proofs.Demands.{Known, length-loads-of, few-of, verdict-same}
 use Rattle.planner.proofs.Listed.{list-promises-for, list-written}
-use Rattle.planner.proofs.MixedPlans.{canMix, MixedCase, tooShort, tooSmall, noPlace, isPlanned, mixedCaseOf, few-mixed, plan-sixteen, plan-fewest, plan-six, then-table, then-list, as-lent, keeps-past, impossible, answered, within}
+use Rattle.planner.proofs.MixedPlans.{canMix, MixedCase, tooShort, tooSmall, noPlace, isPlanned, mixedCaseOf, few-mixed, plan-sixteen, plan-fewest, plan-six, plan-past, then-table, then-list, as-lent, keeps-past, impossible, answered, within}
 
 -- main: what the reader says of the card
 
@@ -135,6 +135,9 @@ module _ (y : System) (k : Kind) (card : TwoKindCard y k) (list : List EngineRec
                 (ap (λ (r : EngineRecord). r .number) is, ap (λ (r : EngineRecord). r .load) is, ap (λ (r : EngineRecord). length (r .load .counts)) is ∙ plan-six y k card can i low (omega (arith, few-mixed y k card can .0))),
           )
           );
+      zeroPast = λ n i t o low high past.
+          let same : used ≡ n = cc in
+          ap (λ (r : EngineRecord). getD (r .load .counts) (t - 1) 0) (entry-is i low (omega arith)) ∙ plan-past y k card can i t low past;
       laterKept = λ n i o h. (let same : used ≡ n = cc in getD-front-old used (i - 1) records list _ in-records (omega arith));
     }
 
@@ -144,6 +147,7 @@ refused-holds y k list s n = record {
   asLong = refl;
   inside = λ used o. (let z : _≡_ {A = ℕ} 0 1 = cc in absurd (omega arith));
   lists = λ used o. (let z : _≡_ {A = ℕ} 0 1 = cc in absurd (omega arith));
+  zeroPast = λ used i t o low high past. (let z : _≡_ {A = ℕ} 0 1 = cc in absurd (omega arith));
   laterKept = λ used i o h. refl;
 }
 

@@ -5,7 +5,7 @@ use mathlib.Core.List.{List, [], _∷_}
 use mathlib.Core.Logic.{_↔_, ⊎-elim}
 use native.Mathlib.Omega.{arith}
 use borrow.Author.Tests.{ltb-true, ltb-false}
-use lib.ListN.{length, getD, replicate, getD-replicate, List·getD-eq-default}
+use lib.ListN.{length, getD, replicate, length-replicate, getD-replicate, List·getD-eq-default}
 use lib.Dec.{ltb}
 use Rattle.system.specs.declared.System.{System}
 use Rattle.system.specs.Limits.{engineLimit, typeLimit}
@@ -14,15 +14,16 @@ use Rattle.system.specs.Outcome.{Source, accepted, refused, fromInput, outcomeO
 use Rattle.system.proofs.Laws.{Limits, read-limits}
 use Rattle.loads.specs.declared.EngineLoad.{EngineLoad}
 use Rattle.loads.specs.Load.{idleEngine}
-use Rattle.partition.specs.Assignment.{Assignment}
+use Rattle.partition.specs.Assignment.{Assignment, enginesTo}
 use Rattle.partition.specs.Lent.{Lent}
 use Rattle.partition.specs.Plain.{ceilingNo, LongEnough, TooShort, EngineOf, Partition, Impossible, recordNo, HoldsNothing, StandsOnFewest}
-use Rattle.partition.proofs.Lists.{true-or-false, getD-inside}
+use Rattle.partition.proofs.Lists.{true-or-false, getD-inside, length-enginesTo}
+use Rattle.kinds.proofs.Padded.{getD-numbersFrom}
 use Rattle.table.specs.Table.{filled}
 use Rattle.table.specs.Meaning.{FilledMeans, RecoveredBy}
 use Rattle.planner.specs.declared.Plan.{Plan}
 use Rattle.planner.specs.Plan.{planEngines, Verdict, planned, unplanned, verdictOf, usedEngines, planOutcome, plannedTypes, planLoads, planTable}
-use Rattle.planner.specs.Demands.{Demand1, Demand2, InOrder, Recovers, PlanPromises}
+use Rattle.planner.specs.Demands.{Demand1, Demand2, InOrder, Recovers, HandsOutNothing, PlanPromises}
 use Rattle.planner.proofs.Exits.{Plans}
 use Rattle.planner.proofs.Cases.{Case, tooShort, tooSmall, noPlace, isPlanned, caseOf, plan-fills, on-fewest, few-used, length-loads, six-counts, recovered-out, idle-load, not-short, verdict-any}
 
@@ -37,6 +38,23 @@ nothing-at loads e h =
     ⊎-elim (λ t. rw (getD-inside loads (e - 1) (record { time = 0; memory = 0; counts = [] }) idleEngine (ltb-true (e - 1) (length loads) t) ∙ h) idle-nothing)
     (λ t. rw (List·getD-eq-default loads (record { time = 0; memory = 0; counts = [] }) (ltb-false (e - 1) (length loads) t)) (record { time = refl; memory = refl; counts = λ n. refl }))
     (true-or-false (ltb (e - 1) (length loads)))
+
+-- ---- a refused plan hands out nothing
+
+pub hands-nothing : (r : Plan) → r .used ≡ 0 → r .typecount ≡ 0 → r .numbers ≡ enginesTo engineLimit → r .loads ≡ replicate engineLimit idleEngine → HandsOutNothing r
+hands-nothing r u t n l = record {
+  used = u;
+  types = t;
+  sixteen = rw (n, l) (length-enginesTo 16, length-replicate 16 idleEngine);
+  numbers = λ e low high. ap (λ (ns : List ℕ). getD ns (e - 1) 0) n ∙ getD-numbersFrom 1 16 (e - 1) (omega arith) ∙ omega arith;
+  sixCounts = λ e low high. ap (λ (ls : List EngineLoad). length (recordNo ls e .counts)) l ∙ ap (λ (w : EngineLoad). length (w .counts)) (getD-replicate 16 (e - 1) idleEngine (record { time = 0; memory = 0; counts = [] }) (omega arith));
+  loads = λ e. rw l (nothing-at (replicate engineLimit idleEngine) e (all-idle (e - 1)));
+}
+  where
+    all-idle : (i : ℕ) → getD (replicate engineLimit idleEngine) i idleEngine ≡ idleEngine
+    all-idle i =
+        ⊎-elim (λ h. getD-replicate engineLimit i idleEngine idleEngine (ltb-true i engineLimit h)) (λ h. List·getD-eq-default (replicate engineLimit idleEngine) idleEngine (ltb-false i engineLimit h))
+        (true-or-false (ltb i engineLimit))
 
 -- ---- a file that opens
 
@@ -183,6 +201,11 @@ module _ (table : Lent) (room : ℕ) where
     pub plan-recovers : Recovers x (planOutcome (verdictOf x table room)) (planLoads (verdictOf x table room)) (planTable x table room)
     plan-recovers y used e = rw e (recovers-on (known y e) (caseOf y (known y e) table room) used)
 
+-- where the verdict is a refusal
+nothing-of : (v : Verdict) (s : Source) (n : ℕ) → planOutcome v ≡ refused s n → (r : Plan) → r .used ≡ usedEngines v → r .typecount ≡ plannedTypes v → r .numbers ≡ enginesTo engineLimit → r .loads ≡ planLoads v → HandsOutNothing r
+nothing-of (planned y) s n o r u t e l = let z : _≡_ {A = ℕ} 0 1 = cc in absurd (omega arith)
+nothing-of (unplanned q m) s n o r u t e l = hands-nothing r u t e l
+
 -- ---- so a call whose result is the one defined keeps the demands
 
 -- a plan has a load for each engine that a system can have
@@ -211,6 +234,7 @@ promises-of file table room r after p = record {
   recovers = rw (p .answer, p .loads, p .left) (plan-recovers table room x known);
   usedSame = λ used o. p .used ∙ answer-used (verdictOf x table room) used (sym (p .answer) ∙ o);
   typesSame = λ y used e o. p .typecount ∙ types y used e (sym (p .answer) ∙ o);
+  refusedNothing = λ s n o. nothing-of (verdictOf x table room) s n (sym (p .answer) ∙ o) r (p .used) (p .typecount) (p .numbers) (p .loads);
 }
   where
     x : Reading

@@ -91,6 +91,8 @@ module _ (list : List EngineRecord) (y : System) (limits : Limits y) (enough : y
   lists-plan = record {
     mapping = χ;
     partition = on-fewest y limits can .stands .partition;
+    uses = on-fewest y limits can .uses;
+    fewest = on-fewest y limits can .fewest;
     number = λ e low high. ap (λ (r : EngineRecord). r .number) (entry-is e low high);
     load = λ e low high. subst (λ (r : EngineRecord). RecordIs y χ e (r .load)) (sym (entry-is e low high)) (record-is e low (used-up-to e high));
     sixCounts = λ e low high. ap (λ (r : EngineRecord). length (r .load .counts)) (entry-is e low high) ∙ six-counts y limits can e low (used-up-to e high);

@@ -6,10 +6,10 @@ use mathlib.Core.List.{List, [], _∷_}
 use mathlib.Core.Bool.{Bool, true, false, true≢false}
 use mathlib.Core.Logic.{_↔_, ⊎-elim}
 use native.Mathlib.Omega.{arith}
-use borrow.Author.Tests.{leb-true, leb-false}
-use lib.ListN.{length, getD, replicate, length-append, length-replicate, getD-replicate}
+use borrow.Author.Tests.{leb-true, leb-false, ltb-true, ltb-false}
+use lib.ListN.{length, getD, replicate, length-append, length-replicate, getD-replicate, List·getD-eq-default}
 use lib.Seq.{getD-append-add}
-use lib.Dec.{leb}
+use lib.Dec.{leb, ltb}
 use Rattle.system.specs.declared.Kind.{Kind}
 use Rattle.system.specs.declared.Refusal.{Refusal}
 use Rattle.system.specs.declared.Refusal.the-variants.{Input, State}
@@ -26,10 +26,10 @@ use Rattle.loads.specs.Load.{idleEngine}
 use Rattle.partition.specs.Assignment.{Assignment}
 use Rattle.partition.specs.Kinds.{mixedPlaceable, usedFirst, usedSecond, mixedNumbers, mixedLoads}
 use Rattle.partition.specs.Lent.{Lent}
-use Rattle.partition.specs.Plain.{ceilingNo, LongEnough, TooShort, recordNo}
+use Rattle.partition.specs.Plain.{ceilingNo, LongEnough, TooShort, recordNo, HoldsNothing}
 use Rattle.partition.specs.PlainKinds.{MixedPartition, MixedImpossible, MixedOnFewest}
 use Rattle.partition.proofs.Lists.{true-or-false, length-enginesTo}
-use Rattle.partition.proofs.PlainKinds.{mixed-within, length-mixedNumbers, length-mixedLoads, mixed-on-fewest, mixed-six, mixed-impossible}
+use Rattle.partition.proofs.PlainKinds.{mixed-within, length-mixedNumbers, length-mixedLoads, mixed-on-fewest, mixed-six, mixed-impossible, mixed-past}
 use Rattle.table.specs.Table.{longEnough, tableCheck, filledTo}
 use Rattle.table.specs.Meaning.{KeptPast}
 use Rattle.table.proofs.Room.{long-six, short-six}
@@ -39,9 +39,11 @@ use Rattle.kinds.specs.Mixing.{padded, mixedPlacement, MayMix}
 use Rattle.planner.specs.declared.Plan.{Plan}
 use Rattle.planner.specs.Plan.{tableLeft}
 use Rattle.planner.specs.Mixed.{mixedListCheck, mixedLentCheck, mixedPlaceCheck, mixedChecks, mixedPlan, mixedOutcome, mixedUsed, mixedTypes, numbersMixed, loadsMixed, mixedTable}
+use Rattle.planner.specs.Demands.{HandsOutNothing}
 use Rattle.planner.specs.MixedDemands.{CardPlans, MixedPromises}
 use Rattle.planner.specs.Inner.{refusedPlan, TwoKindCard, MixedPlans}
 use Rattle.planner.proofs.Cases.{not-short}
+use Rattle.planner.proofs.Demands.{nothing-at, hands-nothing}
 
 -- all instances can be placed on the engines of both kinds
 abbrev pub canMix : System → Kind → Bool
@@ -66,6 +68,11 @@ past-padded d z l i low high =
     ap (λ (j : ℕ). getD (padded d l) j z) (sym at)
     ∙ getD-append-add l (replicate (engineLimit - length l) d) (i - length l) z
     ∙ getD-replicate (engineLimit - length l) (i - length l) d z (omega arith)
+
+-- whichever place past them is asked, also one past the end
+idle-padded : {A : Type 0} (d : A) (l : List A) (i : ℕ) → length l ≤ engineLimit → length l ≤ i → getD (padded d l) i d ≡ d
+idle-padded d l i few low =
+    ⊎-elim (λ h. past-padded d d l i low (ltb-true i engineLimit h)) (λ h. List·getD-eq-default (padded d l) d (omega (arith, length-padded d l few, ltb-false i engineLimit h))) (true-or-false (ltb i engineLimit))
 
 -- intermediate: a plan that is given
 
@@ -109,6 +116,25 @@ module _ (y : System) (k : Kind) (card : TwoKindCard y k) (can : canMix y k ≡ 
 
   pub plan-six : (i : ℕ) → 1 ≤ i → i ≤ engineLimit → length (recordNo (mixedPlan y k .loads) i .counts) ≡ 6
   plan-six i low high = rw plan-is (six-at i low high)
+
+  -- past the used engines nothing stands
+  plan-idle : (i : ℕ) → mixedPlan y k .used < i → HoldsNothing (recordNo (mixedPlan y k .loads) i)
+  plan-idle i h =
+      let past : mixedTotal y k < i = rw plan-is at h in
+      nothing-at (mixedPlan y k .loads) i
+      (ap (λ (m : Mixed). getD (m .loads) (i - 1) idleEngine) plan-is
+      ∙ idle-padded idleEngine (mixedLoads (firstOf y) (secondOf y k)) (i - 1) loads-few (omega (arith, length-mixedLoads y k (card .limits) (card .second) can)))
+
+  plan-unnumbered : (i : ℕ) → mixedPlan y k .used < i → getD (mixedPlan y k .numbers) (i - 1) 0 ≡ 0
+  plan-unnumbered i h =
+      let past : mixedTotal y k < i = rw plan-is at h in
+      ap (λ (m : Mixed). getD (m .numbers) (i - 1) 0) plan-is
+      ∙ idle-padded 0 (mixedNumbers (firstOf y) (secondOf y k)) (i - 1) numbers-few (omega (arith, length-mixedNumbers y k (card .limits) (card .second) can))
+
+  -- a load of no engine has no instance of a type past k either
+  pub plan-past : (i t : ℕ) → 1 ≤ i → y .typecount < t → getD (recordNo (mixedPlan y k .loads) i .counts) (t - 1) 0 ≡ 0
+  plan-past i t low past =
+      ⊎-elim (λ h. mixed-past y k _ _ _ (card .limits) (plan-fewest) i t low (leb-true i (mixedPlan y k .used) h) past) (λ h. plan-idle i (leb-false i (mixedPlan y k .used) h) .counts t) (true-or-false (leb i (mixedPlan y k .used)))
 
 -- main: the verdict and the table after it, by cases
 
@@ -193,7 +219,13 @@ module _ {y : System} {k : Kind} {table : Lent} {room : ℕ} (card : TwoKindCard
   within (noPlace long enough none) = (omega arith, omega arith)
   within (isPlanned long enough can) = let few = few-mixed y k card can in (few .0, omega (arith, few .1, enough))
 
--- main: a plan that is the one defined keeps the order of refusals and both demands
+-- a refused plan hands out nothing
+mixed-nothing : (y : System) (k : Kind) (c : Checked) (s : Source) (n : ℕ) → mixedOutcome y k c ≡ refused s n → (r : Plan) → r .used ≡ mixedUsed y k c → r .typecount ≡ mixedTypes y c → r .numbers ≡ numbersMixed y k c
+    → r .loads ≡ loadsMixed y k c → HandsOutNothing r
+mixed-nothing y k passes s n o r u t e l = let z : _≡_ {A = ℕ} 0 1 = cc in absurd (omega arith)
+mixed-nothing y k (fails q m) s n o r u t e l = hands-nothing r u t e l
+
+-- main: a plan that is the one defined keeps the order of refusals and both demands, and hands out nothing else
 
 pub mixed-promises : (y : System) (k : Kind) → TwoKindCard y k → (table : Lent) (room : ℕ) (r : Plan) (after : Lent) → CardPlans (mixed y k) table room r after → MixedPromises y k table room r after
 mixed-promises y k card table room r after p = record {
@@ -210,6 +242,14 @@ mixed-promises y k card table room r after p = record {
       ap (λ (l : List EngineLoad). length (recordNo l i .counts)) (p .places)
       ∙ when-given card (λ used own types numbers loads. length (recordNo loads i .counts) ≡ 6) (λ can. plan-six y k card can i low high) case used (sym (p .answers) ∙ o);
   sixteen = rw (p .numbers, p .places) (sixteen card case);
+  zeroPast = λ used i t o low past.
+      ap (λ (l : List EngineLoad). getD (recordNo l i .counts) (t - 1) 0) (p .places)
+      ∙ when-given card (λ used own types numbers loads. getD (recordNo loads i .counts) (t - 1) 0 ≡ 0) (λ can. plan-past y k card can i t low past) case used (sym (p .answers) ∙ o);
+  idlePast = λ used i o.
+      rw (p .places) (when-given card (λ used own types numbers loads. used < i → HoldsNothing (recordNo loads i)) (λ can. plan-idle y k card can i) case used (sym (p .answers) ∙ o));
+  numbersPast = λ used i o.
+      rw (p .numbers) (when-given card (λ used own types numbers loads. used < i → getD numbers (i - 1) 0 ≡ 0) (λ can. plan-unnumbered y k card can i) case used (sym (p .answers) ∙ o));
+  refusedNothing = λ s n o. mixed-nothing y k (mixedChecks y k table room) s n (sym (p .answers) ∙ o) r (p .uses) (p .counts) (p .numbers) (p .places);
 }
   where
     case : MixedCase y k table room (mixedChecks y k table room) (mixedTable y k table room)

@@ -13,7 +13,7 @@ use Rattle.loads.specs.declared.EngineLoad.{EngineLoad}
 use Rattle.partition.specs.Assignment.{Assignment, enginesTo}
 use Rattle.partition.specs.Lent.{Lent}
 use Rattle.partition.specs.OwnWords.{overInstances}
-use Rattle.partition.specs.Plain.{ceilingNo, LongEnough, TooShort, EngineOf, placesNo, Partition, Impossible, RecordIs, recordNo, HoldsNothing, StandsOnFewest}
+use Rattle.partition.specs.Plain.{ceilingNo, LongEnough, TooShort, EngineOf, placesNo, Partition, Impossible, usedTo, RecordIs, recordNo, HoldsNothing, StandsOnFewest}
 use Rattle.table.specs.Meaning.{FilledMeans, RecoveredBy}
 use Rattle.planner.specs.declared.Plan.{Plan}
 use Rattle.planner.specs.declared.EngineRecord.{EngineRecord}
@@ -48,6 +48,15 @@ abbrev pub Recovers : Reading → Outcome → List EngineLoad → Lent → Type 
 Recovers x outcome loads after =
     (y : System) (used : ℕ) → x ≡ opened y → outcome ≡ accepted (used ∷ []) → RecoveredBy y after used (ceilingNo y) (λ (e t : ℕ). getD (recordNo loads e .counts) (t - 1) 0)
 
+-- what a refused plan hands out: no used engine, no type, the numbers 1 to 16, and 16 loads of six counts, none of which holds anything
+pub record HandsOutNothing (r : Plan) : Type 0 where
+  pub used : r .used ≡ 0
+  pub types : r .typecount ≡ 0
+  pub sixteen : (length (r .numbers) ≡ 16) × (length (r .loads) ≡ 16)
+  pub numbers : (e : ℕ) → 1 ≤ e → e ≤ 16 → getD (r .numbers) (e - 1) 0 ≡ e
+  pub sixCounts : (e : ℕ) → 1 ≤ e → e ≤ 16 → length (recordNo (r .loads) e .counts) ≡ 6
+  pub loads : (e : ℕ) → HoldsNothing (recordNo (r .loads) e)
+
 -- what the call `plan_of` promises: its whole result and the table; with that demands 1 and 2, and that the two other numbers of a given plan are those of the answer and of the file
 pub record PlanPromises (x : Reading) (table : Lent) (room : ℕ) (r : Plan) (after : Lent) : Type 0 where
   pub answers : outcomeOf (r .answer) ≡ planOutcome (verdictOf x table room)
@@ -63,16 +72,19 @@ pub record PlanPromises (x : Reading) (table : Lent) (room : ℕ) (r : Plan) (af
   pub recovers : Recovers x (outcomeOf (r .answer)) (r .loads) after
   pub usedSame : (used : ℕ) → outcomeOf (r .answer) ≡ accepted (used ∷ []) → r .used ≡ used
   pub typesSame : (y : System) (used : ℕ) → x ≡ opened y → outcomeOf (r .answer) ≡ accepted (used ∷ []) → r .typecount ≡ y .typecount
+  pub refusedNothing : (s : Source) (n : ℕ) → outcomeOf (r .answer) ≡ refused s n → HandsOutNothing r
 
 -- the record of engine e in a list, counted from 1
 abbrev pub entryNo : List EngineRecord → ℕ → EngineRecord
 entryNo list e = getD list (e - 1) (record { number = 0; load = record { time = 0; memory = 0; counts = [] } })
 
--- the first `used` records of a list are a partition of the n(t) instances of each type: each has its engine's number, six counts, 0 past k,
+-- the first `used` records of a list are a partition of the n(t) instances of each type on `used` engines, and on the fewest: each has its engine's number, six counts, 0 past k,
 -- and with these its time and memory what the mapping sends to that engine. Nothing is sent to a later engine
 pub record ListsPlan (y : System) (used : ℕ) (list : List EngineRecord) : Type 0 where
   pub mapping : Assignment
   pub partition : Partition y (EngineOf y) (ceilingNo y) mapping
+  pub uses : usedTo (y .engines) mapping ≡ used
+  pub fewest : (χ : Assignment) → Partition y (EngineOf y) (ceilingNo y) χ → used ≤ usedTo (y .engines) χ
   pub number : (e : ℕ) → 1 ≤ e → e ≤ used → entryNo list e .number ≡ e
   pub load : (e : ℕ) → 1 ≤ e → e ≤ used → RecordIs y mapping e (entryNo list e .load)
   pub sixCounts : (e : ℕ) → 1 ≤ e → e ≤ used → length (entryNo list e .load .counts) ≡ 6

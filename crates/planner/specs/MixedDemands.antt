@@ -13,13 +13,13 @@ use Rattle.system.specs.Outcome.{Outcome, Source, accepted, refused, fromInput,
 use Rattle.loads.specs.declared.EngineLoad.{EngineLoad}
 use Rattle.partition.specs.Assignment.{Assignment}
 use Rattle.partition.specs.Lent.{Lent}
-use Rattle.partition.specs.Plain.{ceilingNo, LongEnough, TooShort}
+use Rattle.partition.specs.Plain.{ceilingNo, LongEnough, TooShort, recordNo, HoldsNothing}
 use Rattle.partition.specs.PlainKinds.{MixedPartition, MixedImpossible, MixedOnFewest}
 use Rattle.table.specs.Meaning.{KeptPast}
 use Rattle.planner.specs.declared.Plan.{Plan}
 use Rattle.planner.specs.declared.EngineRecord.{EngineRecord}
 use Rattle.planner.specs.Mixed.{cardOutcome, cardUsed, cardTypes, cardNumbers, cardLoads, cardTable, cardList}
-use Rattle.planner.specs.Demands.{PlanPromises, entryNo, ListPromises}
+use Rattle.planner.specs.Demands.{HandsOutNothing, PlanPromises, entryNo, ListPromises}
 
 -- "Plan continues 11, 15, 12", of two kinds: 11 for a part of the table shorter than the columns, then 15 for "a list shorter than their number"
 pub record MixedOrder (y : System) (k : Kind) (table : Lent) (room : ℕ) (outcome : Outcome) : Type 0 where
@@ -47,15 +47,20 @@ pub record CardPlans (c : Card) (table : Lent) (room : ℕ) (r : Plan) (after : 
   pub places : r .loads ≡ cardLoads c table room
   pub leavesTable : after ≡ cardTable c table room
 
--- what a plan of two kinds promises besides: the order of its refusals and both demands
+-- what a plan of two kinds promises besides: the order of its refusals, both demands, and what it hands out past the used engines and where it is refused
 pub record MixedPromises (y : System) (k : Kind) (table : Lent) (room : ℕ) (r : Plan) (after : Lent) : Type 0 where
   pub order : MixedOrder y k table room (outcomeOf (r .answer))
   pub demand1 : MixedTableKept y table (outcomeOf (r .answer)) after
   pub demand2 : MixedDemand2 y k table room (outcomeOf (r .answer)) (r .numbers) (r .loads)
   pub usedSame : (used : ℕ) → outcomeOf (r .answer) ≡ accepted (used ∷ []) → r .used ≡ used
   pub typesSame : (used : ℕ) → outcomeOf (r .answer) ≡ accepted (used ∷ []) → r .typecount ≡ y .typecount
-  pub sixCounts : (used i : ℕ) → outcomeOf (r .answer) ≡ accepted (used ∷ []) → 1 ≤ i → i ≤ 16 → length (getD (r .loads) (i - 1) (record { time = 0; memory = 0; counts = [] }) .counts) ≡ 6
+  pub sixCounts : (used i : ℕ) → outcomeOf (r .answer) ≡ accepted (used ∷ []) → 1 ≤ i → i ≤ 16 → length (recordNo (r .loads) i .counts) ≡ 6
   pub sixteen : (length (r .numbers) ≡ 16) × (length (r .loads) ≡ 16)
+  -- a count of a type past k is 0; and past the used engines there is no number, and no load that holds anything
+  pub zeroPast : (used i t : ℕ) → outcomeOf (r .answer) ≡ accepted (used ∷ []) → 1 ≤ i → y .typecount < t → getD (recordNo (r .loads) i .counts) (t - 1) 0 ≡ 0
+  pub idlePast : (used i : ℕ) → outcomeOf (r .answer) ≡ accepted (used ∷ []) → used < i → HoldsNothing (recordNo (r .loads) i)
+  pub numbersPast : (used i : ℕ) → outcomeOf (r .answer) ≡ accepted (used ∷ []) → used < i → getD (r .numbers) (i - 1) 0 ≡ 0
+  pub refusedNothing : (s : Source) (n : ℕ) → outcomeOf (r .answer) ≡ refused s n → HandsOutNothing r
 
 -- what the call `plan_of` promises of any card
 pub record PlanCall (c : Card) (table : Lent) (room : ℕ) (r : Plan) (after : Lent) : Type 0 where
@@ -74,6 +79,7 @@ pub record MixedListHolds (y : System) (k : Kind) (list : List EngineRecord) (ou
   pub inside : (used : ℕ) → outcome ≡ accepted (used ∷ []) → used ≤ length list
   pub lists : (used : ℕ) → outcome ≡ accepted (used ∷ []) → (numbers : List ℕ) × (loads : List EngineLoad) × MixedOnFewest y k (ceilingNo y) numbers loads used
       × ((i : ℕ) → 1 ≤ i → i ≤ used → (entryNo after i .number ≡ getD numbers (i - 1) 0) × (entryNo after i .load ≡ getD loads (i - 1) (record { time = 0; memory = 0; counts = [] })) × (length (entryNo after i .load .counts) ≡ 6))
+  pub zeroPast : (used i t : ℕ) → outcome ≡ accepted (used ∷ []) → 1 ≤ i → i ≤ used → y .typecount < t → getD (entryNo after i .load .counts) (t - 1) 0 ≡ 0
   pub laterKept : (used i : ℕ) → outcome ≡ accepted (used ∷ []) → used < i → entryNo after i ≡ entryNo list i
 
 pub record MixedListPromises (y : System) (k : Kind) (table : Lent) (list : List EngineRecord) (answer : Answer) (tableAfter : Lent) (listAfter : List EngineRecord) : Type 0 where

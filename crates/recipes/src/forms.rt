@@ -6,25 +6,25 @@ use crate::text::NUMBERS;
 use making::Recipe;
 
 // The largest number of 8 bits, and of 32.
-const EIGHT_BITS: u64 = 255;
+const MOST_8: u64 = 255;
 
-const THIRTY_TWO_BITS: u64 = 4294967295;
+const MOST_32: u64 = 4294967295;
 
 // A number as one of 8 bits: 255 where it is larger.
 fn eight(n: u64) -> u8
     ensures { λ r. ⌜ r ≡ min n 255 ⌝ }
 {
-    if n < EIGHT_BITS { n as u8 } else { 255 }
+    if n < MOST_8 { n as u8 } else { MOST_8 as u8 }
 }
 
 // A number as one of 32 bits: 4,294,967,295 where it is larger.
 fn thirty_two(n: u64) -> u32
     ensures { λ r. ⌜ r ≡ min n 4294967295 ⌝ }
 {
-    if n < THIRTY_TWO_BITS {
+    if n < MOST_32 {
         n as u32
     } else {
-        4294967295
+        MOST_32 as u32
     }
 }
 

@@ -4,7 +4,7 @@ ghost use Prim.Native.Nat.{_≤_, _<_};
 ghost use mathlib.Core.Bool.{not, _&&_};
 ghost use lib.ListN.{getD, take};
 ghost use Rattle.runs.specs.declared.Missed.the-variants.{At};
-ghost use Rattle.runs.specs.Run.{jobLimit, startedJob, lateJob, freshJob, arrivedJob, workedJob, started, late, arrived, pending, dueBefore, chosen, workedAt, worked, idleAt, runFrom, runOf};
+ghost use Rattle.runs.specs.Run.{jobOf, jobLimit, lateJob, freshJob, arrivedJob, workedJob, started, late, arrived, pending, dueBefore, chosen, workedAt, worked, idleAt, runFrom, runOf};
 
 // The most jobs on an engine.
 pub const JOB_LIMIT: usize = 64;
@@ -47,13 +47,13 @@ fn missed_at(idle: u32, now: u32) -> Report
     }
 }
 
-// A job before the first tick.
-fn started_job(j: Job) -> Job
-    ensures { λ r. ⌜ r ≡ startedJob j ⌝ }
+// An instance before its first job: nothing is left to do, and one arrives at 0. With run time and period 0 it is no instance.
+pub fn job_of(run: u32, period: u32) -> Job
+    ensures { λ r. ⌜ r ≡ jobOf run period 0 0 ⌝ }
 {
     Job {
-        run: j.run,
-        period: j.period,
+        run: run,
+        period: period,
         left: 0,
         due: 0,
     }
@@ -109,7 +109,7 @@ pub fn started(jobs: [Job; JOB_LIMIT], count: usize) -> [Job; JOB_LIMIT]
     let mut out = jobs;
     for i in 0..count {
         let j = jobs[i];
-        out[i] = started_job(j);
+        out[i] = job_of(j.run, j.period);
     }
     out
 }

@@ -6,6 +6,7 @@ pub mod Fields
 pub mod Prefix
 pub mod Order
 pub mod Later
+pub mod Begins
 mod Steps
 mod Goes
 pub mod Cards

@@ -6,8 +6,8 @@ use native.Mathlib.Nat.{le-refl}
 use mathlib.Core.List.{List, [], _∷_}
 use mathlib.Core.Bool.{Bool, true, false, not, cond, _||_}
 use mathlib.Core.Path.{_≡_, refl, sym, ap, _∙_}
-use mathlib.Core.Logic.{⊎-elim}
-use borrow.Author.Tests.{leb-true, le-leb, lt-leb, ne-eqb}
+use mathlib.Core.Logic.{_⊎_, ⊎-elim}
+use borrow.Author.Tests.{leb-true, leb-false, le-leb, lt-leb, ne-eqb}
 use lib.ListN.{length, take, drop, length-take, length-drop}
 use lib.Seq.{take-nil}
 use lib.Dec.{leb, eqb}
@@ -21,6 +21,7 @@ use Rattle.system.specs.Limits.{orElse, columnLimit, columnsOf, isOneKin
 use Rattle.system.specs.Rules.{platformRule, fieldRules, ruleOf, follows, mayFollow, headSize}
 use Rattle.system.specs.Layout.{Reading, opened, unread, byteAt, word2, fieldSize, headedField, wholeField, bodyPart, platformFrom}
 use Rattle.system.specs.Layout.{unlessFault, ruledHead, headOf, bodyOf, ruledField, fieldOf, endOf, afterField, fieldsFrom, readCard, readFile}
+use Rattle.system.specs.Fields.{fourBytes, FirstField}
 use Rattle.system.proofs.Laws.{headOf-ruled, fieldsFrom-nil, card-refused, Mixed, file-refused}
 use Rattle.system.proofs.Prefix.{Goes, field-goes, drop-take, byte-take, word-take, part-take}
 
@@ -247,3 +248,45 @@ cut-field rest short = rw (starts 0 10 rest 1, lt-leb 13 (length (1 ∷ 0 ∷ 10
 
 pub first-body-cut : (rest : List ℕ) → length rest < 10 → readCard (1 ∷ 0 ∷ 10 ∷ rest) ≡ unread 1
 first-body-cut rest short = first-stops 1 (0 ∷ 10 ∷ rest) 1 (cut-field rest short)
+
+-- all of them, as `Fields` of the specs says it
+
+no-platform-at : (t h l : ℕ) (rest : List ℕ) → 2 ≤ t → t ≤ 7 → readCard (t ∷ h ∷ l ∷ rest) ≡ unread 3
+no-platform-at t h l rest low high = at (t - 2) (omega arith) (omega arith)
+  where
+    p : (readCard (2 ∷ h ∷ l ∷ rest) ≡ unread 3) × (readCard (3 ∷ h ∷ l ∷ rest) ≡ unread 3) × (readCard (4 ∷ h ∷ l ∷ rest) ≡ unread 3)
+        × (readCard (5 ∷ h ∷ l ∷ rest) ≡ unread 3) × (readCard (6 ∷ h ∷ l ∷ rest) ≡ unread 3) × (readCard (7 ∷ h ∷ l ∷ rest) ≡ unread 3)
+    p = first-no-platform h l rest
+
+    at : (i : ℕ) → t ≡ 2 + i → i ≤ 5 → readCard (t ∷ h ∷ l ∷ rest) ≡ unread 3
+    at zero e few = rw e (p .0)
+    at (suc zero) e few = rw e (p .1)
+    at (suc (suc zero)) e few = rw e (p .2)
+    at (suc (suc (suc zero))) e few = rw e (p .3)
+    at (suc (suc (suc (suc zero)))) e few = rw e (p .4)
+    at (suc (suc (suc (suc (suc zero))))) e few = rw e (p .5)
+    at (suc (suc (suc (suc (suc (suc i)))))) e few = absurd (omega arith)
+
+pub first-refusals : FirstField
+first-refusals =
+    record {
+      one-byte = first-one-byte;
+      two-bytes = first-two-bytes;
+      no-tag = λ t h l rest. first-no-tag h l rest t;
+      no-platform = no-platform-at;
+      platform-length = first-length;
+      platform-cut = first-body-cut;
+      engines = λ m r u1 u2 u3 u4 s1 s2 s3 s4 rest. ⊎-elim (five-none m r u1 u2 u3 u4 s1 s2 s3 s4 rest) (five-many m r u1 u2 u3 u4 s1 s2 s3 s4 rest);
+      rule = then-six;
+      size = eight;
+    }
+  where
+    eight : (m r u1 u2 u3 u4 s1 s2 s3 s4 : ℕ) (rest : List ℕ) → 1 ≤ m → m ≤ 16 → r ≤ 1 → (1000000 < fourBytes u1 u2 u3 u4) ⊎ (1000000 < fourBytes s1 s2 s3 s4)
+        → readCard (platformFile m r u1 u2 u3 u4 s1 s2 s3 s4 rest) ≡ unread 8
+    eight m r u1 u2 u3 u4 s1 s2 s3 s4 rest low high one large = small (leb (fourBytes u1 u2 u3 u4) 1000000) refl
+      where
+        small : (b : Bool) → leb (fourBytes u1 u2 u3 u4) 1000000 ≡ b → readCard (platformFile m r u1 u2 u3 u4 s1 s2 s3 s4 rest) ≡ unread 8
+        small false e = then-eight-time m r u1 u2 u3 u4 s1 s2 s3 s4 rest low high one (leb-false (fourBytes u1 u2 u3 u4) 1000000 e)
+        small true e =
+            let time = leb-true (fourBytes u1 u2 u3 u4) 1000000 e in
+            then-eight-memory m r u1 u2 u3 u4 s1 s2 s3 s4 rest low high one time (⊎-elim (λ over. absurd (omega arith)) (λ over. over) large)

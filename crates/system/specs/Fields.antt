@@ -1,11 +1,13 @@
--- "Fields are judged in file order; in one field: start cut (1), 2, 3, 4, body cut (1), 7, then 5, 6, 8. At the end 9, 10", 31 "after 8" (request 2026-04), 43 "after 31" (2026-14), and 41 "after 9" (2026-13): of each field after the first, byte by byte, and of the file's end.
+-- "Fields are judged in file order; in one field: start cut (1), 2, 3, 4, body cut (1), 7, then 5, 6, 8. At the end 9, 10", 31 "after 8" (request 2026-04), 43 "after 31" (2026-14), and 41 "after 9" (2026-13): of the first field and of each later one, byte by byte, and of the file's end; how wide the beginnings are of which this is said; and the field step.
 use Prim.Native.Nat.{ℕ, suc, _+_, _*_, _≤_, _<_}
 use mathlib.Core.List.{List, [], _∷_, _++_}
+use mathlib.Core.Bool.{true, false}
 use mathlib.Core.Path.{_≡_}
 use mathlib.Core.Logic.{_⊎_}
 use lib.ListN.{length}
 use Rattle.system.specs.declared.System.{System}
-use Rattle.system.specs.Layout.{opened, unread, readCard, readFile}
+use Rattle.system.specs.Layout.{Reading, opened, unread, fieldAt, readCard, readFile}
+use Rattle.system.specs.Inner.{partOf}
 
 -- two and four bytes as a number, most significant first
 abbrev pub twoBytes : ℕ → ℕ → ℕ
@@ -76,6 +78,19 @@ pub data Beginning : List ℕ → ℕ → ℕ → ℕ → ℕ → ℕ → ℕ �
   then-costs : (p : List ℕ) (last k c m kinds w whole u u1 u2 u3 u4 s1 s2 s3 s4 : ℕ) → Beginning p last k c m kinds w whole u → MayCosts last → fourBytes u1 u2 u3 u4 ≤ 1000000 → fourBytes s1 s2 s3 s4 ≤ 1000000
       → Beginning (p ++ costsField u1 u2 u3 u4 s1 s2 s3 s4) 7 k c m kinds (suc w) whole u
 
+-- the first field: where it is no platform that passes it is refused, whatever follows it. The order is that of the lines, as below
+pub record FirstField : Type 0 where
+  pub one-byte : (a : ℕ) → readCard (a ∷ []) ≡ unread 1
+  pub two-bytes : (a b : ℕ) → readCard (a ∷ b ∷ []) ≡ unread 1
+  pub no-tag : (t h l : ℕ) (rest : List ℕ) → (t ≡ 1 → ⊥) → (t ≡ 2 → ⊥) → (t ≡ 3 → ⊥) → (t ≡ 4 → ⊥) → (t ≡ 5 → ⊥) → (t ≡ 6 → ⊥) → (t ≡ 7 → ⊥) → readCard (t ∷ h ∷ l ∷ rest) ≡ unread 2
+  pub no-platform : (t h l : ℕ) (rest : List ℕ) → 2 ≤ t → t ≤ 7 → readCard (t ∷ h ∷ l ∷ rest) ≡ unread 3
+  pub platform-length : (h l : ℕ) (rest : List ℕ) → (twoBytes h l ≡ 10 → ⊥) → readCard (1 ∷ h ∷ l ∷ rest) ≡ unread 4
+  pub platform-cut : (rest : List ℕ) → length rest < 10 → readCard (1 ∷ 0 ∷ 10 ∷ rest) ≡ unread 1
+  pub engines : (m r u1 u2 u3 u4 s1 s2 s3 s4 : ℕ) (rest : List ℕ) → (m ≡ 0) ⊎ (16 < m) → readCard (platformField m r u1 u2 u3 u4 s1 s2 s3 s4 ++ rest) ≡ unread 5
+  pub rule : (m r u1 u2 u3 u4 s1 s2 s3 s4 : ℕ) (rest : List ℕ) → 1 ≤ m → m ≤ 16 → 1 < r → readCard (platformField m r u1 u2 u3 u4 s1 s2 s3 s4 ++ rest) ≡ unread 6
+  pub size : (m r u1 u2 u3 u4 s1 s2 s3 s4 : ℕ) (rest : List ℕ) → 1 ≤ m → m ≤ 16 → r ≤ 1 → (1000000 < fourBytes u1 u2 u3 u4) ⊎ (1000000 < fourBytes s1 s2 s3 s4)
+      → readCard (platformField m r u1 u2 u3 u4 s1 s2 s3 s4 ++ rest) ≡ unread 8
+
 -- what comes next and does not pass is refused, whatever follows it. The order is that of the lines: each has as premises what the lines before it let through
 pub record NextField (p : List ℕ) (last k m whole u : ℕ) : Type 0 where
   pub one-byte : (a : ℕ) → readCard (p ++ a ∷ []) ≡ unread 1
@@ -124,10 +139,55 @@ pub record FileEnd (p : List ℕ) (k c kinds w : ℕ) : Type 0 where
   pub columns-over : 1 ≤ k → AllOrNone k kinds w → 4096 < c → readCard p ≡ unread 10
   pub opens : 1 ≤ k → AllOrNone k kinds w → c ≤ 4096 → (y : System) × (readCard p ≡ opened y) × (kinds ≡ 1 → readFile p ≡ opened y) × (kinds ≡ 2 → readFile p ≡ unread 42)
 
--- with the laws of the first field (`Order`) every file's refusal is told: it is empty, or its first field is refused, or it has such a beginning.
+-- with the laws of the first field (`FirstField`) every file's refusal is told: it is empty, or its first field is refused, or it has such a beginning (`Beginnings`).
 -- A refusal is the same whether two kinds of engine are wanted or one
 pub record LaterFields : Type 0 where
   pub empty-file : readCard [] ≡ unread 9
   pub next-field : (p : List ℕ) (last k c m kinds w whole u : ℕ) → Beginning p last k c m kinds w whole u → NextField p last k m whole u
   pub file-end : (p : List ℕ) (last k c m kinds w whole u : ℕ) → Beginning p last k c m kinds w whole u → FileEnd p k c kinds w
   pub refused-alike : (file : List ℕ) (n : ℕ) → readCard file ≡ unread n → readFile file ≡ unread n
+
+-- "Fields follow each other: tag (1 byte), body length (2 bytes), body": whole fields, whatever their tags and bodies are; and the tag of the last one
+pub data WholeFields : List ℕ → ℕ → Type 0 where
+  a-field : (t h l : ℕ) (body : List ℕ) → length body ≡ twoBytes h l → WholeFields (t ∷ h ∷ l ∷ body) t
+  then-fields : (t h l : ℕ) (body rest : List ℕ) (last : ℕ) → length body ≡ twoBytes h l → WholeFields rest last → WholeFields (t ∷ h ∷ l ∷ (body ++ rest)) last
+
+-- a file that is read to its end: it opens, or it is refused by what is judged there
+abbrev pub AtEnd : Reading → Type 0
+AtEnd x = ((y : System) × (x ≡ opened y)) ⊎ ((x ≡ unread 9) ⊎ ((x ≡ unread 41) ⊎ (x ≡ unread 10)))
+
+-- a beginning, whatever its numbers are but for the tag of its last field
+pub record Begun (p : List ℕ) (last : ℕ) : Type 0 where
+  pub k : ℕ
+  pub c : ℕ
+  pub m : ℕ
+  pub kinds : ℕ
+  pub w : ℕ
+  pub whole : ℕ
+  pub u : ℕ
+  pub is : Beginning p last k c m kinds w whole u
+
+-- how wide `Beginning` is, without its own words: it holds exactly of the whole fields that are read to the file's end, and it holds after each field of every file that is,
+-- whatever comes after that field. So `LaterFields` speaks of every file that opens, and of every field of it
+pub record Beginnings : Type 0 where
+  pub whole-file : (file : List ℕ) → (file ≡ [] → ⊥) → AtEnd (readCard file) → (last : ℕ) × (WholeFields file last)
+  pub each-field : (p rest : List ℕ) (last : ℕ) → WholeFields p last → AtEnd (readCard (p ++ rest)) → Begun p last
+  pub nothing-else : (p : List ℕ) (last : ℕ) → Begun p last → (WholeFields p last) × (AtEnd (readCard p))
+
+-- the field step after some bytes: the next field is whole, or cut in its body or in its head; and at the file's end and past it. Its body is the part from `start` to `next`
+pub record FieldStep : Type 0 where
+  pub whole-field : (before : List ℕ) (t h l : ℕ) (body after : List ℕ) → length body ≡ twoBytes h l
+      → fieldAt (before ++ (t ∷ h ∷ l ∷ (body ++ after))) (length before)
+      ≡ record { tag = t; size = twoBytes h l; headed = true; whole = true; start = length before + 3; next = record { at = length before + (3 + twoBytes h l) } }
+  pub body-cut : (before : List ℕ) (t h l : ℕ) (rest : List ℕ) → length rest < twoBytes h l
+      → fieldAt (before ++ (t ∷ h ∷ l ∷ rest)) (length before)
+      ≡ record { tag = t; size = twoBytes h l; headed = true; whole = false; start = length before; next = record { at = length before } }
+  pub two-bytes : (before : List ℕ) (a b : ℕ)
+      → fieldAt (before ++ (a ∷ b ∷ [])) (length before) ≡ record { tag = a; size = twoBytes b 0; headed = false; whole = false; start = length before; next = record { at = length before } }
+  pub one-byte : (before : List ℕ) (a : ℕ)
+      → fieldAt (before ++ (a ∷ [])) (length before) ≡ record { tag = a; size = 0; headed = false; whole = false; start = length before; next = record { at = length before } }
+  pub past-end : (file : List ℕ) (at : ℕ) → length file ≤ at → fieldAt file at ≡ record { tag = 0; size = 0; headed = false; whole = false; start = at; next = record { at = at } }
+  pub body : (before : List ℕ) (t h l : ℕ) (body after : List ℕ) → length body ≡ twoBytes h l
+      → let file = before ++ (t ∷ h ∷ l ∷ (body ++ after)) in
+      partOf file (fieldAt file (length before) .start) (fieldAt file (length before) .next .at) ≡ body
+  pub no-body : (file : List ℕ) (at : ℕ) → fieldAt file at .whole ≡ false → partOf file (fieldAt file at .start) (fieldAt file at .next .at) ≡ []

@@ -18,14 +18,13 @@ use Rattle.listing.specs.Listing.{decimal}
 use Rattle.listing.specs.Demands.{eachTo}
 use Rattle.listing.proofs.Numbers.{in-decimal}
 use Rattle.runs.specs.declared.Job.{Job}
-use Rattle.runs.specs.declared.Missed.the-variants.{Never}
-use Rattle.runs.specs.declared.Report.{Report}
 use Rattle.runs.specs.Run.{Periods, runOf}
 use Rattle.runs.specs.Trace.{stateAt, runner}
 use Rattle.runs.proofs.Choice.{jobAt}
 use Rattle.runs.proofs.Steps.{chosen-le}
 use Rattle.runs.proofs.Trace.{length-state, state-on, Ready, ready-at, stage-at}
 use Rattle.runs.proofs.Words.{hereAt, length-here, period-at}
+use Rattle.deadlines.specs.Outcome.{FirstMiss, allKept, missOf}
 use Rattle.deadlines.specs.Engine.{allPaced, instances, pacedJob, jobsOf}
 use Rattle.deadlines.specs.Meaning.{Schedule, idleFor}
 use Rattle.deadlines.proofs.Places.{Stood, stood-type, stood-inside, stood-here, kindAt, instanceAt, kind-past, length-jobs, job-stood}
@@ -150,11 +149,11 @@ module _ (y : System) (counts : List ℕ) (limits : LimitsOut y) (six : length c
       ap (tickLines n (from + 1) counts) (sym (state-on from js) ∙ ap (λ (m : ℕ). stateAt m js) (sym (add-one from)))
       ∙ ticks-told n (from + 1))
 
-  summary-told : (ticks idle : ℕ) (report : Report) → report .missed ≡ Never → report .idle ≡ idle → summaryLine ticks report ≡ keptOut decimal ticks idle
+  summary-told : (ticks idle all : ℕ) (miss : FirstMiss) → miss ≡ allKept → all ≡ idle → summaryLine ticks all miss ≡ keptOut decimal ticks idle
   unfolding summaryLine
-  summary-told ticks idle report never same = rw (never, same) (regroup-last ofWord (decimal ticks) ticksWord (decimal idle) wereIdleWord noneMissedWord (10 ∷ []))
+  summary-told ticks idle all miss never same = rw (never, same) (regroup-last ofWord (decimal ticks) ticksWord (decimal idle) wereIdleWord noneMissedWord (10 ∷ []))
 
-  pub run-told : (ticks from : ℕ) → runOf ticks js .missed ≡ Never → TellsRun y counts ticks from (reportText js counts ticks from (runOf ticks js))
+  pub run-told : (ticks from : ℕ) → missOf (runOf ticks js .missed) ≡ allKept → TellsRun y counts ticks from (reportText js counts ticks from (runOf ticks js .idle) (missOf (runOf ticks js .missed)))
   unfolding windowText
   run-told ticks from never =
       let means = report-is y counts limits six paced ticks in
@@ -164,5 +163,5 @@ module _ (y : System) (counts : List ℕ) (limits : LimitsOut y) (six : length c
         kept = means .none .0 never;
         spelt = decimal;
         inDecimal = in-decimal;
-        lines = ap₂ (λ (a b : List ℕ). a ++ b) (ticks-told (min 32 (ticks - from)) from) (summary-told ticks (idleFor plan ticks) (runOf ticks js) never (means .idleToEnd never));
+        lines = ap₂ (λ (a b : List ℕ). a ++ b) (ticks-told (min 32 (ticks - from)) from) (summary-told ticks (idleFor plan ticks) (runOf ticks js .idle) (missOf (runOf ticks js .missed)) never (means .idleToEnd never));
       }

@@ -7,7 +7,7 @@ use mathlib.Core.Logic.{_↔_, _⊎_, inl, inr}
 use native.Mathlib.Omega.{arith}
 use borrow.Author.Tests.{leb-true, leb-false}
 use lib.Dec.{leb}
-use lib.ListN.{length, getD}
+use lib.ListN.{length, getD, take}
 use Rattle.system.specs.declared.System.{System}
 use Rattle.system.specs.Limits.{engineLimit}
 use Rattle.system.specs.Layout.{readFile, opened, unread}
@@ -20,22 +20,26 @@ use Rattle.partition.specs.Plain.{ceilingNo, LongEnough, EngineOf, Partition, I
 use Rattle.table.specs.Table.{longEnough}
 use Rattle.table.proofs.Room.{long-six}
 use Rattle.planner.specs.Plan.{Verdict, planned, verdictOf, planOutcome, planLoads, judged}
+use Rattle.listing.specs.Listing.{listingOf, verdictListing}
 use Rattle.planner.specs.Demands.{Demand2}
 use Rattle.planner.proofs.Cases.{canPlace}
 use Rattle.planner.proofs.Demands.{plan-demand2}
 use Rattle.listing.specs.Demands.{TellsRefusal}
-use Rattle.listing.specs.Text.{readingVerdict}
+use Rattle.listing.specs.Text.{readingVerdict, TextPromises}
 use Rattle.listing.proofs.Lines.{number-told, told-once}
-use Rattle.listing.proofs.Text.{long-for-all, verdict-alone}
-use Rattle.runs.specs.declared.Missed.the-variants.{Never}
+use Rattle.listing.proofs.Text.{long-for-all, verdict-alone, one-kind-text}
 use Rattle.runs.specs.Run.{runOf}
-use Rattle.deadlines.specs.Engine.{allPaced, fewEnough, jobsOf, runOver}
+use Rattle.deadlines.specs.declared.RunAnswer.the-variants.{Ran}
+use Rattle.deadlines.specs.Outcome.{allKept, missOf}
+use Rattle.deadlines.specs.Engine.{allPaced, fewEnough, jobsOf}
 use Rattle.deadlines.specs.Meaning.{NoPace, TooMuch}
 use Rattle.deadlines.proofs.Promises.{over-44, over-45, over-ran, unpaced-told, told-unpaced, large-told, told-large}
 use Rattle.deadlines.proofs.FromFile.{limits-read, opened-promises}
 use Rattle.deadlines.proofs.Kept.{plans-kept}
 use Rattle.timeline.specs.Whole.{countsText, engineWith, verdictText, watchText}
-use Rattle.timeline.specs.Meaning.{tickOut, ticksOut, saysNoNumber, TellsRun, TellsEngine, TellsPlanned, TellsWatch}
+use Rattle.timeline.specs.Meaning.{tickOut, ticksOut, saysNoNumber, TellsRun, TellsEngine, ListsLoads, TellsPlanned, TellsWatch}
+use Rattle.timeline.proofs.Laws.{written-taken}
+use Rattle.timeline.proofs.Listed.{used-within, loads-listed}
 use Rattle.timeline.proofs.Shown.{run-told}
 use Rattle.timeline.proofs.Verdicts.{spare, spare-long, own-verdict}
 
@@ -76,7 +80,7 @@ data Tells (y : System) (counts : List ℕ) (ticks from : ℕ) (text : List ℕ)
   toldRun : TellsRun y counts ticks from text → (NoPace y counts → ⊥) → (TooMuch counts ticks → ⊥) → Tells y counts ticks from text
 
 module _ (y : System) (counts : List ℕ) (ticks from : ℕ) (limits : LimitsOut y) (six : length counts ≡ 6)
-    (never : allPaced (y .types) counts ≡ true → fewEnough counts ticks ≡ true → runOf ticks (jobsOf (y .types) counts) .missed ≡ Never) where
+    (never : allPaced (y .types) counts ≡ true → fewEnough counts ticks ≡ true → missOf (runOf ticks (jobsOf (y .types) counts) .missed) ≡ allKept) where
   counts-told : Tells y counts ticks from (countsText y counts ticks from)
   counts-told = go (allPaced (y .types) counts) refl (fewEnough counts ticks) refl
     where
@@ -166,11 +170,12 @@ module _ (file : List ℕ) (e ticks from : ℕ) (y : System) (opens : readFile f
     engine-told = go (leb 1 e) refl (leb e (y .engines)) refl
       where
         never : EngineOf y e → allPaced (y .types) (recordNo loads e .counts) ≡ true → fewEnough (recordNo loads e .counts) ticks ≡ true
-            → runOf ticks (jobsOf (y .types) (recordNo loads e .counts)) .missed ≡ Never
+            → missOf (runOf ticks (jobsOf (y .types) (recordNo loads e .counts)) .missed) ≡ allKept
         never on p q =
             let six = ours .sixCounts y (given .0) e opens (given .1) (on .0) (omega (arith, on .1, few)) in
-            plans-kept file spare engineLimit (given .0) (planOutcome (planned y)) loads ours (given .1) y e opens on ticks (runOver y (recordNo loads e .counts) ticks) _
-            (opened-promises file (recordNo loads e .counts) ticks six y opens _ refl) (over-ran y (recordNo loads e .counts) ticks p q)
+            let answer = Ran (runOf ticks (jobsOf (y .types) (recordNo loads e .counts))) in
+            plans-kept file spare engineLimit (given .0) (planOutcome (planned y)) loads ours (given .1) y e opens on ticks answer _ _
+            (opened-promises file (recordNo loads e .counts) ticks six y opens answer (sym (over-ran y (recordNo loads e .counts) ticks p q))) refl
 
         there : EngineOf y e → TellsEngine y loads e ticks from (countsText y (recordNo loads e .counts) ticks from)
         there on =
@@ -182,6 +187,16 @@ module _ (file : List ℕ) (e ticks from : ℕ) (y : System) (opens : readFile f
         go true p false q = not-numbered y loads e ticks from (λ (on : EngineOf y e). omega (arith, on .1, leb-false e (y .engines) q))
         go false p b q = not-numbered y loads e ticks from (λ (on : EngineOf y e). omega (arith, on .0, leb-false 1 e p))
 
+    -- the listing of the file is that of the same loads
+
+    listed-told : (old new : List ℕ) (r : ℕ) → TextPromises file old new r → ListsLoads y loads (given .0) (take r new)
+    unfolding listingOf given
+    listed-told old new r promised =
+        let stands = ours .given y (given .0) opens (given .1) in
+        let inside : given .0 ≤ 16 = omega (arith, stands .uses, used-within (y .engines) (stands .stands .mapping), few) in
+        let same = written-taken (promised .written) ∙ one-kind-text file y opens ∙ ap verdictListing (sym (ap readingVerdict opens) ∙ verdict-is true can) in
+        rw same (loads-listed y loads (given .0) (omega (arith, ours .sixteen)) (λ e low high. omega (arith, limits .known .1, ours .sixCounts y (given .0) e opens (given .1) low (omega arith))))
+
     planned-told : TellsPlanned file y e ticks from (engineWith y loads e ticks from)
     planned-told = record {
       loads = loads;
@@ -189,6 +204,7 @@ module _ (file : List ℕ) (e ticks from : ℕ) (y : System) (opens : readFile f
       onFewest = ours .given y (given .0) opens (given .1);
       idlePast = λ other past. ours .idlePast (given .0) other (given .1) past;
       samePlan = λ p table after enough promised. promised .places ∙ ap planLoads (alone table enough ∙ verdict-is true can);
+      listed = listed-told;
       engine = engine-told;
     }
       where

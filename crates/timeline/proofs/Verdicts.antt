@@ -26,11 +26,11 @@ use Rattle.listing.specs.Listing.{refusalLine}
 use Rattle.listing.specs.Demands.{numberOf}
 use Rattle.listing.specs.Text.{readingVerdict}
 use Rattle.listing.proofs.Text.{LongForAll, long-for-all, verdict-alone}
-use Rattle.runs.specs.declared.Report.{Report}
 use Rattle.runs.specs.Run.{jobLimit}
-use Rattle.deadlines.specs.declared.RunAnswer.the-variants.{Ran}
+use Rattle.runs.specs.declared.Job.{Job}
+use Rattle.deadlines.specs.Outcome.{FirstMiss, ran, notRunFor}
 use Rattle.deadlines.specs.Engine.{allPaced, instances, runWhere, runOver}
-use Rattle.timeline.specs.Whole.{engineWith, verdictText, watchText}
+use Rattle.timeline.specs.Whole.{answerText, engineWith, verdictText, watchText}
 
 -- the engines of what a file reads as
 
@@ -96,16 +96,22 @@ module _ (file : List ℕ) {table after : Lent} {p : Plan} (long : LongForAll ta
 
 -- a run that has a report has few enough instances and ticks
 
-pub ran-within : (y : System) (counts : List ℕ) (ticks : ℕ) (report : Report) → runOver y counts ticks ≡ Ran report → (instances counts ≤ jobLimit) × (ticks ≤ tickLimit)
+pub ran-within : (y : System) (counts : List ℕ) (ticks idle : ℕ) (miss : FirstMiss) → runOver y counts ticks ≡ ran idle miss → (instances counts ≤ jobLimit) × (ticks ≤ tickLimit)
 unfolding runOver
-ran-within y counts ticks report e = go (allPaced (y .types) counts) (leb (instances counts) jobLimit) refl (leb ticks tickLimit) refl e
+ran-within y counts ticks idle miss e = go (allPaced (y .types) counts) (leb (instances counts) jobLimit) refl (leb ticks tickLimit) refl e
   where
     go : (a b : Bool) → leb (instances counts) jobLimit ≡ b → (c : Bool) → leb ticks tickLimit ≡ c
-        → runWhere (andThen (check a fromInput 44) (check (b && c) fromInput 45)) (y .types) counts ticks ≡ Ran report → (instances counts ≤ jobLimit) × (ticks ≤ tickLimit)
+        → runWhere (andThen (check a fromInput 44) (check (b && c) fromInput 45)) (y .types) counts ticks ≡ ran idle miss → (instances counts ≤ jobLimit) × (ticks ≤ tickLimit)
     go true true p true q h = (leb-true (instances counts) jobLimit p, leb-true ticks tickLimit q)
     go true true p false q h = let z : _≡_ {A = ℕ} 0 1 = cc in absurd (omega arith)
     go true false p c q h = let z : _≡_ {A = ℕ} 0 1 = cc in absurd (omega arith)
     go false b p c q h = let z : _≡_ {A = ℕ} 0 1 = cc in absurd (omega arith)
+
+-- and one that is refused has the line of its number
+
+pub refused-line : (js : List Job) (counts : List ℕ) (ticks from : ℕ) (why : Refusal) → answerText js counts ticks from (notRunFor why) ≡ refusalLine (numberOf why)
+refused-line js counts ticks from (Input n) = refl
+refused-line js counts ticks from (State n) = refl
 
 -- the function's own table
 

@@ -19,7 +19,8 @@ use Rattle.partition.specs.Lent.{Lent}
 use Rattle.partition.specs.Plain.{typeNo, ceilingNo, LongEnough, EngineOf, Partition, Impossible, recordNo, HoldsNothing, StandsOnFewest}
 use Rattle.planner.specs.declared.Plan.{Plan}
 use Rattle.planner.specs.Demands.{PlanPromises}
-use Rattle.listing.specs.Demands.{InDecimal, TellsRefusal, eachTo}
+use Rattle.listing.specs.Demands.{InDecimal, TellsRefusal, eachTo, engineText, planText}
+use Rattle.listing.specs.Text.{TextPromises}
 use Rattle.deadlines.specs.Meaning.{Schedule, idleFor, countNo, TickIs, MissedAt, NoPace, TooMuch}
 use Rattle.timeline.specs.Whole.{watchText}
 
@@ -88,6 +89,12 @@ pub record TellsEngine (y : System) (loads : List EngineLoad) (e ticks from : �
   pub noOther : (n : ℕ) → TellsRefusal n text → (n ≡ 44) ⊎ (n ≡ 45)
   pub runs : EngineOf y e → (NoPace y (recordNo loads e .counts) → ⊥) → (TooMuch (recordNo loads e .counts) ticks → ⊥) → TellsRun y (recordNo loads e .counts) ticks from text
 
+-- a listing of these loads: a line for each of the engines 1 to `used`, with its number, and the time, the memory and the counts of its load
+pub record ListsLoads (y : System) (loads : List EngineLoad) (used : ℕ) (text : List ℕ) : Type 0 where
+  pub spelt : ℕ → List ℕ
+  pub inDecimal : (n : ℕ) → InDecimal n (spelt n)
+  pub lines : text ≡ planText spelt used (λ (e : ℕ). engineText spelt (y .typecount) e (recordNo loads e .time) (recordNo loads e .memory) (λ (t : ℕ). countNo (recordNo loads e .counts) t))
+
 -- of a system that has a plan: the loads are a partition on the fewest engines, and those that the plan's call gives over any table that is long enough
 pub record TellsPlanned (file : List ℕ) (y : System) (e ticks from : ℕ) (text : List ℕ) : Type 0 where
   pub loads : List EngineLoad
@@ -95,6 +102,9 @@ pub record TellsPlanned (file : List ℕ) (y : System) (e ticks from : ℕ) (tex
   pub onFewest : StandsOnFewest y (EngineOf y) (ceilingNo y) loads used
   pub idlePast : (other : ℕ) → used < other → HoldsNothing (recordNo loads other)
   pub samePlan : (p : Plan) (table after : Lent) → LongEnough y table → PlanPromises (readFile file) table 16 p after → p .loads ≡ loads
+  -- and those that `listing_of` lists, whatever it writes of this file that its contract allows; `listing_read`, and so program `plan`, promises the same of what it reads:
+  -- the counts that run here are those in the line of engine e there
+  pub listed : (old new : List ℕ) (r : ℕ) → TextPromises file old new r → ListsLoads y loads used (take r new)
   pub engine : TellsEngine y loads e ticks from text
 
 -- of a file: why it does not read, 42 with it; then 12, exactly where there is no plan; else the text of the engine

@@ -6,11 +6,9 @@ use lib.ListN.{length}
 use lib.Dec.{eqb, ltb}
 use Rattle.listing.specs.Listing.{lineEnd, decimal}
 use Rattle.runs.specs.declared.Job.{Job}
-use Rattle.runs.specs.declared.Missed.{Missed}
-use Rattle.runs.specs.declared.Missed.the-variants.{Never, At}
-use Rattle.runs.specs.declared.Report.{Report}
 use Rattle.runs.specs.Run.{arrived, chosen, worked}
 use Rattle.runs.specs.Trace.{stateAt}
+use Rattle.deadlines.specs.Outcome.{FirstMiss, allKept, firstAt}
 
 -- A tick
 
@@ -94,13 +92,13 @@ missedWord = 109 ∷ 105 ∷ 115 ∷ 115 ∷ 101 ∷ 100 ∷ 32 ∷ 97 ∷ 116 �
 abbrev pub missedAtText : ℕ → List ℕ
 missedAtText d = missedWord ++ decimal d
 
-abbrev pub missedText : Missed → List ℕ
-missedText Never = noneMissedWord
-missedText (At d) = missedAtText d
+abbrev pub missedText : FirstMiss → List ℕ
+missedText allKept = noneMissedWord
+missedText (firstAt d) = missedAtText d
 
 -- `of 24 ticks 6 idle, none missed`
-unfoldable pub summaryLine : ℕ → Report → List ℕ
-summaryLine ticks report = ofWord ++ decimal ticks ++ ticksWord ++ decimal (report .idle) ++ wereIdleWord ++ missedText (report .missed) ++ (lineEnd ∷ [])
+unfoldable pub summaryLine : ℕ → ℕ → FirstMiss → List ℕ
+summaryLine ticks idle miss = ofWord ++ decimal ticks ++ ticksWord ++ decimal idle ++ wereIdleWord ++ missedText miss ++ (lineEnd ∷ [])
 
 -- Both
 
@@ -116,5 +114,5 @@ unfoldable pub windowText : List Job → List ℕ → ℕ → ℕ → List ℕ
 windowText js counts ticks from = tickLines (shownTicks ticks from) from counts (stateAt from js)
 
 -- the text of a run that has a report
-abbrev pub reportText : List Job → List ℕ → ℕ → ℕ → Report → List ℕ
-reportText js counts ticks from report = windowText js counts ticks from ++ summaryLine ticks report
+abbrev pub reportText : List Job → List ℕ → ℕ → ℕ → ℕ → FirstMiss → List ℕ
+reportText js counts ticks from idle miss = windowText js counts ticks from ++ summaryLine ticks idle miss

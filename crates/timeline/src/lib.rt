@@ -11,6 +11,7 @@ ghost use Rattle.system.specs.Limits.{engineLimit, tickLimit};
 ghost use Rattle.system.specs.Layout.{readFile, readSystem};
 ghost use Rattle.runs.specs.Run.{jobLimit};
 ghost use Rattle.deadlines.specs.Engine.{instances, jobsOf};
+ghost use Rattle.deadlines.specs.Outcome.{missOf};
 ghost use Rattle.buffer.specs.Written.{Puts, Written};
 ghost use Rattle.listing.specs.Listing.{refusalLine};
 ghost use Rattle.listing.specs.Demands.{numberOf};
@@ -81,7 +82,7 @@ fn put_report(
     report: Report,
 ) -> usize
     requires { ⌜ (instances counts ≤ jobLimit) × (ticks ≤ tickLimit) × (textRoom ≤ length (now out)) ⌝ }
-    ensures { λ r. ⌜ Puts (reportText (jobsOf types counts) counts ticks from report) 0 (now (out .entry)) (now (out .exit)) r × (r ≤ textRoom) ⌝ }
+    ensures { λ r. ⌜ Puts (reportText (jobsOf types counts) counts ticks from (report .idle) (missOf (report .missed))) 0 (now (out .entry)) (now (out .exit)) r × (r ≤ textRoom) ⌝ }
 {
     let jobs = jobs_of(types, counts);
     let count = instances(counts);

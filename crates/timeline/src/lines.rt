@@ -3,6 +3,7 @@ ghost use mathlib.Core.Path.{_≡_};
 ghost use Prim.Native.Nat.{_+_, _≤_};
 ghost use lib.ListN.{length, take};
 ghost use Rattle.runs.specs.Run.{jobLimit};
+ghost use Rattle.deadlines.specs.Outcome.{missOf};
 ghost use Rattle.buffer.specs.Written.{Puts};
 ghost use Rattle.timeline.specs.Text.{kindFrom, numberFrom, nameText, arrivalText, arrivalAt, arrivalsFrom, runnerText, lineWith, missedAtText, missedText, summaryLine};
 ghost use Rattle.timeline.specs.Room.{nameRoom, arrivalRoom, arrivalsRoom, runnerRoom, tickRoom, missedRoom, summaryRoom};
@@ -149,7 +150,7 @@ fn put_missed_at(out: &mut [u8], at: usize, time: u32) -> usize
 // Puts the first missed deadline, or that there is none.
 fn put_missed(out: &mut [u8], at: usize, missed: Missed) -> usize
     requires { ⌜ at + missedRoom ≤ length (now out) ⌝ }
-    ensures { λ r. ⌜ Puts (missedText missed) at (now (out .entry)) (now (out .exit)) r × (r ≤ at + missedRoom) ⌝ }
+    ensures { λ r. ⌜ Puts (missedText (missOf missed)) at (now (out .entry)) (now (out .exit)) r × (r ≤ at + missedRoom) ⌝ }
 {
     match missed {
         Missed::Never => put_bytes(out, at, b"none missed"),
@@ -160,7 +161,7 @@ fn put_missed(out: &mut [u8], at: usize, missed: Missed) -> usize
 // Puts the line that sums up a run.
 pub(crate) fn put_summary(out: &mut [u8], at: usize, ticks: u64, report: Report) -> usize
     requires { ⌜ at + summaryRoom ≤ length (now out) ⌝ }
-    ensures { λ r. ⌜ Puts (summaryLine ticks report) at (now (out .entry)) (now (out .exit)) r × (r ≤ at + summaryRoom) ⌝ }
+    ensures { λ r. ⌜ Puts (summaryLine ticks (report .idle) (missOf (report .missed))) at (now (out .entry)) (now (out .exit)) r × (r ≤ at + summaryRoom) ⌝ }
 {
     let begun = put_bytes(out, at, b"of ");
     let all = put_number(out, begun, ticks);

@@ -4,7 +4,7 @@
 pub const BUFFER_BYTES: usize = 400;
 
 // What stands at a place before a call: never 0, and another byte for each `fill` below 127.
-fn old_byte(fill: usize, i: usize) -> u8 {
+pub fn old_byte(fill: usize, i: usize) -> u8 {
     (((i % 256) * 7 + fill % 127) % 127 + 129) as u8
 }
 

@@ -1,10 +1,10 @@
 // The bytes of a system file, made from a system; and a reader of system files, which goes from field to field.
 ghost use Prim.Native.Nat.{_+_, _≤_, _<_};
 use crate::buffers::BUFFER_BYTES;
+use crate::bytes::put_byte;
+use crate::bytes::put_four;
+use crate::bytes::put_two;
 use crate::systems;
-use buffer::put_byte;
-use buffer::put_four;
-use buffer::put_two;
 use std::num::wrapping_add_usize;
 use system::Most;
 use system::Pace;
@@ -461,7 +461,7 @@ pub fn reading_of(file: &[u8]) -> Reading {
     let mut r = Reading {
         at: 0,
         last: 0,
-        system: system::blank_system(),
+        system: systems::no_system(),
         zero: false,
         refusal: 0,
     };

@@ -24,9 +24,35 @@ pub fn product(a: u32, b: u32) -> u64 {
     (a as u64) * (b as u64)
 }
 
+// What stands for a type that a system has not, every number written out.
+fn no_type() -> TaskType {
+    TaskType {
+        time: 0,
+        memory: 0,
+        ceiling: 0,
+        data: 0,
+        most: Most::NotGiven,
+        pace: Pace::Unpaced,
+        there: There::Absent,
+    }
+}
+
+// The system that a refusal hands out, every number written out: apart from the one of the code under test, which is compared with it.
+pub fn no_system() -> System {
+    System {
+        engines: 0,
+        rule: 0,
+        timecap: 0,
+        memorycap: 0,
+        typecount: 0,
+        types: [no_type(); TYPE_LIMIT],
+        second: Second::OneKind,
+    }
+}
+
 // A system with no type yet: m, rule, U and S.
 pub fn platform_of(engines: usize, rule: u8, time: u32, memory: u32) -> System {
-    let mut y = system::blank_system();
+    let mut y = no_system();
     y.engines = engines;
     y.rule = rule;
     y.timecap = time;

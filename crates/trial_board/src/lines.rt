@@ -13,7 +13,8 @@
 //   row is then not on engine 1, and no row is on engine 3; `no room for want of engine 2`: system B takes one instance on each engine, and there is
 //   room again when the engine is back; `all out`: nothing can come, a repack of nothing is accepted, and all is well when one is back;
 // - `refused 14, 35, 36`; `an instance that costs nothing`, which keeps its engine from being withdrawn; `q 1`, `q 2`, which hold on each engine in service;
-// - `vector eight` to `twelve`: made outside this project from request 2026-07.
+// - `vector eight` to `twelve`: made outside this project from request 2026-07;
+// - `C and T`: four of these again, from files that give some types a C and T (request 2026-14). Nothing is answered otherwise, and the board keeps them.
 use crate::scripts::say_list;
 use trial::files::first_of;
 use trial::words::Bytes;

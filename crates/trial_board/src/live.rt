@@ -7,6 +7,7 @@ use brute::ledger::Ledger;
 use brute::recovery;
 use std::num::wrapping_add_usize;
 use system::System;
+use trial::files;
 use trial::say;
 use trial::systems;
 use trial::tables;
@@ -32,11 +33,12 @@ pub struct Step {
     pub right: bool,
 }
 
-// The fresh board of a file, and a fresh ledger of its system.
+// The fresh board of a file, and a fresh ledger of the system that the trial's own reader finds in it: a board that is opened with another system differs from its ledger.
 pub fn live_of(file: &[u8]) -> Live {
     let turn = board::open_board(file);
     let b = turn.board;
-    let y = b.system;
+    let r = files::reading_of(file);
+    let y = r.system;
     Live {
         board: b,
         ledger: ledger::fresh(y),
@@ -129,13 +131,13 @@ fn long_enough(y: System, n: Lengths) -> bool {
 // One call, on the board and in the ledger. Both parts must be as long as the columns, and are filled for the engines in service.
 pub fn played(live: Live, c: Call, n: Lengths, cells: bool) -> Step {
     let b = live.board;
-    let y = b.system;
+    let l = live.ledger;
+    let y = l.system;
     let old = live.table;
     let mut rows = old.rows;
     let mut predecessors = old.predecessors;
     let turn = called_over(b, c, &mut rows, &mut predecessors, n);
     let table = Lent { rows, predecessors };
-    let l = live.ledger;
     let entry = ledger::entered(l, c, long_enough(y, n));
     let a = turn.answer;
     let code = say::code_of(a);

@@ -1,5 +1,7 @@
 // The calls over tables that are dirty, and of which first entries of each part are lent; and what was left in them.
 ghost use Prim.Native.Nat.{_<_};
+use crate::as_promised::why_no_plan;
+use crate::as_promised::why_no_room;
 use crate::boards::board_in;
 use board::Board;
 use board::Turn;
@@ -8,8 +10,6 @@ use board::seat;
 use causes::Cause;
 use causes::CauseAnswer;
 use causes::cause_number;
-use causes::why_no_plan;
-use causes::why_no_room;
 use planner::Plan;
 use planner::plan_of;
 use system::COLUMN_LIMIT;
@@ -18,8 +18,14 @@ use trial::files::first_of;
 use trial::say::code_of;
 use trial::words::Bytes;
 
+// The entries of each part: more than the columns of any system.
+const LONG: usize = 5100;
+
 // The number of a table that is as it was lent.
 pub const AS_LENT: usize = 0;
+
+// The number of a table that is not as it was past all columns that a system can have.
+const CHANGED_PAST: usize = 1000004;
 
 // What a call told: the cause's number and the type that it names, 0 for none; or a refusal, 100 and more from the input, 200 and more from the state; and the number
 // that stands for the whole table after it.
@@ -37,8 +43,8 @@ fn dirt(i: usize) -> u16 {
 
 // Tables to lend, in two parts.
 struct Lent {
-    rows: [u16; COLUMN_LIMIT],
-    predecessors: [u16; COLUMN_LIMIT],
+    rows: [u16; LONG],
+    predecessors: [u16; LONG],
 }
 
 // How many entries of each part are lent.
@@ -48,9 +54,9 @@ pub struct Lengths {
 }
 
 fn dirty_table() -> Lent {
-    let mut rows: [u16; COLUMN_LIMIT] = [0; COLUMN_LIMIT];
-    let mut predecessors: [u16; COLUMN_LIMIT] = [0; COLUMN_LIMIT];
-    for i in 0..COLUMN_LIMIT {
+    let mut rows: [u16; LONG] = [0; LONG];
+    let mut predecessors: [u16; LONG] = [0; LONG];
+    for i in 0..LONG {
         rows[i] = dirt(i);
         predecessors[i] = dirt(i + COLUMN_LIMIT);
     }
@@ -63,8 +69,8 @@ fn wide(entry: u16) -> usize
     entry as usize
 }
 
-// The number of a table: every entry of both parts has a part in it. 0 stands for a table that is as it was lent.
-fn table_number(rows: [u16; COLUMN_LIMIT], predecessors: [u16; COLUMN_LIMIT]) -> usize {
+// The number of the first entries of a table, one for each column that a system can have: each of both parts has a part in it. 0 stands for entries that are as they were lent.
+fn front_number(rows: [u16; LONG], predecessors: [u16; LONG]) -> usize {
     let mut number: usize = 1;
     let mut same = true;
     for i in 0..COLUMN_LIMIT {
@@ -74,6 +80,24 @@ fn table_number(rows: [u16; COLUMN_LIMIT], predecessors: [u16; COLUMN_LIMIT]) ->
         same = same & (predecessors[i] == dirt(i + COLUMN_LIMIT));
     }
     if same { AS_LENT } else { number + 1 }
+}
+
+// All entries past those are as they were.
+fn kept_past(rows: [u16; LONG], predecessors: [u16; LONG]) -> bool {
+    let mut kept = true;
+    for i in COLUMN_LIMIT..LONG {
+        kept = kept & (rows[i] == dirt(i));
+        kept = kept & (predecessors[i] == dirt(i + COLUMN_LIMIT));
+    }
+    kept
+}
+
+// The number of a table.
+fn table_number(rows: [u16; LONG], predecessors: [u16; LONG]) -> usize {
+    if kept_past(rows, predecessors) {
+        return front_number(rows, predecessors);
+    }
+    CHANGED_PAST
 }
 
 fn refused_code(r: Refusal) -> usize {

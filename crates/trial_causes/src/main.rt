@@ -3,6 +3,7 @@
 // What is expected was computed apart from the code, by a model of documents 01 and 02.
 use libc::STDIN_FILENO;
 
+mod as_promised;
 mod boards;
 mod calls;
 mod lines;

@@ -1,6 +1,6 @@
 // Files of 39 to 307 bytes, some with two kinds of engine and some with a C and T, cut at every place, and with every value at every byte: the reader against the one of crate `trial`. A
-// file that is read must give its system, and be the file of it where no tag 3 gives a d of 0; a refused one hands out the blank system. Where one kind of engine is wanted, the
-// same is answered, but 42 and the blank system of a file with two.
+// file that is read must give its system, and be the file of it where no tag 3 gives a d of 0; a refused one hands out the system of no types and no engines that crate `trial` has
+// written out. Where one kind of engine is wanted, the same is answered, but 42 and that system of a file with two.
 ghost use Prim.Native.Nat.{_<_};
 use std::num::wrapping_add_usize;
 use system::Answer;
@@ -95,10 +95,10 @@ fn number_of(a: Answer) -> usize {
     code - 100
 }
 
-// The system handed out is the file's, or the blank one.
+// The system handed out is the file's, or the one with nothing in it.
 fn right_system(number: usize, y: System, file: &[u8], wanted: Reading) -> bool {
     if number != 0 {
-        return systems::same_system(y, system::blank_system());
+        return systems::same_system(y, systems::no_system());
     }
     let z = wanted.system;
     systems::same_system(y, z) & (wanted.zero | files::same_file(files::file_of(y), file))
@@ -135,7 +135,7 @@ fn right_wanted(file: &[u8], wanted: Reading) -> bool {
     let z = wanted.system;
     let second = z.second;
     if (wanted.refusal == 0) & systems::two_kinds(second) {
-        return (number_of(a) == 42) & systems::same_system(y, system::blank_system());
+        return (number_of(a) == 42) & systems::same_system(y, systems::no_system());
     }
     (number_of(a) == wanted.refusal) & right_system(wanted.refusal, y, file, wanted)
 }

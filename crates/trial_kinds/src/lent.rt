@@ -17,9 +17,9 @@ pub struct Lengths {
 }
 
 // Both parts.
-struct Parts {
-    rows: [u16; LONG],
-    predecessors: [u16; LONG],
+pub struct Parts {
+    pub rows: [u16; LONG],
+    pub predecessors: [u16; LONG],
 }
 
 // What a call answered, the list after it, and the place from which on both parts are as they were.
@@ -33,7 +33,7 @@ fn dirt(i: usize, first: u16) -> u16 {
     (i % 5000) as u16 + first % 60000
 }
 
-fn dirty_parts() -> Parts {
+pub fn dirty_parts() -> Parts {
     let mut rows: [u16; LONG] = [0; LONG];
     let mut predecessors: [u16; LONG] = [0; LONG];
     for i in 0..LONG {
@@ -44,7 +44,7 @@ fn dirty_parts() -> Parts {
 }
 
 // The place from which on every entry of both parts is as it was.
-fn kept_from(rows: &[u16; LONG], predecessors: &[u16; LONG]) -> usize {
+pub fn kept_from(rows: &[u16; LONG], predecessors: &[u16; LONG]) -> usize {
     let mut from: usize = 0;
     for i in 0..LONG {
         if (rows[i] != dirt(i, 50000)) | (predecessors[i] != dirt(i, 55000)) {

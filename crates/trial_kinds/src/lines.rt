@@ -4,7 +4,9 @@
 //   kind, over all assignments, `none` where none is good, or `untried` where they are too many; and what was changed in the parts and the list that may not be: `kept` for nothing;
 // - f: filling alone, and what was changed in the parts;
 // - c: the columns that are needed;
-// - l: the listing, whole, or where it is of a plan of two kinds, what is wrong with that.
+// - l: the listing, whole, or where it is of a plan of two kinds, what is wrong with that;
+// - w: a plan by value, for which the list's records do not count. The used engines and the types that it hands out, what was changed in the parts, and then all of its 16 places,
+//   whether an engine is used there or not. Its file has one right plan alone.
 use crate::judge;
 use crate::lent::After;
 use crate::lent::Lengths;
@@ -13,6 +15,7 @@ use crate::plans::Front;
 use crate::plans::later_kept;
 use crate::search;
 use crate::text;
+use crate::whole;
 use brute::recovery;
 use system::Answer;
 use system::System;
@@ -154,6 +157,27 @@ fn say_call(kind: u8, file: &[u8], n: Lengths) {
     say::say(b"\n");
 }
 
+// A plan by value, whole.
+fn say_whole(file: &[u8], n: Lengths) {
+    let w = whole::planned(file, n);
+    let read = reading_of(file);
+    let y = read.system;
+    let plan = w.plan;
+    let answer = plan.answer;
+    say::say_answer(answer);
+    say::say(b" used");
+    say::say_also(plan.used);
+    say::say(b" types");
+    say::say_also(plan.typecount);
+    if free_to(y, say::code_of(answer)) < w.kept {
+        say::say(b" CHANGED PARTS");
+    } else {
+        say::say(b" kept");
+    }
+    say::say(b"\n");
+    whole::say_places(plan);
+}
+
 fn say_columns(file: &[u8]) {
     let answer = columns_needed(file);
     say::say_answer(answer);
@@ -186,6 +210,7 @@ fn say_kind(kind: u8, file: &[u8], n: Lengths) {
     match kind {
         b'c' => say_columns(file),
         b'l' => say_listing(file),
+        b'w' => say_whole(file, n),
         _ => say_call(kind, file, n),
     }
 }

@@ -2,19 +2,19 @@
 // other for restore), its type, and the engine that it leaves, withdraws or puts back or that is shown after it, then a space. Each answer,
 // what the engine holds after it and whether it is out of service, and the table at the end.
 ghost use Prim.Native.Nat.{_≤_};
+use crate::as_promised::admit;
+use crate::as_promised::open_board;
+use crate::as_promised::repack;
+use crate::as_promised::restore;
+use crate::as_promised::retire;
+use crate::as_promised::seat;
+use crate::as_promised::withdraw;
 use crate::lent::LONG;
 use crate::lent::Lengths;
 use crate::lent::OLD;
 use crate::lent::say_table;
 use board::Board;
 use board::Turn;
-use board::admit;
-use board::open_board;
-use board::repack;
-use board::restore;
-use board::retire;
-use board::seat;
-use board::withdraw;
 use std::num::wrapping_add_usize;
 use system::ENGINE_LIMIT;
 use system::TYPE_LIMIT;

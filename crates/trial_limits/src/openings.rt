@@ -1,7 +1,7 @@
 // A file at a limit or past it: what opening, planning and filling answer, and how many entries each part must have.
+use crate::as_promised::open_board;
 use crate::lent::LONG;
 use crate::lent::OLD;
-use board::open_board;
 use planner::plan_of;
 use table::columns_needed;
 use table::fill_table;

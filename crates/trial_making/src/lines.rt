@@ -1,5 +1,6 @@
 // The cases as they stand in the text, a word for each part, and a line for each.
 use crate::lent;
+use crate::lent::Call;
 use crate::sweeps;
 use making::Recipe;
 use std::num::wrapping_add_usize;
@@ -16,6 +17,9 @@ use trial::words::word_end;
 
 // The bytes of the text that are read at most.
 pub const TEXT_BYTES: usize = 32768;
+
+// What tells the bytes that stand in a buffer before a call.
+const FILL: usize = 33;
 
 // The numbers of a case, in the order of their words: seed, m, rule, U, S, k, g, and the bytes lent. And where the next case starts.
 struct Numbers {
@@ -106,14 +110,13 @@ fn say_made(a: Answer, bytes: [u8; BUFFER_BYTES]) {
 }
 
 // One call: what was answered, and that it is wrong where it is. Answers 1 for a wrong one.
-fn say_call(name: &[u8], w: Recipe, room: usize) -> usize {
-    let c = lent::called(w, room, 33);
+fn say_call(name: &[u8], c: Call, w: Recipe, room: usize) -> usize {
     let answer = c.answer;
     let bytes = c.bytes;
     say(name);
     say(b":");
     say_made(answer, bytes);
-    if lent::right_call(c, w, room, 33) {
+    if lent::right_call(c, w, room, FILL) {
         say(b"\n");
         return 0;
     }
@@ -127,7 +130,10 @@ fn say_case(name: &[u8], c: Case) -> usize {
     if c.kind == b'l' {
         return sweeps::say_lengths(name, w);
     }
-    say_call(name, w, c.room)
+    if c.kind == b'b' {
+        return say_call(name, lent::called_long(w, c.room, FILL), w, c.room);
+    }
+    say_call(name, lent::called(w, c.room, FILL), w, c.room)
 }
 
 // All cases of the text: there are fewer of them than bytes.

@@ -11,14 +11,16 @@
 // - `q-first`: refusal 3 of a q, which follows its type, or the d of its type, and comes once;
 // - `q-of-type-1-of-2`: which type a q is of;
 // - `q-of-type-6`: a q after six types, with and without one before it, and after a seventh;
-// - `longest`: what may come after the longest file without a C and T, which has 163 bytes: nothing but those;
+// - `longest`: what may come after the longest file of one kind without a C and T, which has 163 bytes (241 with a second kind): nothing but those;
 // - `q-of-length-0`: refusals 4 and 1 of a q, in this order and before 31;
 // - `q-0`: refusal 31, and what a q is where it is read: at both ends, and above n;
 // - `u-1000001-then-q-0`: 31 among the refusals of other fields, those before it first, and those at the end last;
 // - `kinds-..`: a second kind of engine (tag 6) and the costs there (tag 7): their places, lengths, cuts and numbers; 41 where one stands without the other, between 9 and 10; and
 //   42 for every file of two kinds, from which a system of one kind is wanted;
 // - `pace-..`: a C and T (tag 5): its places, lengths and cuts; 43 at both ends of each of its bounds, and in its order among the refusals; in files of one kind and of two, where
-//   it is judged by the first kind's u and U; and what may come after the longest files, which have 229 bytes and 307: nothing.
+//   it is judged by the first kind's u and U; and what may come after the longest files, which have 229 bytes and 307: nothing;
+// - `place-..-cut`: each of the seven tags as the first field and after each of the seven, its last byte missing, with its own length and with one more: its place (3) is judged before its
+//   length (4), and that before the cut (1).
 use crate::show::show;
 use trial::words::Bytes;
 use trial::words::after;

@@ -22,6 +22,9 @@ Inv-loop types counts jobs₀ at₀ i₀ jobs at i =
 abbrev μ-loop : tie.MeasureT-loop
 μ-loop types counts jobs₀ at₀ i₀ jobs at i = typeLimit - i
 
+job-of-requires : tie.Need-job-of-requires Inv-loop μ-loop
+job-of-requires c κs = search needs
+
 loop-holds : tie.Need-loop-holds Inv-loop μ-loop
 loop-holds c = (omega arith, search needs, omega arith, refl)
 
@@ -45,17 +48,17 @@ job-of-type-requires c κs = search needs
 
 with-jobs-requires : tie.Need-with-jobs-requires Inv-loop μ-loop
 with-jobs-requires c κs =
-    let a = c .before .before .before .before .args in
+    let a = c .before .before .before .before .before .args in
     let i = c .before .before .before .loop .i in
     let ln : length (a .t2) ≡ typeLimit = search needs in
-    omega (arith, instances-turn (a .t2) i (omega arith), c .before .before .before .before .pre)
+    omega (arith, instances-turn (a .t2) i (omega arith), c .before .before .before .before .before .pre)
 
 add-at : tie.Need-add-at Inv-loop μ-loop
 add-at c =
-    let x = c .before .before .before .before .before .args .t2 in
+    let x = c .before .before .before .before .before .before .args .t2 in
     let i = c .before .before .before .before .loop .i in
     let ln : length x ≡ typeLimit = search needs in
-    omega (arith, instances-turn x i (omega arith), c .before .before .before .before .before .pre)
+    omega (arith, instances-turn x i (omega arith), c .before .before .before .before .before .before .pre)
 
 add-i : tie.Need-add-i Inv-loop μ-loop
 add-i c = omega arith
@@ -65,13 +68,13 @@ loop-less c = omega arith
 
 loop-again : tie.Need-loop-again Inv-loop μ-loop
 loop-again c =
-    let a = c .before .before .before .before .before .args in
+    let a = c .before .before .before .before .before .before .args in
     let l = c .before .before .before .before .loop in
     let lt : length (a .t1) ≡ typeLimit = search needs in
     let ln : length (a .t2) ≡ typeLimit = search needs in
     let n = getD (a .t2) (l .i) 0 in
     let turn = instances-turn (a .t2) (l .i) (omega arith) in
-    let fits : l .at + n ≤ length (l .jobs) = omega (arith, turn, c .before .before .before .before .before .pre) in
+    let fits : l .at + n ≤ length (l .jobs) = omega (arith, turn, c .before .before .before .before .before .before .pre) in
     let job = c .before .job-of-type in
     let next = c .with-jobs in (
       omega arith,
@@ -82,7 +85,7 @@ loop-again c =
 
 returns : tie.Need-returns Inv-loop μ-loop
 returns c =
-    let a = c .before .before .args in
+    let a = c .before .before .before .args in
     let l = c .before .loop in
     let lt : length (a .t1) ≡ typeLimit = search needs in
     let ln : length (a .t2) ≡ typeLimit = search needs in
@@ -95,6 +98,7 @@ jobs-of-spec =
     (tie.spec
     Inv-loop
     μ-loop
+    job-of-requires
     loop-holds
     mul-count
     array-read-count

@@ -25,8 +25,8 @@ mul-j c = search needs
 array-copy-out-j : tie.Need-array-copy-out-j Inv-loop μ-loop
 array-copy-out-j c = search needs
 
-started-job-requires : tie.Need-started-job-requires Inv-loop μ-loop
-started-job-requires c κs = search needs
+job-of-requires : tie.Need-job-of-requires Inv-loop μ-loop
+job-of-requires c κs = search needs
 
 mul-out : tie.Need-mul-out Inv-loop μ-loop
 mul-out c = search needs
@@ -49,7 +49,7 @@ loop-again c =
     let e = c .before .before .before .loop .inv .2 in (
       omega arith,
       length-set out i _ ∙ c .before .before .before .loop .inv .1,
-      ap (λ (j : Job). take (i + 1) (set out i j)) (c .started-job .ensures) ∙ started-turn (a .t1) out i (omega arith) (omega arith) e,
+      ap (λ (j : Job). take (i + 1) (set out i j)) (c .job-of .ensures) ∙ started-turn (a .t1) out i (omega arith) (omega arith) e,
     )
 
 returns : tie.Need-returns Inv-loop μ-loop
@@ -69,7 +69,7 @@ started-spec =
     loop-holds
     mul-j
     array-copy-out-j
-    started-job-requires
+    job-of-requires
     mul-out
     array-set-from-out
     add-i

@@ -16,8 +16,8 @@ empty-board-requires c κs = search needs
 
 returns : tie.Need-returns
 returns c =
-    let read = c .before .before .read-system .ensures in
-    let file = c .before .before .before .before .args .file .now in
+    let read = c .before .read-system .ensures in
+    let file = c .before .before .before .args .file .now in
     let board = c .empty-board .ensures ∙ ap emptyBoard (read .system) ∙ opened-board (readFile file) in
     (record { answer = read .answer; board = board }, open-means file _ _ (read .answer) board)
 

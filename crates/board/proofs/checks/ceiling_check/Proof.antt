@@ -27,28 +27,28 @@ sub-i : tie.Need-sub-i
 sub-i c = type-range (c .args .b) (c .pre .0) (c .args .t) (c .pre .1) .0
 
 mul-task : tie.Need-mul-task
-mul-task c = omega (arith, in-range (c .before .before))
+mul-task c = omega (arith, in-range (c .before))
 
 array-copy-out-task : tie.Need-array-copy-out-task
-array-copy-out-task c = in-range (c .before .before)
+array-copy-out-task c = in-range (c .before)
 
 standing-counts-requires : tie.Need-standing-counts-requires
 standing-counts-requires c κs = search needs
 
 mul-if1 : tie.Need-mul-if1
-mul-if1 c = omega (arith, in-range (c .before .before .before .before))
+mul-if1 c = omega (arith, in-range (c .before .before .before))
 
 array-read-if1 : tie.Need-array-read-if1
-array-read-if1 c = in-range (c .before .before .before .before)
+array-read-if1 c = in-range (c .before .before .before)
 
 returns : tie.Need-returns
 returns c =
-    let a = c .before .before .before .before .before .before .args in
+    let a = c .before .before .before .before .before .args in
     rw (sym (same-test (a .b) (a .t) _ (c .before .before .standing-counts .ensures)) ∙ lt-ltb _ _ (c .if1 .taken))
 
 returns-2 : tie.Need-returns-2
 returns-2 c =
-    let a = c .before .before .before .before .before .before .args in
+    let a = c .before .before .before .before .before .args in
     rw (sym (same-test (a .b) (a .t) _ (c .before .before .standing-counts .ensures)) ∙ le-ltb _ _ (c .if1 .left))
 
 pub ceiling-check-spec : {M : Type 1} → statement M

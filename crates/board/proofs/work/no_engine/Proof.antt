@@ -21,11 +21,11 @@ with-newcomer-requires : tie.Need-with-newcomer-requires
 with-newcomer-requires c κs = search needs
 
 engines-of-requires : tie.Need-engines-of-requires
-engines-of-requires c κs = c .before .before .before .before .pre .0 .isTrue
+engines-of-requires c κs = c .before .before .before .pre .0 .isTrue
 
 place-requires : tie.Need-place-requires
 place-requires c κs =
-    let s = c .before .before .before .before .before .before .before in
+    let s = c .before .before .before .before .before .before in
     let b = s .args .b in
     let on = c .before .before .engines-of in
     may-place b (s .pre .0 .isTrue) (on .result) _ (parts s) (on .ensures .0) (on .ensures .1) (s .pre .1)
@@ -42,7 +42,7 @@ same-length-2 c = search needs
 
 returns : tie.Need-returns
 returns c =
-    let s = c .before .before .before .before .before .before .before .before .before .before .before .before .before .before in
+    let s = c .before .before .before .before .before .before .before .before .before .before .before .before .before in
     let a = s .args in
     let p = c .before .before .before .before .before .before .place in
     let on = c .before .before .before .before .before .before .before .before .before .engines-of .ensures .1 in
@@ -62,7 +62,7 @@ same-length-4 c = search needs
 
 returns-2 : tie.Need-returns-2
 returns-2 c =
-    let s = c .before .before .before .before .before .before .before .before .before .before .before .before .before .before in
+    let s = c .before .before .before .before .before .before .before .before .before .before .before .before .before in
     let a = s .args in
     let p = c .before .before .before .before .before .before .place in
     let on = c .before .before .before .before .before .before .before .before .before .engines-of .ensures .1 in

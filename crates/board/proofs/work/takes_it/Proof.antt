@@ -12,7 +12,7 @@ fits-engine-requires : tie.Need-fits-engine-requires
 fits-engine-requires c κs = search needs
 
 returns : tie.Need-returns
-returns c = c .fits-engine .ensures ∙ ap (fitsEngine (c .before .before .before .args .b .system)) (c .before .load-with .ensures)
+returns c = c .fits-engine .ensures ∙ ap (fitsEngine (c .before .before .args .b .system)) (c .before .load-with .ensures)
 
 pub takes-it-spec : {M : Type 1} → statement M
 takes-it-spec = tie.close (tie.spec load-with-requires fits-engine-requires returns)

@@ -10,8 +10,8 @@ Inv-loop file r₀ field₀ r field = field ≤ 33
 abbrev μ-loop : tie.MeasureT-loop
 μ-loop file r₀ field₀ r field = 33 - field
 
-blank-system-requires : tie.Need-blank-system-requires Inv-loop μ-loop
-blank-system-requires c κs = search needs
+no-system-requires : tie.Need-no-system-requires Inv-loop μ-loop
+no-system-requires c κs = search needs
 
 loop-holds : tie.Need-loop-holds Inv-loop μ-loop
 loop-holds c = search needs
@@ -43,7 +43,7 @@ reading-of-spec =
     (tie.spec
     Inv-loop
     μ-loop
-    blank-system-requires
+    no-system-requires
     loop-holds
     field-read-requires
     add-field

@@ -1,14 +1,14 @@
--- The loop's invariant: `i` is at most 4096.
+-- The loop's invariant: `i` is at most 5100.
 use Prim.Native.Nat.{_-_, _≤_}
 use borrow.Author.Needs.{needs}
 use Rattle.trial_causes.proofs.calls.dirty_table.Statement.{statement}
 use Rattle.trial_causes.proofs.calls.dirty_table.Tie as tie
 
 abbrev Inv-loop : tie.InvT-loop
-Inv-loop rows₀ predecessors₀ i₀ rows predecessors i = i ≤ 4096
+Inv-loop rows₀ predecessors₀ i₀ rows predecessors i = i ≤ 5100
 
 abbrev μ-loop : tie.MeasureT-loop
-μ-loop rows₀ predecessors₀ i₀ rows predecessors i = 4096 - i
+μ-loop rows₀ predecessors₀ i₀ rows predecessors i = 5100 - i
 
 loop-holds : tie.Need-loop-holds Inv-loop μ-loop
 loop-holds c = search needs

@@ -1,14 +1,14 @@
--- The loop's invariant: `i` is at most 5000.
+-- The loop's invariant: `i` is at most 5100.
 use Prim.Native.Nat.{_-_, _≤_}
 use borrow.Author.Needs.{needs}
 use Rattle.trial_limits.proofs.lent.kept_from.Statement.{statement}
 use Rattle.trial_limits.proofs.lent.kept_from.Tie as tie
 
 abbrev Inv-loop : tie.InvT-loop
-Inv-loop part start kept₀ i₀ kept i = i ≤ 5000
+Inv-loop part start kept₀ i₀ kept i = i ≤ 5100
 
 abbrev μ-loop : tie.MeasureT-loop
-μ-loop part start kept₀ i₀ kept i = 5000 - i
+μ-loop part start kept₀ i₀ kept i = 5100 - i
 
 loop-holds : tie.Need-loop-holds Inv-loop μ-loop
 loop-holds c = search needs

@@ -1,8 +1,8 @@
 -- The loop's invariant: `i` is at most 4096, and the number below 1,000,003.
 use Prim.Native.Nat.{_-_, _≤_, _<_}
 use borrow.Author.Needs.{needs}
-use Rattle.trial_causes.proofs.calls.table_number.Statement.{statement}
-use Rattle.trial_causes.proofs.calls.table_number.Tie as tie
+use Rattle.trial_causes.proofs.calls.front_number.Statement.{statement}
+use Rattle.trial_causes.proofs.calls.front_number.Tie as tie
 
 abbrev Inv-loop : tie.InvT-loop
 Inv-loop rows predecessors number₀ same₀ i₀ number same i = (i ≤ 4096) × (number < 1000003)
@@ -82,8 +82,8 @@ returns c = search needs
 returns-2 : tie.Need-returns-2 Inv-loop μ-loop
 returns-2 c = search needs
 
-pub table-number-spec : {M : Type 1} → statement M
-table-number-spec =
+pub front-number-spec : {M : Type 1} → statement M
+front-number-spec =
     tie.close
     (tie.spec
     Inv-loop
