@@ -37,7 +37,7 @@ gave-is r after = (refl, refl, refl)
 blank-untrue : IsTrue (emptyBoard blank) → ⊥
 blank-untrue w = let some : 1 ≤ 0 = w .limits .engines .0 in omega (arith, some)
 
-pub open-means : (file : List ℕ) (o : Outcome) (b : Board) → o ≡ readOutcome (readFile file) → b ≡ openedBoard (readFile file) → OpenMeans file o b
+pub open-means : (file : List ℕ) (o : Outcome) (b : Board) → o ≡ readOutcome (readFile file) → b ≡ openedBoard (readFile file) → OpenMeans (readFile file) o b
 open-means file o b a s = record {
   opens = λ y e. a ∙ ap readOutcome e;
   fresh = λ y e. subst (IsFresh y) (sym (is y e)) (fresh-is y);

@@ -8,7 +8,7 @@ use lib.Dec.{leb, ltb}
 use Rattle.system.specs.declared.System.{System}
 use Rattle.system.specs.Values.{ceilingsOf}
 use Rattle.system.specs.Limits.{engineLimit}
-use Rattle.system.specs.Layout.{readFile, readOutcome}
+use Rattle.system.specs.Layout.{Reading, readOutcome}
 use Rattle.system.specs.Outcome.{Outcome, accepted, refused, fromInput, fromState, outcomeOf, Checked, passes, fails, check, andThen}
 use Rattle.loads.specs.Load.{fitsEngine, holdsNone, oneMore, oneLess}
 use Rattle.partition.specs.ForSystem.{placeable, recoveredFor}
@@ -170,10 +170,10 @@ restoreOf b e table = checked (checkRestore b e) b table (result (accepted []) (
 abbrev pub gave : Turn → Lent → Result
 gave r after = result (outcomeOf (r .answer)) (r .board) after
 
--- what opening a file promises of its whole result
-pub record Opens (file : List ℕ) (r : Turn) : Type 0 where
-  pub answer : outcomeOf (r .answer) ≡ readOutcome (readFile file)
-  pub board : r .board ≡ openedBoard (readFile file)
+-- what opening a file promises of its whole result, by what the file reads as
+pub record Opens (x : Reading) (r : Turn) : Type 0 where
+  pub answer : outcomeOf (r .answer) ≡ readOutcome x
+  pub board : r .board ≡ openedBoard x
 
 -- what a call promises of its whole result, and of the table
 pub record Does (x : Result) (r : Turn) (after : Lent) : Type 0 where

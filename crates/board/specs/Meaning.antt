@@ -10,7 +10,7 @@ use Rattle.system.specs.declared.There.the-variants.{Takes}
 use Rattle.system.specs.declared.Kind.{Kind}
 use Rattle.system.specs.declared.Second.the-variants.{TwoKinds}
 use Rattle.system.specs.declared.System.{System}
-use Rattle.system.specs.Layout.{readFile, opened, unread}
+use Rattle.system.specs.Layout.{Reading, opened, unread}
 use Rattle.system.specs.Outcome.{Outcome, Source, accepted, refused, fromInput, fromState, isAccepted}
 use Rattle.partition.specs.Assignment.{enginesTo}
 use Rattle.partition.specs.Lent.{Lent, lent}
@@ -28,12 +28,12 @@ pub record TrueMeans (b : Board) : Type 0 where
   pub placed : IsTrue b → Stands (b .system) (EngineIn b) (standsNo b) (b .loads)
 
 -- opening: of a file that opens, the fresh board of its system, which is true; of any other, the number of the refusal, and a board that is not true, so that every call refuses it 20
-pub record OpenMeans (file : List ℕ) (o : Outcome) (b : Board) : Type 0 where
-  pub opens : (y : System) → readFile file ≡ opened y → o ≡ accepted []
-  pub fresh : (y : System) → readFile file ≡ opened y → IsFresh y b
-  pub isTrue : (y : System) → readFile file ≡ opened y → IsTrue b
-  pub refuses : (n : ℕ) → readFile file ≡ unread n → o ≡ refused fromInput n
-  pub untrue : (n : ℕ) → readFile file ≡ unread n → IsTrue b → ⊥
+pub record OpenMeans (x : Reading) (o : Outcome) (b : Board) : Type 0 where
+  pub opens : (y : System) → x ≡ opened y → o ≡ accepted []
+  pub fresh : (y : System) → x ≡ opened y → IsFresh y b
+  pub isTrue : (y : System) → x ≡ opened y → IsTrue b
+  pub refuses : (n : ℕ) → x ≡ unread n → o ≡ refused fromInput n
+  pub untrue : (n : ℕ) → x ≡ unread n → IsTrue b → ⊥
 
 -- What each call means for a true board and a table that 11 passes
 

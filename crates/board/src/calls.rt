@@ -1,5 +1,6 @@
 // Opening a board, and the six calls: admit, seat, retire, repack, withdraw, restore. Each checks first and works second.
 ghost use mathlib.Core.List.{[]};
+ghost use Rattle.system.specs.Layout.{readFile};
 ghost use Rattle.system.specs.Outcome.{outcomeOf};
 ghost use Rattle.partition.specs.Lent.{lent};
 ghost use Rattle.board.specs.Calls.{admitOf, seatOf, retireOf, repackOf, withdrawOf, restoreOf, gave, Opens, Does};
@@ -14,8 +15,8 @@ use system::Check;
 
 // The fresh board of a system file, or the blank board where the file is refused.
 pub fn open_board(file: &[u8]) -> Turn
-    ensures { λ r. ⌜ Opens (now (file .entry)) r ⌝ }
-    ensures { λ r. ⌜ OpenMeans (now (file .entry)) (outcomeOf (r .answer)) (r .board) ⌝ }
+    ensures { λ r. ⌜ Opens (readFile (now (file .entry))) r ⌝ }
+    ensures { λ r. ⌜ OpenMeans (readFile (now (file .entry))) (outcomeOf (r .answer)) (r .board) ⌝ }
 {
     let o = system::read_system(file);
     let a = o.answer;

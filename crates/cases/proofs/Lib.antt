@@ -2,3 +2,5 @@
 pub mod Shown
 pub mod OursShown
 pub mod EdgesShown
+pub mod SupposedShown
+pub mod WorkedShown

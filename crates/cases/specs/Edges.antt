@@ -122,6 +122,15 @@ edges =
     ∷ edge (withTypes (goodType ∷ field 3 4 (0 ∷ two 5) ∷ [])) 1
     ∷ edge (withTypes (goodBoth ∷ (4 ∷ 0 ∷ []) ∷ [])) 1
     ∷ edge (withTypes (goodType ∷ field 4 2 (1 ∷ []) ∷ [])) 1
+    -- "start cut (1), 2, 3": before the tag of what is left over is known, or its place is judged
+    ∷ edge (goodPlatform ++ (8 ∷ [])) 1
+    ∷ edge (goodPlatform ++ (3 ∷ 0 ∷ [])) 1
+    ∷ edge (withTypes (goodBoth ∷ (255 ∷ 0 ∷ []) ∷ [])) 1
+    ∷ edge (withTypes (goodAll ∷ (1 ∷ []) ∷ [])) 1
+    ∷ edge (withKinds ((0 ∷ 0 ∷ []) ∷ [])) 1
+    ∷ edge (withKinds ((6 ∷ []) ∷ [])) 1
+    ∷ edge (withKinds (goodThere ∷ (8 ∷ 0 ∷ []) ∷ [])) 1
+    ∷ edge (withKinds (goodThere ∷ (4 ∷ []) ∷ [])) 1
     ∷ edge (field 0 10 [] ++ goodType) 2
     ∷ edge (withTypes (goodAll ∷ field 8 2 (two 1) ∷ [])) 2
     ∷ edge goodType 3
@@ -252,6 +261,8 @@ paceEdges =
     ∷ edge (withTypes (goodPaced ∷ goodSecond ∷ [])) 3
     ∷ edge (withKinds (goodThere ∷ paceWith 2 5 ∷ [])) 3
     ∷ edge (withTypes (goodAll ∷ (5 ∷ 0 ∷ []) ∷ [])) 1
+    ∷ edge (withTypes (goodPaced ∷ (8 ∷ []) ∷ [])) 1
+    ∷ edge (withTypes (goodPaced ∷ (3 ∷ 0 ∷ []) ∷ [])) 1
     ∷ edge (withTypes (goodType ∷ field 5 8 (four 2 ++ (0 ∷ two 5)) ∷ [])) 1
     ∷ edge (withTypes (goodType ∷ field 5 9 [] ∷ [])) 4
     ∷ edge (withTypes (goodType ∷ field 5 4 (two 2 ++ two 5) ∷ [])) 4

@@ -2,3 +2,5 @@
 pub mod Cases
 pub mod Ours
 pub mod Edges
+pub mod Supposed
+pub mod Worked

@@ -31,13 +31,13 @@ refused-input (State m) n e = let z : _≡_ {A = ℕ} 0 1 = cc in absurd (omega 
 
 module _ (file counts : List ℕ) (ticks : ℕ) (six : length counts ≡ 6) where
   -- the file is refused
-  pub unread-promises : (r : Opened) → Reads (readFile file) r → (why : Refusal) → r .answer ≡ Declined why → RunPromises file counts ticks (Refused why)
+  pub unread-promises : (r : Opened) → Reads (readFile file) r → (why : Refusal) → r .answer ≡ Declined why → RunPromises (readFile file) counts ticks (Refused why)
   unfolding runEngine
   unread-promises r reads why is =
       let (n, same, says) = unread-with (readFile file) r reads why is in
-      promises-of file counts ticks (limits-read file) six (Refused why) (rw same (refused-input why n says))
+      promises-of (readFile file) counts ticks (limits-read file) six (Refused why) (rw same (refused-input why n says))
 
   -- it reads as a system
-  pub opened-promises : (y : System) → readFile file ≡ opened y → (r : RunAnswer) → runOutcomeOf r ≡ runOver y counts ticks → RunPromises file counts ticks r
+  pub opened-promises : (y : System) → readFile file ≡ opened y → (r : RunAnswer) → runOutcomeOf r ≡ runOver y counts ticks → RunPromises (readFile file) counts ticks r
   unfolding runEngine
-  opened-promises y is r e = promises-of file counts ticks (limits-read file) six r (rw is e)
+  opened-promises y is r e = promises-of (readFile file) counts ticks (limits-read file) six r (rw is e)

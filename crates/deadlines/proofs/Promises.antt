@@ -11,7 +11,7 @@ use Rattle.system.specs.declared.Pace.the-variants.{Unpaced}
 use Rattle.system.specs.declared.Refusal.{Refusal}
 use Rattle.system.specs.declared.Refusal.the-variants.{Input, State}
 use Rattle.system.specs.declared.System.{System}
-use Rattle.system.specs.Layout.{readFile, opened}
+use Rattle.system.specs.Layout.{Reading, opened}
 use Rattle.system.specs.Outcome.{fromInput}
 use Rattle.partition.specs.OwnWords.{noType}
 use Rattle.partition.specs.Plain.{typeNo, LimitsOut}
@@ -139,12 +139,12 @@ module _ (y : System) (ns : List ℕ) (ticks : ℕ) where
         go (inr h) true p true q = let l = leb-true ticks _ q in absurd (omega arith)
 
 -- main
-module _ (file counts : List ℕ) (ticks : ℕ) (limits : (y : System) → readFile file ≡ opened y → LimitsOut y) (six : length counts ≡ 6) where
-  pub promises-of : (r : RunAnswer) → runOutcomeOf r ≡ runEngine (readFile file) counts ticks → RunPromises file counts ticks r
+module _ (x : Reading) (counts : List ℕ) (ticks : ℕ) (limits : (y : System) → x ≡ opened y → LimitsOut y) (six : length counts ≡ 6) where
+  pub promises-of : (r : RunAnswer) → runOutcomeOf r ≡ runEngine x counts ticks → RunPromises x counts ticks r
   unfolding runEngine
   promises-of r whole = record { answers = whole; fileFirst = λ n is. rw is at whole; then44 = refused-44; then45 = refused-45; else = runs; means = meant }
     where
-      over : (y : System) → readFile file ≡ opened y → runOutcomeOf r ≡ runOver y counts ticks
+      over : (y : System) → x ≡ opened y → runOutcomeOf r ≡ runOver y counts ticks
       over y is = rw is at whole
 
       differ : {o : RunOutcome} {m n : ℕ} → o ≡ notRun fromInput m → o ≡ notRun fromInput n → m ≡ n
@@ -153,14 +153,14 @@ module _ (file counts : List ℕ) (ticks : ℕ) (limits : (y : System) → readF
       never : {o : RunOutcome} {m idle : ℕ} {miss : FirstMiss} → o ≡ notRun fromInput m → o ≡ ran idle miss → ⊥
       never e f = let z : _≡_ {A = ℕ} 0 1 = cc in omega arith
 
-      all-paced : (y : System) → readFile file ≡ opened y → (NoPace y counts → ⊥) → allPaced (y .types) counts ≡ true
+      all-paced : (y : System) → x ≡ opened y → (NoPace y counts → ⊥) → allPaced (y .types) counts ≡ true
       all-paced y is n = go (allPaced (y .types) counts) refl
         where
           go : (b : Bool) → allPaced (y .types) counts ≡ b → b ≡ true
           go true e = refl
           go false e = absurd (n (unpaced-told y counts ticks (limits y is) six e))
 
-      refused-44 : (y : System) → readFile file ≡ opened y → (runOutcomeOf r ≡ notRun fromInput 44) ↔ NoPace y counts
+      refused-44 : (y : System) → x ≡ opened y → (runOutcomeOf r ≡ notRun fromInput 44) ↔ NoPace y counts
       refused-44 y is = (there, λ n. over y is ∙ over-44 y counts ticks (told-unpaced y counts ticks (limits y is) six n))
         where
           there : runOutcomeOf r ≡ notRun fromInput 44 → NoPace y counts
@@ -171,7 +171,7 @@ module _ (file counts : List ℕ) (ticks : ℕ) (limits : (y : System) → readF
               go true p false q = absurd (omega (arith, differ e (over y is ∙ over-45 y counts ticks p q)))
               go true p true q = absurd (never e (over y is ∙ over-ran y counts ticks p q))
 
-      refused-45 : (y : System) → readFile file ≡ opened y → (NoPace y counts → ⊥) → (runOutcomeOf r ≡ notRun fromInput 45) ↔ TooMuch counts ticks
+      refused-45 : (y : System) → x ≡ opened y → (NoPace y counts → ⊥) → (runOutcomeOf r ≡ notRun fromInput 45) ↔ TooMuch counts ticks
       refused-45 y is n = (there, λ m. over y is ∙ over-45 y counts ticks (all-paced y is n) (told-large y counts ticks (limits y is) six m))
         where
           there : runOutcomeOf r ≡ notRun fromInput 45 → TooMuch counts ticks
@@ -181,14 +181,14 @@ module _ (file counts : List ℕ) (ticks : ℕ) (limits : (y : System) → readF
               go false q = large-told y counts ticks (limits y is) six q
               go true q = absurd (never e (over y is ∙ over-ran y counts ticks (all-paced y is n) q))
 
-      runs : (y : System) → readFile file ≡ opened y → (NoPace y counts → ⊥) → (TooMuch counts ticks → ⊥) → (idle : ℕ) × (miss : FirstMiss) × (runOutcomeOf r ≡ ran idle miss)
+      runs : (y : System) → x ≡ opened y → (NoPace y counts → ⊥) → (TooMuch counts ticks → ⊥) → (idle : ℕ) × (miss : FirstMiss) × (runOutcomeOf r ≡ ran idle miss)
       runs y is n m = go (fewEnough counts ticks) refl
         where
           go : (b : Bool) → fewEnough counts ticks ≡ b → (idle : ℕ) × (miss : FirstMiss) × (runOutcomeOf r ≡ ran idle miss)
           go false q = absurd (m (large-told y counts ticks (limits y is) six q))
           go true q = (runOf ticks (jobsOf (y .types) counts) .idle, missOf (runOf ticks (jobsOf (y .types) counts) .missed), over y is ∙ over-ran y counts ticks (all-paced y is n) q)
 
-      meant : (y : System) (idle : ℕ) (miss : FirstMiss) → readFile file ≡ opened y → runOutcomeOf r ≡ ran idle miss → RunMeans y counts ticks idle miss
+      meant : (y : System) (idle : ℕ) (miss : FirstMiss) → x ≡ opened y → runOutcomeOf r ≡ ran idle miss → RunMeans y counts ticks idle miss
       meant y idle miss is told =
           let f = ran-of y counts ticks idle miss (sym (over y is) ∙ told) in
           rw (f .1, f .2) (run-means y counts (limits y is) six (f .0) ticks)

@@ -10,7 +10,7 @@ use lib.Dec.{eqb}
 use Rattle.system.specs.declared.Cycle.{Cycle}
 use Rattle.system.specs.declared.Pace.the-variants.{Unpaced, Paced}
 use Rattle.system.specs.declared.System.{System}
-use Rattle.system.specs.Layout.{readFile, opened, unread}
+use Rattle.system.specs.Layout.{Reading, opened, unread}
 use Rattle.system.specs.Outcome.{fromInput}
 use Rattle.partition.specs.Plain.{typeNo}
 use Rattle.deadlines.specs.declared.RunAnswer.{RunAnswer}
@@ -109,11 +109,12 @@ instancesOn counts = countNo counts 1 + (countNo counts 2 + (countNo counts 3 + 
 abbrev pub TooMuch : List ℕ → ℕ → Type 0
 TooMuch counts ticks = (64 < instancesOn counts) ⊎ (65535 < ticks)
 
--- What the call `run_engine` promises of every file, six counts and number of ticks: its whole answer; the order of its refusals; and what a report means
-pub record RunPromises (file : List ℕ) (counts : List ℕ) (ticks : ℕ) (r : RunAnswer) : Type 0 where
-  pub answers : runOutcomeOf r ≡ runEngine (readFile file) counts ticks
-  pub fileFirst : (n : ℕ) → readFile file ≡ unread n → runOutcomeOf r ≡ notRun fromInput n
-  pub then44 : (y : System) → readFile file ≡ opened y → (runOutcomeOf r ≡ notRun fromInput 44) ↔ NoPace y counts
-  pub then45 : (y : System) → readFile file ≡ opened y → (NoPace y counts → ⊥) → (runOutcomeOf r ≡ notRun fromInput 45) ↔ TooMuch counts ticks
-  pub else : (y : System) → readFile file ≡ opened y → (NoPace y counts → ⊥) → (TooMuch counts ticks → ⊥) → (idle : ℕ) × (miss : FirstMiss) × (runOutcomeOf r ≡ ran idle miss)
-  pub means : (y : System) (idle : ℕ) (miss : FirstMiss) → readFile file ≡ opened y → runOutcomeOf r ≡ ran idle miss → RunMeans y counts ticks idle miss
+-- What the call `run_engine` promises of what every file reads as, six counts and number of ticks: its whole answer; the order of its refusals; and what a report means.
+-- The bytes of the file are not known here: two files that read alike are run alike
+pub record RunPromises (x : Reading) (counts : List ℕ) (ticks : ℕ) (r : RunAnswer) : Type 0 where
+  pub answers : runOutcomeOf r ≡ runEngine x counts ticks
+  pub fileFirst : (n : ℕ) → x ≡ unread n → runOutcomeOf r ≡ notRun fromInput n
+  pub then44 : (y : System) → x ≡ opened y → (runOutcomeOf r ≡ notRun fromInput 44) ↔ NoPace y counts
+  pub then45 : (y : System) → x ≡ opened y → (NoPace y counts → ⊥) → (runOutcomeOf r ≡ notRun fromInput 45) ↔ TooMuch counts ticks
+  pub else : (y : System) → x ≡ opened y → (NoPace y counts → ⊥) → (TooMuch counts ticks → ⊥) → (idle : ℕ) × (miss : FirstMiss) × (runOutcomeOf r ≡ ran idle miss)
+  pub means : (y : System) (idle : ℕ) (miss : FirstMiss) → x ≡ opened y → runOutcomeOf r ≡ ran idle miss → RunMeans y counts ticks idle miss

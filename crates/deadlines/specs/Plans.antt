@@ -16,7 +16,7 @@ use Rattle.deadlines.specs.Meaning.{RunPromises}
 
 -- whatever a run of these counts on the file answers, at whatever number of ticks: a report says that none is missed
 abbrev pub NoneMissed : List ℕ → List ℕ → Type 0
-NoneMissed file counts = (ticks : ℕ) (r : RunAnswer) (idle : ℕ) (miss : FirstMiss) → RunPromises file counts ticks r → runOutcomeOf r ≡ ran idle miss → miss ≡ allKept
+NoneMissed file counts = (ticks : ℕ) (r : RunAnswer) (idle : ℕ) (miss : FirstMiss) → RunPromises (readFile file) counts ticks r → runOutcomeOf r ≡ ran idle miss → miss ≡ allKept
 
 -- of every load of a plan that was given
 abbrev pub PlanRuns : List ℕ → List EngineLoad → Type 0

@@ -8,6 +8,7 @@ ghost use Rattle.runs.specs.Run.{jobLimit};
 ghost use Rattle.deadlines.specs.Outcome.{runOutcomeOf};
 ghost use Rattle.deadlines.specs.Engine.{pacedType, allPaced, instances, jobOfType, jobsOf, runChecks, runOver};
 ghost use Rattle.deadlines.specs.Meaning.{RunPromises};
+ghost use Rattle.system.specs.Layout.{readFile};
 ghost use Rattle.system.specs.Outcome.{checkedOf};
 use runs::JOB_LIMIT;
 use runs::Job;
@@ -133,7 +134,7 @@ pub fn run_over(y: System, counts: [u16; TYPE_LIMIT], ticks: usize) -> RunAnswer
 // The run of an engine that holds these counts, over a number of ticks: refused 1 to 10, 31, 41, 43 and 42 as the file is read, then 44, then 45.
 // The counts need not fit the engine.
 pub fn run_engine(file: &[u8], counts: [u16; TYPE_LIMIT], ticks: usize) -> RunAnswer
-    ensures { λ r. ⌜ RunPromises (now (file .entry)) counts ticks r ⌝ }
+    ensures { λ r. ⌜ RunPromises (readFile (now (file .entry))) counts ticks r ⌝ }
 {
     let opened = system::read_system(file);
     let answer = opened.answer;

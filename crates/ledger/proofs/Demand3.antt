@@ -4,6 +4,7 @@ use Prim.Native.Nat.{ℕ, _+_, _-_, _≤_}
 use mathlib.Core.Path.{_≡_, refl, sym, ap, subst, _∙_}
 use mathlib.Core.List.{List, [], _∷_, _++_, map, head-eq-of-cons-eq, tail-eq-of-cons-eq, nil≢cons}
 use mathlib.Core.Bool.{Bool, true, false}
+use mathlib.Core.Logic.{_↔_}
 use native.Mathlib.Omega.{arith}
 use lib.ListN.{length, getD, replicate}
 use Rattle.system.specs.declared.System.{System}
@@ -23,8 +24,8 @@ use Rattle.board.specs.Calls.{Result, gave, Opens, Does}
 use Rattle.board.specs.Words.{countAt, standsNo, markNo, EngineIn, IsTrue, IsFresh}
 use Rattle.board.proofs.Truth.{boardOn, Served, marked-on}
 use Rattle.board.proofs.TrueMeans.{count-out, stands-on, true-on, parted-on, parted-whole, fresh-on, served-clear, fresh-is}
-use Rattle.ledger.specs.Ledger.{Ledger, retire, withdraw, restore, ledgerWith, countsAt, isMarked, freshLedger, ledgerAfter, ledgerAnswers}
-use Rattle.ledger.specs.Demand3.{Request, Made, boardAfter, requestsOf, callsOf, answersOf, addsType, retiresType, acceptedOf, lendsTable, LongTables, CallKept, Demand3, answerOn, played, Ran, madeBy, Promised, none, next}
+use Rattle.ledger.specs.Ledger.{Call, admit, seat, retire, repack, withdraw, restore, Ledger, ledgerWith, countsAt, isMarked, freshLedger, ledgerAfter, ledgerAnswers}
+use Rattle.ledger.specs.Demand3.{Request, Made, boardAfter, requestsOf, callsOf, answersOf, addsType, retiresType, acceptedOf, lendsTable, LongTables, CallKept, Demand3, callOn, answerOn, played, Ran, madeBy, Promised, none, next, KeepsContract, EachKeeps}
 use Rattle.ledger.proofs.Step.{Step, step-of, kept-of}
 
 -- intermediate: the requests of what was played
@@ -177,7 +178,7 @@ promised-played b (r ∷ rs) (next d p) =
     (promised-played (r .turn .board) rs p ∙ ap (λ (a : Board). played a (askedBy rs)) (d .board))
 
 -- `start` is what `open_board` promises of the file, and each of rs what its call's contract promises on the board before it
-pub demand3-runs : (file : List ℕ) (y : System) (start : Turn) (rs : List Ran) → readFile file ≡ opened y → Opens file start → Promised (start .board) rs → LongTables y (map (λ (r : Ran). r .asked) rs)
+pub demand3-runs : (file : List ℕ) (y : System) (start : Turn) (rs : List Ran) → readFile file ≡ opened y → Opens (readFile file) start → Promised (start .board) rs → LongTables y (map (λ (r : Ran). r .asked) rs)
     → Demand3 y (start .board) (map madeBy rs)
 demand3-runs file y start rs opens starts promised long =
     subst (Demand3 y (start .board)) (sym (promised-played (start .board) rs promised))
@@ -189,3 +190,33 @@ long-tables y rs h = h
 
 pub lends-none : (t e : ℕ) → (lendsTable (retire t e) ≡ false) × (lendsTable (withdraw e) ≡ false) × (lendsTable (restore e) ≡ false)
 lends-none t e = (refl, refl, refl)
+
+-- main: what is supposed of the calls is, of every list, that each of them keeps its contract on the board of the one before it, and no more
+
+contract-does : (b : Board) (c : Call) (table : Lent) (t : Turn) (after : Lent) → KeepsContract b c table t after ↔ Does (callOn b c table) t after
+contract-does b (admit n) table t after = (λ d. d, λ d. d)
+contract-does b (seat n) table t after = (λ d. d, λ d. d)
+contract-does b (retire n e) table t after = (λ d. d, λ d. d)
+contract-does b repack table t after = (λ d. d, λ d. d)
+contract-does b (withdraw e) table t after = (λ d. d, λ d. d)
+contract-does b (restore e) table t after = (λ d. d, λ d. d)
+
+each-promised : (b : Board) (rs : List Ran) → EachKeeps b rs → Promised b rs
+unfolding boardAfter
+each-promised b [] h = none
+each-promised b (r ∷ rs) h =
+    next (contract-does b (r .asked .call) (r .asked .table) (r .turn) (r .after) .0 (h [] rs r refl))
+    (each-promised (r .turn .board) rs (λ before after q e. h (r ∷ before) after q (ap (λ (l : List Ran). r ∷ l) e)))
+
+promised-each : (b : Board) (rs : List Ran) → Promised b rs → EachKeeps b rs
+unfolding boardAfter
+promised-each b [] none [] after q e = absurd (nil≢cons e)
+promised-each b [] none (p ∷ before) after q e = absurd (nil≢cons e)
+promised-each b (r ∷ rs) (next d p) [] after q e =
+    subst (λ (x : Ran). KeepsContract b (x .asked .call) (x .asked .table) (x .turn) (x .after)) (head-eq-of-cons-eq e) (contract-does b (r .asked .call) (r .asked .table) (r .turn) (r .after) .1 d)
+promised-each b (r ∷ rs) (next d p) (x ∷ before) after q e =
+    subst (λ (z : Ran). KeepsContract (boardAfter (z .turn .board) (map madeBy before)) (q .asked .call) (q .asked .table) (q .turn) (q .after)) (head-eq-of-cons-eq e)
+    (promised-each (r .turn .board) rs p before after q (tail-eq-of-cons-eq e))
+
+pub promised-exactly : (b : Board) (rs : List Ran) → EachKeeps b rs ↔ Promised b rs
+promised-exactly b rs = (each-promised b rs, promised-each b rs)

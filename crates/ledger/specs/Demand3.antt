@@ -139,3 +139,16 @@ madeBy r = record { asked = r .asked; gives = gave (r .turn) (r .after) }
 pub data Promised : Board → List Ran → Type 0 where
   none : {b : Board} → Promised b []
   next : {b : Board} {r : Ran} {rs : List Ran} → Does (answerOn b (r .asked)) (r .turn) (r .after) → Promised (r .turn .board) rs → Promised b (r ∷ rs)
+
+-- the same place by place, in the words of the contracts themselves (board/src/calls): the call keeps its contract on the board that it was given. A retire, a withdraw and a restore are lent no table
+abbrev pub KeepsContract : Board → Call → Lent → Turn → Lent → Type 0
+KeepsContract b (admit t) table r after = Does (admitOf b t table) r after
+KeepsContract b (seat t) table r after = Does (seatOf b t table) r after
+KeepsContract b (retire t e) table r after = Does (retireOf b t e (lent [] [])) r after
+KeepsContract b repack table r after = Does (repackOf b table) r after
+KeepsContract b (withdraw e) table r after = Does (withdrawOf b e (lent [] [])) r after
+KeepsContract b (restore e) table r after = Does (restoreOf b e (lent [] [])) r after
+
+-- and the board that a call was given is the one that the call before it returned
+abbrev pub EachKeeps : Board → List Ran → Type 0
+EachKeeps b rs = (before after : List Ran) (r : Ran) → rs ≡ before ++ r ∷ after → KeepsContract (boardAfter b (map madeBy before)) (r .asked .call) (r .asked .table) (r .turn) (r .after)

@@ -1,5 +1,6 @@
 -- The plain words in which the demands are stated: n(t), the columns, a table long enough, the limits, what it is to partition instances among engines, and the engines used.
--- No contract of a function cites them. Of the words that one cites they go through `among` and `anyOf` alone (a number is in a list, one of a list passes a test), which proofs/Lists pins,
+-- Of the parts of a contract by which code is described none cites them; the promises beside those parts are made of them.
+-- Of the words that such a part cites they go through `among` and `anyOf` alone (a number is in a list, one of a list passes a test), which proofs/Lists pins,
 -- so that code and statement cannot be wrong together; laws say that the code's words mean the same.
 use Prim.Native.Nat.{ℕ, zero, suc, _+_, _-_, _*_, _≤_, _<_}
 use mathlib.Core.List.{List, []}

@@ -1,4 +1,5 @@
--- Request 2026-13 in plain words, "Cards with two kinds of engine": source 001's Definition 1 with the kind's own u, s, U and S, and what a plan of such a card is. As in `Plain`, no contract of a function cites them.
+-- Request 2026-13 in plain words, "Cards with two kinds of engine": source 001's Definition 1 with the kind's own u, s, U and S, and what a plan of such a card is.
+-- As in `Plain`, of the parts of a contract by which code is described none cites them; the promises beside those parts are made of them.
 use Prim.Native.Nat.{ℕ, zero, suc, _+_, _-_, _≤_, _<_}
 use mathlib.Core.List.{List, []}
 use mathlib.Core.Bool.{true, false, cond}

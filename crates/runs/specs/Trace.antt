@@ -1,4 +1,4 @@
--- A run in words of its own: who runs in which tick, with no word of misses.
+-- A run tick by tick, in the words of `Run`: who runs in which tick; no word of misses.
 use Prim.Native.Nat.{ℕ, zero, suc, _+_}
 use mathlib.Core.List.{List}
 use mathlib.Core.Bool.{cond, _&&_}

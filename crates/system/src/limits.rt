@@ -29,10 +29,10 @@ pub const COLUMN_LIMIT: usize = 4096;
 // What a cell holds that says no, and the lent table where a column has no predecessor.
 pub const NO_COLUMN: u16 = 65535;
 
-// The largest C and T.
+// The largest C and T, and the most ticks of a run (45).
 pub const TICK_LIMIT: u32 = 65535;
 
-// The bytes that program `plan` reads.
+// The bytes of a file, or of a text of numbers, that the programs read.
 pub const FILE_BYTES: usize = 384;
 
 // U and S of a kind of engine, or u and s there: 8.

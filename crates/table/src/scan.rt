@@ -1,4 +1,4 @@
-// Scans of the columns under a load, lowest first, in the row part: for fixed counts of types 2 to 6 they are one run of columns, and `step` goes from run to run.
+// Scans of the columns under a load, lowest first, in the row part: for fixed counts of types 2 to 6 they are one run of columns, and `step` of module `under` goes from run to run.
 ghost use mathlib.Core.Path.{_≡_};
 ghost use Prim.Native.Nat.{_-_};
 ghost use Rattle.system.specs.Limits.{columnsOf};

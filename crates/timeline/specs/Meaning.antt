@@ -130,9 +130,10 @@ fourBytes n = (n / 16777216) ∷ (n / 65536 % 256) ∷ (n / 256 % 256) ∷ (n % 
 abbrev pub inputOut : ℕ → ℕ → ℕ → List ℕ → List ℕ
 inputOut e ticks from file = e ∷ (fourBytes ticks ++ fourBytes from ++ file)
 
--- what the call `watch_read` promises: the same of every input, whatever its length, of whose first bytes, as many as `front` has room for, just these were read;
--- there is room for the numbers and for 384 bytes of the file
+-- what the call `watch_read` promises: the text of the bytes that were read, however few they are; and the same of every input, whatever its length, of whose first bytes,
+-- as many as `front` has room for, just these were read. There is room for the numbers and for 384 bytes of the file
 pub record ReadPromises (front : List ℕ) (read : ℕ) (old new : List ℕ) (r : ℕ) : Type 0 where
   pub size : length front ≡ 393
   pub within : Counts r new
+  pub ofRead : JoinedPromises (take read front) old new r
   pub ofInput : (file : List ℕ) (e ticks from : ℕ) → take (length front) (inputOut e ticks from file) ≡ take read front → WatchPromises file e ticks from old new r

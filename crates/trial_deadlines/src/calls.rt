@@ -1,4 +1,5 @@
 // The calls under test, and their answers as numbers.
+ghost use Rattle.system.specs.Layout.{readFile};
 ghost use Rattle.deadlines.specs.Meaning.{RunPromises};
 use crate::jobs::NEVER;
 use crate::jobs::Seen;
@@ -15,7 +16,7 @@ const LONG: usize = 4100;
 
 // The call with all that it promises, of every file, counts and number of ticks: a contract that said it of some alone would not prove this.
 fn as_promised(file: &[u8], counts: [u16; TYPE_LIMIT], ticks: usize) -> RunAnswer
-    ensures { λ r. ⌜ RunPromises (now (file .entry)) counts ticks r ⌝ }
+    ensures { λ r. ⌜ RunPromises (readFile (now (file .entry))) counts ticks r ⌝ }
 {
     run_engine(file, counts, ticks)
 }

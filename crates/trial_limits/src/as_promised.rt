@@ -1,6 +1,7 @@
 // Opening a board and the six calls with all that they promise, of every file, board, number and table: a contract that said it of some alone would not prove these. Every case of the
 // trial calls them.
 ghost use mathlib.Core.List.{[]};
+ghost use Rattle.system.specs.Layout.{readFile};
 ghost use Rattle.system.specs.Outcome.{outcomeOf};
 ghost use Rattle.partition.specs.Lent.{lent};
 ghost use Rattle.board.specs.Calls.{admitOf, seatOf, retireOf, repackOf, withdrawOf, restoreOf, gave, Opens, Does};
@@ -9,8 +10,8 @@ use board::Board;
 use board::Turn;
 
 pub fn open_board(file: &[u8]) -> Turn
-    ensures { λ r. ⌜ Opens (now (file .entry)) r ⌝ }
-    ensures { λ r. ⌜ OpenMeans (now (file .entry)) (outcomeOf (r .answer)) (r .board) ⌝ }
+    ensures { λ r. ⌜ Opens (readFile (now (file .entry))) r ⌝ }
+    ensures { λ r. ⌜ OpenMeans (readFile (now (file .entry))) (outcomeOf (r .answer)) (r .board) ⌝ }
 {
     board::open_board(file)
 }

@@ -20,7 +20,9 @@
 // - `pace-..`: a C and T (tag 5): its places, lengths and cuts; 43 at both ends of each of its bounds, and in its order among the refusals; in files of one kind and of two, where
 //   it is judged by the first kind's u and U; and what may come after the longest files, which have 229 bytes and 307: nothing;
 // - `place-..-cut`: each of the seven tags as the first field and after each of the seven, its last byte missing, with its own length and with one more: its place (3) is judged before its
-//   length (4), and that before the cut (1).
+//   length (4), and that before the cut (1);
+// - `start-..`: 1 or 2 bytes where a field should start, the first one and after each of the seven tags, with each of the seven tags, right there or not, and with three that are none:
+//   the start's cut (1) is judged before the tag (2), its place (3) and its length (4).
 use crate::show::show;
 use trial::words::Bytes;
 use trial::words::after;

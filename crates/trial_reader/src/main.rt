@@ -12,4 +12,5 @@ fn main() {
     let read = io::read_full(STDIN_FILENO, &mut input);
     lines::say_cases(&input[..read]);
     steps::steps();
+    steps::long_steps();
 }

@@ -1,6 +1,7 @@
 // The field step at some places of a file: the tag and the length that stand there (0 past the end), whether both are there (`headed`, else `bare`), whether
 // the whole field is (`whole`, else `cut`), where its body starts, the place after it, and how long the part is that is handed on as its body.
 use system::Cursor;
+use trial::files::first_of;
 use trial::say::say;
 use trial::say::say_also;
 
@@ -49,4 +50,20 @@ pub fn steps() {
     step(b"step-at-the-end", file, 50);
     step(b"step-after-the-end", file, 51);
     step(b"step-past-the-end", file, 18446744073709551615);
+}
+
+// A field of 300 bytes, whose length takes both of its bytes, 1 and 44, and one of 2 after it; then the long field alone, the same one byte short, and with 44 bytes of its body.
+pub fn long_steps() {
+    let mut file = [46u8; 308];
+    file[0] = 6;
+    file[1] = 1;
+    file[2] = 44;
+    file[303] = 9;
+    file[304] = 0;
+    file[305] = 2;
+    step(b"long-at-0", &file, 0);
+    step(b"long-at-303", &file, 303);
+    step(b"long-alone", first_of(&file, 303), 0);
+    step(b"long-cut-by-one", first_of(&file, 302), 0);
+    step(b"long-cut-after-44", first_of(&file, 47), 0);
 }

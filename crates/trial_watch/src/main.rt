@@ -1,6 +1,7 @@
 // The text that program `watch` writes: a case on each line of standard input, with a name, an engine's number, the ticks, the first tick that is shown, and the bytes of
-// a system file. Prints for each case the text of the whole file, and whether that of what the program reads is the same. What is expected was computed apart from the
-// code, by a model of documents 01 and 02.
+// a system file. Prints for each case the text of the whole file, and whether that of what the program reads is the same. A sixth word says after how many bytes the
+// input ends: then only the text of these is printed, and what stands behind them must change nothing. What is expected was computed apart from the code, by a model
+// of documents 01 and 02.
 ghost use Rattle.timeline.specs.Meaning.{WatchPromises, ReadPromises};
 use buffer::put_byte;
 use buffer::put_bytes;
@@ -18,6 +19,7 @@ use trial::words::CASE_BYTES;
 use trial::words::after;
 use trial::words::byte_of;
 use trial::words::bytes_in;
+use trial::words::line_end;
 use trial::words::number_in;
 use trial::words::part;
 use trial::words::word_end;
@@ -25,13 +27,15 @@ use trial::words::word_end;
 // The bytes of the text that are read at most.
 const TEXT_BYTES: usize = 65536;
 
-// A case: where its name ends, its numbers and its file, and where the next case starts.
+// A case: where its name ends, its numbers and its file, whether its input is cut and after how many bytes, and where the next case starts.
 struct Case {
     named: usize,
     engine: usize,
     ticks: usize,
     from: usize,
     file: Bytes,
+    cut: bool,
+    size: usize,
     next: usize,
 }
 
@@ -41,13 +45,16 @@ fn case_at(text: &[u8], start: usize) -> Case {
     let numbered = word_end(text, after(named));
     let timed = word_end(text, after(numbered));
     let shown = word_end(text, after(timed));
-    let ended = word_end(text, after(shown));
+    let filed = word_end(text, after(shown));
+    let ended = line_end(text, filed);
     Case {
         named,
         engine: number_in(text, after(named), numbered),
         ticks: number_in(text, after(numbered), timed),
         from: number_in(text, after(timed), shown),
-        file: bytes_in(text, after(shown), ended),
+        file: bytes_in(text, after(shown), filed),
+        cut: filed < ended,
+        size: number_in(text, after(filed), ended),
         next: after(ended),
     }
 }
@@ -111,11 +118,24 @@ fn say_read(front: [u8; WATCH_FRONT], size: usize, text: &[u8]) {
     }
 }
 
+// The text of the first bytes of an input.
+fn say_cut(front: [u8; WATCH_FRONT], size: usize) {
+    let mut out = [0u8; WATCH_BYTES];
+    let written = read_promised(front, size, &mut out);
+    say(&out[..written]);
+    say(b" read: cut\n");
+}
+
 fn say_case(name: &[u8], c: Case) {
     say(name);
     say(b":\n");
     let file = c.file;
     let bytes = file.bytes;
+    let front = front_of(c.engine, c.ticks, c.from, bytes);
+    if c.cut {
+        say_cut(front, c.size);
+        return;
+    }
     let mut out = [0u8; WATCH_BYTES];
     let written = watch_promised(
         first_of(&bytes, file.size),
@@ -126,7 +146,6 @@ fn say_case(name: &[u8], c: Case) {
     );
     let text = &out[..written];
     say(text);
-    let front = front_of(c.engine, c.ticks, c.from, bytes);
     say_read(front, file.size % 4096 + 9, text);
 }
 

@@ -37,6 +37,7 @@ returns c =
     record {
       size = l;
       within = c .watch-joined .ensures .written .within;
+      ofRead = rw read at (c .watch-joined .ensures);
       ofInput = λ file e ticks from same. input-promised {file = file} {e = e} {ticks = ticks} {from = from} (ap (λ (n : ℕ). take n (inputOut e ticks from file)) (sym l) ∙ same ∙ sym read) (c .watch-joined .ensures);
     }
 

@@ -1,0 +1,2 @@
+-- The laws of crate `clients`.
+pub mod Wide

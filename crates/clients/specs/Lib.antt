@@ -1,0 +1,2 @@
+-- The definitions of crate `clients`.
+pub mod Wide

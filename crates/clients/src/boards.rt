@@ -1,0 +1,89 @@
+// Boards, causes, counts and runs. The trials of these calls have proved clients of their own, of the same words.
+ghost use mathlib.Core.List.{[]};
+ghost use Rattle.system.specs.Layout.{readFile};
+ghost use Rattle.system.specs.Outcome.{outcomeOf};
+ghost use Rattle.partition.specs.Lent.{lent};
+ghost use Rattle.board.specs.Calls.{admitOf, seatOf, retireOf, repackOf, withdrawOf, restoreOf, gave, Opens, Does};
+ghost use Rattle.board.specs.Meaning.{OpenMeans, AdmitPromises, SeatPromises, RetirePromises, RepackPromises, WithdrawPromises, RestorePromises};
+ghost use Rattle.causes.specs.Meaning.{PlanCausePromises, RoomCausePromises};
+ghost use Rattle.counting.specs.Meaning.{CountPromises};
+ghost use Rattle.deadlines.specs.Meaning.{RunPromises};
+use board::Board;
+use board::Turn;
+use causes::CauseAnswer;
+use counting::CountAnswer;
+use deadlines::RunAnswer;
+use system::TYPE_LIMIT;
+
+pub fn open_board(file: &[u8]) -> Turn
+    ensures { λ r. ⌜ Opens (readFile (now (file .entry))) r ⌝ }
+    ensures { λ r. ⌜ OpenMeans (readFile (now (file .entry))) (outcomeOf (r .answer)) (r .board) ⌝ }
+{
+    board::open_board(file)
+}
+
+pub fn admit(b: Board, t: usize, rows: &mut [u16], predecessors: &mut [u16]) -> Turn
+    ensures { λ r. ⌜ Does (admitOf b t (lent (now (rows .entry)) (now (predecessors .entry)))) r (lent (now (rows .exit)) (now (predecessors .exit))) ⌝ }
+    ensures { λ r. ⌜ AdmitPromises b t (lent (now (rows .entry)) (now (predecessors .entry))) (gave r (lent (now (rows .exit)) (now (predecessors .exit)))) ⌝ }
+{
+    board::admit(b, t, rows, predecessors)
+}
+
+pub fn seat(b: Board, t: usize, rows: &mut [u16], predecessors: &mut [u16]) -> Turn
+    ensures { λ r. ⌜ Does (seatOf b t (lent (now (rows .entry)) (now (predecessors .entry)))) r (lent (now (rows .exit)) (now (predecessors .exit))) ⌝ }
+    ensures { λ r. ⌜ SeatPromises b t (lent (now (rows .entry)) (now (predecessors .entry))) (gave r (lent (now (rows .exit)) (now (predecessors .exit)))) ⌝ }
+{
+    board::seat(b, t, rows, predecessors)
+}
+
+pub fn retire(b: Board, t: usize, e: usize) -> Turn
+    ensures { λ r. ⌜ Does (retireOf b t e (lent [] [])) r (lent [] []) ⌝ }
+    ensures { λ r. ⌜ RetirePromises b t e (gave r (lent [] [])) ⌝ }
+{
+    board::retire(b, t, e)
+}
+
+pub fn repack(b: Board, rows: &mut [u16], predecessors: &mut [u16]) -> Turn
+    ensures { λ r. ⌜ Does (repackOf b (lent (now (rows .entry)) (now (predecessors .entry)))) r (lent (now (rows .exit)) (now (predecessors .exit))) ⌝ }
+    ensures { λ r. ⌜ RepackPromises b (lent (now (rows .entry)) (now (predecessors .entry))) (gave r (lent (now (rows .exit)) (now (predecessors .exit)))) ⌝ }
+{
+    board::repack(b, rows, predecessors)
+}
+
+pub fn withdraw(b: Board, e: usize) -> Turn
+    ensures { λ r. ⌜ Does (withdrawOf b e (lent [] [])) r (lent [] []) ⌝ }
+    ensures { λ r. ⌜ WithdrawPromises b e (gave r (lent [] [])) ⌝ }
+{
+    board::withdraw(b, e)
+}
+
+pub fn restore(b: Board, e: usize) -> Turn
+    ensures { λ r. ⌜ Does (restoreOf b e (lent [] [])) r (lent [] []) ⌝ }
+    ensures { λ r. ⌜ RestorePromises b e (gave r (lent [] [])) ⌝ }
+{
+    board::restore(b, e)
+}
+
+pub fn why_no_plan(file: &[u8], rows: &mut [u16], predecessors: &mut [u16]) -> CauseAnswer
+    ensures { λ r. ⌜ PlanCausePromises (readFile (now (file .entry))) (lent (now (rows .entry)) (now (predecessors .entry))) r (lent (now (rows .exit)) (now (predecessors .exit))) ⌝ }
+{
+    causes::why_no_plan(file, rows, predecessors)
+}
+
+pub fn why_no_room(b: Board, t: usize, rows: &mut [u16], predecessors: &mut [u16]) -> CauseAnswer
+    ensures { λ r. ⌜ RoomCausePromises b t (lent (now (rows .entry)) (now (predecessors .entry))) r (lent (now (rows .exit)) (now (predecessors .exit))) ⌝ }
+{
+    causes::why_no_room(b, t, rows, predecessors)
+}
+
+pub fn count_assignments(file: &[u8], part: &mut [u64]) -> CountAnswer
+    ensures { λ r. ⌜ CountPromises (readFile (now (file .entry))) (now (part .entry)) r (now (part .exit)) ⌝ }
+{
+    counting::count_assignments(file, part)
+}
+
+pub fn run_engine(file: &[u8], counts: [u16; TYPE_LIMIT], ticks: usize) -> RunAnswer
+    ensures { λ r. ⌜ RunPromises (readFile (now (file .entry))) counts ticks r ⌝ }
+{
+    deadlines::run_engine(file, counts, ticks)
+}

@@ -1,0 +1,48 @@
+// Reading system files, and writing and making them.
+ghost use mathlib.Core.Path.{_≡_};
+ghost use Rattle.system.specs.Layout.{readCard, readFile, fieldAt, Reads};
+ghost use Rattle.system.specs.Inner.{partOf};
+ghost use Rattle.writer.specs.Meaning.{WritePromises};
+ghost use Rattle.making.specs.Meaning.{MakePromises};
+use making::Recipe;
+use system::Answer;
+use system::Cursor;
+use system::Field;
+use system::Opened;
+use system::System;
+
+pub fn read_system(file: &[u8]) -> Opened
+    ensures { λ r. ⌜ Reads (readFile (now (file .entry))) r ⌝ }
+{
+    system::read_system(file)
+}
+
+pub fn read_card(file: &[u8]) -> Opened
+    ensures { λ r. ⌜ Reads (readCard (now (file .entry))) r ⌝ }
+{
+    system::read_card(file)
+}
+
+pub fn field_at(file: &[u8], c: Cursor) -> Field
+    ensures { λ r. ⌜ r ≡ fieldAt (now (file .entry)) (c .at) ⌝ }
+{
+    system::field_at(file, c)
+}
+
+pub fn body_part(file: &[u8], field: Field) -> &[u8]
+    ensures { λ r. ⌜ now r ≡ partOf (now (file .entry)) (field .start) (field .next .at) ⌝ }
+{
+    system::body_part(file, field)
+}
+
+pub fn write_system(y: System, out: &mut [u8]) -> Answer
+    ensures { λ r. ⌜ WritePromises y (now (out .entry)) (now (out .exit)) r ⌝ }
+{
+    writer::write_system(y, out)
+}
+
+pub fn make_file(w: Recipe, out: &mut [u8]) -> Answer
+    ensures { λ r. ⌜ MakePromises w (now (out .entry)) (now (out .exit)) r ⌝ }
+{
+    making::make_file(w, out)
+}

@@ -1,0 +1,34 @@
+-- Every file of a system within the limits is, field by field, a beginning in the sense of system/specs/Fields, whichever zero tags 3 it has. So what is said there of the next field and of the file's end is said of every such file, after each of its fields.
+use Prim.Native.Nat.{ℕ, suc, _≤_, _<_}
+use mathlib.Core.List.{List, [], _∷_, _++_}
+use mathlib.Core.Bool.{Bool}
+use mathlib.Core.Path.{_≡_}
+use Rattle.system.specs.declared.Kind.{Kind}
+use Rattle.system.specs.declared.Second.the-variants.{TwoKinds}
+use Rattle.system.specs.declared.TaskType.{TaskType}
+use Rattle.system.specs.declared.System.{System}
+use Rattle.system.specs.Layout.{unread, readCard}
+use Rattle.system.specs.Fields.{WholeFields, AtEnd, Begun}
+use Rattle.partition.specs.Plain.{typeNo}
+use Rattle.writer.specs.Meaning.{twoOut, fourOut, platformOut, secondOut, typesOut, fileWith}
+
+-- a file up to the last field of type t, counted from 1; of t 0, up to its first type
+abbrev pub upToType : (ℕ → Bool) → System → ℕ → List ℕ
+upToType told y t = platformOut y ++ (secondOut (y .second) ++ typesOut told y t)
+
+-- the field of a type's u, s and n alone, without its d, its q, its C and T, and its u and s on the second kind
+abbrev pub ownOut : TaskType → List ℕ
+ownOut t = 2 ∷ 0 ∷ 10 ∷ (fourOut (t .time) ++ (fourOut (t .memory) ++ twoOut (t .ceiling)))
+
+-- of the file of y that `told` tells: it is read to its end, it is whole fields, and whatever whole fields it starts with are a beginning, so that 1 or 2 bytes after them are refused 1, whatever
+-- they are. So it is one after the platform, after any second kind, after u, s and n of each type, and after all that a type has
+pub record FieldByField (told : ℕ → Bool) (y : System) : Type 0 where
+  pub ends : AtEnd (readCard (fileWith told y))
+  pub whole : (last : ℕ) × (WholeFields (fileWith told y) last)
+  pub each : (p rest : List ℕ) (last : ℕ) → WholeFields p last → p ++ rest ≡ fileWith told y → Begun p last
+  pub one-byte : (p rest : List ℕ) (last a : ℕ) → WholeFields p last → p ++ rest ≡ fileWith told y → readCard (p ++ a ∷ []) ≡ unread 1
+  pub two-bytes : (p rest : List ℕ) (last a b : ℕ) → WholeFields p last → p ++ rest ≡ fileWith told y → readCard (p ++ a ∷ b ∷ []) ≡ unread 1
+  pub platform : Begun (platformOut y) 1
+  pub second : (k : Kind) → y .second ≡ TwoKinds k → Begun (platformOut y ++ secondOut (y .second)) 6
+  pub own : (t : ℕ) → t < y .typecount → Begun (upToType told y t ++ ownOut (typeNo y (suc t))) 2
+  pub types : (t : ℕ) → t ≤ y .typecount → (last : ℕ) × (Begun (upToType told y t) last)
