@@ -1,19 +1,35 @@
-// Boards, causes, counts and runs. The trials of these calls have proved clients of their own, of the same words.
+// Boards, causes, counts and runs. The trials of these calls have proved clients of their own, of the same words; here it is also said plainly of which numbers 13 and 14 are said.
+ghost use Prim.Native.Nat.{_≤_};
 ghost use mathlib.Core.List.{[]};
+ghost use mathlib.Core.Bool.{true};
+ghost use mathlib.Core.Path.{_≡_};
+ghost use mathlib.Core.Logic.{_↔_};
 ghost use Rattle.system.specs.Layout.{readFile};
 ghost use Rattle.system.specs.Outcome.{outcomeOf};
 ghost use Rattle.partition.specs.Lent.{lent};
+ghost use Rattle.board.specs.Truth.{trueBoard};
+ghost use Rattle.board.specs.Words.{IsTrue};
 ghost use Rattle.board.specs.Calls.{admitOf, seatOf, retireOf, repackOf, withdrawOf, restoreOf, gave, Opens, Does};
 ghost use Rattle.board.specs.Meaning.{OpenMeans, AdmitPromises, SeatPromises, RetirePromises, RepackPromises, WithdrawPromises, RestorePromises};
+ghost use Rattle.causes.specs.Causes.{causeNumber, causeOutcomeOf};
 ghost use Rattle.causes.specs.Meaning.{PlanCausePromises, RoomCausePromises};
 ghost use Rattle.counting.specs.Meaning.{CountPromises};
 ghost use Rattle.deadlines.specs.Meaning.{RunPromises};
+ghost use Rattle.clients.specs.Wide.{Says13, Says14, NumberedAsAsked};
 use board::Board;
 use board::Turn;
+use causes::Cause;
 use causes::CauseAnswer;
 use counting::CountAnswer;
 use deadlines::RunAnswer;
 use system::TYPE_LIMIT;
+
+pub fn true_board(b: Board) -> bool
+    ensures { λ r. ⌜ r ≡ trueBoard b ⌝ }
+    ensures { λ r. ⌜ (r ≡ true) ↔ IsTrue b ⌝ }
+{
+    board::true_board(b)
+}
 
 pub fn open_board(file: &[u8]) -> Turn
     ensures { λ r. ⌜ Opens (readFile (now (file .entry))) r ⌝ }
@@ -25,6 +41,7 @@ pub fn open_board(file: &[u8]) -> Turn
 pub fn admit(b: Board, t: usize, rows: &mut [u16], predecessors: &mut [u16]) -> Turn
     ensures { λ r. ⌜ Does (admitOf b t (lent (now (rows .entry)) (now (predecessors .entry)))) r (lent (now (rows .exit)) (now (predecessors .exit))) ⌝ }
     ensures { λ r. ⌜ AdmitPromises b t (lent (now (rows .entry)) (now (predecessors .entry))) (gave r (lent (now (rows .exit)) (now (predecessors .exit)))) ⌝ }
+    ensures { λ r. ⌜ Says13 b t (outcomeOf (r .answer)) ⌝ }
 {
     board::admit(b, t, rows, predecessors)
 }
@@ -32,6 +49,7 @@ pub fn admit(b: Board, t: usize, rows: &mut [u16], predecessors: &mut [u16]) -> 
 pub fn seat(b: Board, t: usize, rows: &mut [u16], predecessors: &mut [u16]) -> Turn
     ensures { λ r. ⌜ Does (seatOf b t (lent (now (rows .entry)) (now (predecessors .entry)))) r (lent (now (rows .exit)) (now (predecessors .exit))) ⌝ }
     ensures { λ r. ⌜ SeatPromises b t (lent (now (rows .entry)) (now (predecessors .entry))) (gave r (lent (now (rows .exit)) (now (predecessors .exit)))) ⌝ }
+    ensures { λ r. ⌜ Says13 b t (outcomeOf (r .answer)) ⌝ }
 {
     board::seat(b, t, rows, predecessors)
 }
@@ -39,6 +57,7 @@ pub fn seat(b: Board, t: usize, rows: &mut [u16], predecessors: &mut [u16]) -> T
 pub fn retire(b: Board, t: usize, e: usize) -> Turn
     ensures { λ r. ⌜ Does (retireOf b t e (lent [] [])) r (lent [] []) ⌝ }
     ensures { λ r. ⌜ RetirePromises b t e (gave r (lent [] [])) ⌝ }
+    ensures { λ r. ⌜ Says13 b t (outcomeOf (r .answer)) × ((1 ≤ t) × (t ≤ b .system .typecount) → Says14 b e (outcomeOf (r .answer))) ⌝ }
 {
     board::retire(b, t, e)
 }
@@ -53,6 +72,7 @@ pub fn repack(b: Board, rows: &mut [u16], predecessors: &mut [u16]) -> Turn
 pub fn withdraw(b: Board, e: usize) -> Turn
     ensures { λ r. ⌜ Does (withdrawOf b e (lent [] [])) r (lent [] []) ⌝ }
     ensures { λ r. ⌜ WithdrawPromises b e (gave r (lent [] [])) ⌝ }
+    ensures { λ r. ⌜ Says14 b e (outcomeOf (r .answer)) ⌝ }
 {
     board::withdraw(b, e)
 }
@@ -60,6 +80,7 @@ pub fn withdraw(b: Board, e: usize) -> Turn
 pub fn restore(b: Board, e: usize) -> Turn
     ensures { λ r. ⌜ Does (restoreOf b e (lent [] [])) r (lent [] []) ⌝ }
     ensures { λ r. ⌜ RestorePromises b e (gave r (lent [] [])) ⌝ }
+    ensures { λ r. ⌜ Says14 b e (outcomeOf (r .answer)) ⌝ }
 {
     board::restore(b, e)
 }
@@ -72,8 +93,16 @@ pub fn why_no_plan(file: &[u8], rows: &mut [u16], predecessors: &mut [u16]) -> C
 
 pub fn why_no_room(b: Board, t: usize, rows: &mut [u16], predecessors: &mut [u16]) -> CauseAnswer
     ensures { λ r. ⌜ RoomCausePromises b t (lent (now (rows .entry)) (now (predecessors .entry))) r (lent (now (rows .exit)) (now (predecessors .exit))) ⌝ }
+    ensures { λ r. ⌜ Says13 b t (causeOutcomeOf r) ⌝ }
 {
     causes::why_no_room(b, t, rows, predecessors)
+}
+
+pub fn cause_number(cause: Cause) -> u8
+    ensures { λ r. ⌜ r ≡ causeNumber cause ⌝ }
+    ensures { λ r. ⌜ NumberedAsAsked cause r ⌝ }
+{
+    causes::cause_number(cause)
 }
 
 pub fn count_assignments(file: &[u8], part: &mut [u64]) -> CountAnswer

@@ -1,15 +1,24 @@
-// Reading system files, and writing and making them.
+// Reading system files, and writing and making them; and the system of which nothing was read.
 ghost use mathlib.Core.Path.{_≡_};
+ghost use Rattle.system.specs.Values.{blank};
 ghost use Rattle.system.specs.Layout.{readCard, readFile, fieldAt, Reads};
 ghost use Rattle.system.specs.Inner.{partOf};
 ghost use Rattle.writer.specs.Meaning.{WritePromises};
 ghost use Rattle.making.specs.Meaning.{MakePromises};
+ghost use Rattle.clients.specs.Wide.{NothingRead};
 use making::Recipe;
 use system::Answer;
 use system::Cursor;
 use system::Field;
 use system::Opened;
 use system::System;
+
+pub fn blank_system() -> System
+    ensures { λ r. ⌜ r ≡ blank ⌝ }
+    ensures { λ r. ⌜ NothingRead r ⌝ }
+{
+    system::blank_system()
+}
 
 pub fn read_system(file: &[u8]) -> Opened
     ensures { λ r. ⌜ Reads (readFile (now (file .entry))) r ⌝ }

@@ -6,7 +6,7 @@
 // - c: the columns that are needed;
 // - l: the listing, whole, or where it is of a plan of two kinds, what is wrong with that;
 // - w: a plan by value, for which the list's records do not count. The used engines and the types that it hands out, what was changed in the parts, and then all of its 16 places,
-//   whether an engine is used there or not. Its file has one right plan alone.
+//   whether an engine is used there or not; then whether `write_listing` of that plan left all bytes past those written as they were, and what it wrote. Its file has one right plan alone.
 use crate::judge;
 use crate::lent::After;
 use crate::lent::Lengths;
@@ -176,6 +176,7 @@ fn say_whole(file: &[u8], n: Lengths) {
     }
     say::say(b"\n");
     whole::say_places(plan);
+    whole::say_lines(plan);
 }
 
 fn say_columns(file: &[u8]) {

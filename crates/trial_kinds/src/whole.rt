@@ -1,13 +1,18 @@
 // A plan by value over dirty parts, and the whole of it: the used engines and the types beside its answer, and the number and the load in each of the 16 places,
-// of which those past the used engines are as much a part of what is handed out as the used ones.
+// of which those past the used engines are as much a part of what is handed out as the used ones. And the listing that is written of it, whose lines have the plan's numbers,
+// in a buffer that held something else before.
 use crate::lent::Lengths;
 use crate::lent::dirty_parts;
 use crate::lent::kept_from;
+use listing::write_listing;
 use planner::Plan;
 use planner::plan_of;
 use system::ENGINE_LIMIT;
 use system::TYPE_LIMIT;
 use trial::say;
+
+// What every byte of the buffer of a listing holds before it is lent: no byte of a text, and not 0.
+const OLD: u8 = 170;
 
 // A plan, and the place from which on both parts are as they were.
 pub struct Whole {
@@ -54,4 +59,25 @@ pub fn say_places(plan: Plan) {
         say::say_load(load, TYPE_LIMIT);
         say::say(b"\n");
     }
+}
+
+// The bytes from `start` on are as they were.
+fn text_kept(out: &[u8; 4096], start: usize) -> bool {
+    let mut kept = true;
+    for i in 0..4096 {
+        kept = kept & ((i < start) | (out[i] == OLD));
+    }
+    kept
+}
+
+// The listing of a plan, on lines of its own.
+pub fn say_lines(plan: Plan) {
+    let mut out: [u8; 4096] = [OLD; 4096];
+    let written = write_listing(&mut out, plan);
+    if text_kept(&out, written) {
+        say::say(b" listing kept\n");
+    } else {
+        say::say(b" listing CHANGED\n");
+    }
+    say::say(&out[..written]);
 }

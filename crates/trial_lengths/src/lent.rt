@@ -79,7 +79,7 @@ fn say_by(
     number: usize,
 ) {
     match kind {
-        b'p' => plans::say_plan(file, rows, predecessors),
+        b'p' | b'P' => plans::say_plan(kind, file, rows, predecessors),
         b'f' => plans::say_fill(file, rows, predecessors),
         b'l' => plans::say_list(file, rows, predecessors),
         b'i' => plans::say_listing(file, rows, predecessors),

@@ -1,22 +1,26 @@
 // The cases as they stand in the text, a line for each: its name, its kind, a file, how many bytes are lent of it (0s behind it), how many entries of the row part and of the predecessor
 // part are lent, how many first entries of each part are printed, and how many may be changed, a number, and a sheet, `-` for none. The kinds, and what the number is:
-// - p plan_of, f fill_table, l plan_list, i listing, w why_no_plan, k columns_needed, g listing_of: nothing;
+// - p plan_of, P plan_one_kind, f fill_table, l plan_list, i listing, w why_no_plan, k columns_needed, h read_system and read_card: nothing;
+// - g listing_of, e sheet_of, u why_of, z tight_of, j make_of, for which the file is the text of seven numbers: nothing;
 // - q plan_into: the records that are lent;
 // - a admit, s seat, x why_no_room: the type of the newcomer, on a fresh board;
 // - r repack, after two of type 1 were admitted to two engines: nothing;
 // - t write_sheet, y write_system, m make_file: the bytes of the buffer that are lent;
 // - c check_sheet, o check_of: the bytes that are lent of the sheet (0s behind it);
-// - v listing_read, b sheet_read: the bytes that were read;
+// - v listing_read, b sheet_read, U why_read, Z tight_read, J make_read, O check_read, for which the file has a sheet behind it: the bytes that were read;
+// - d run_engine, of an engine that holds nothing: the ticks;
 // - n count_assignments, lent as many entries as the row part: nothing.
+// Before a text stands whether all bytes of its buffer past those written are as they were: `kept`.
 use crate::buffers;
 use crate::counts;
 use crate::lent::Lengths;
 use crate::lent::Wide;
 use crate::lent::say_over;
 use crate::lent::wide_of;
+use crate::opened;
 use crate::plans;
-use crate::reads;
 use crate::sheets_of;
+use crate::texts;
 use trial::files::first_of;
 use trial::say;
 use trial::words::Bytes;
@@ -100,13 +104,15 @@ fn say_call(kind: u8, file: &[u8], sheet: Wide, n: Numbers) {
     let lent = n.lent;
     match kind {
         b'k' => plans::say_columns(file),
-        b'g' => plans::say_listing_of(file),
-        b'v' => reads::say_listing_read(file, n.number),
-        b'b' => reads::say_sheet_read(file, n.number),
+        b'h' => opened::say_opened(file),
+        b'd' => opened::say_run(file, n.number),
+        b'g' | b'e' | b'u' | b'z' | b'j' => texts::say_text_of(kind, file),
+        b'v' | b'b' | b'U' | b'Z' | b'J' => texts::say_text_read(kind, file, n.number),
         b'y' => buffers::say_system(file, n.number),
         b'm' => buffers::say_made(n.number),
         b'n' => counts::say_counts(file, lent),
         b'o' => sheets_of::say_check_of(file, sheet, n.number),
+        b'O' => sheets_of::say_check_read(file, n.number),
         _ => say_over(kind, file, sheet, lent, n.number),
     }
 }

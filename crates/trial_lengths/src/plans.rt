@@ -1,14 +1,17 @@
 // Plans by value and into a list of 16 records, listings, causes and filling alone.
+use crate::texts::OLD;
+use crate::texts::say_rest;
 use causes::Cause;
 use causes::CauseAnswer;
 use causes::cause_number;
 use causes::why_no_plan;
 use listing::listing;
-use listing::listing_of;
 use loads::EngineLoad;
 use planner::EngineRecord;
+use planner::Plan;
 use planner::plan_list;
 use planner::plan_of;
+use planner::plan_one_kind;
 use system::Answer;
 use system::ENGINE_LIMIT;
 use system::TYPE_LIMIT;
@@ -28,8 +31,16 @@ fn say_loads(numbers: [usize; ENGINE_LIMIT], loads: [EngineLoad; ENGINE_LIMIT], 
     say::say(b"\n");
 }
 
-pub fn say_plan(file: &[u8], rows: &mut [u16], predecessors: &mut [u16]) {
-    let plan = plan_of(file, rows, predecessors);
+// A plan by value: P where one kind of engine is wanted.
+fn planned(kind: u8, file: &[u8], rows: &mut [u16], predecessors: &mut [u16]) -> Plan {
+    if kind == b'P' {
+        return plan_one_kind(file, rows, predecessors);
+    }
+    plan_of(file, rows, predecessors)
+}
+
+pub fn say_plan(kind: u8, file: &[u8], rows: &mut [u16], predecessors: &mut [u16]) {
+    let plan = planned(kind, file, rows, predecessors);
     let answer = plan.answer;
     let numbers = plan.numbers;
     let loads = plan.loads;
@@ -97,15 +108,9 @@ pub fn say_list(file: &[u8], rows: &mut [u16], predecessors: &mut [u16]) {
 
 // A listing stands on lines of its own.
 pub fn say_listing(file: &[u8], rows: &mut [u16], predecessors: &mut [u16]) {
-    let mut out = io::buffer();
+    let mut out: [u8; 4096] = [OLD; 4096];
     let written = listing(file, rows, predecessors, &mut out);
-    say::say(b"\n");
-    say::say(&out[..written]);
-}
-
-pub fn say_listing_of(file: &[u8]) {
-    let mut out = io::buffer();
-    let written = listing_of(file, &mut out);
+    say_rest(&out, written);
     say::say(b"\n");
     say::say(&out[..written]);
 }

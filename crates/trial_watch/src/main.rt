@@ -1,6 +1,7 @@
 // The text that program `watch` writes: a case on each line of standard input, with a name, an engine's number, the ticks, the first tick that is shown, and the bytes of
 // a system file. Prints for each case the text of the whole file, and whether that of what the program reads is the same. A sixth word says after how many bytes the
-// input ends: then only the text of these is printed, and what stands behind them must change nothing. What is expected was computed apart from the code, by a model
+// input ends: then only the text of these is printed, and what stands behind them must change nothing. Every byte of a buffer held something else before: `kept` says that all
+// past those written are as they were, of the buffer of what was read, and then of that of the whole file. What is expected was computed apart from the code, by a model
 // of documents 01 and 02.
 ghost use Rattle.timeline.specs.Meaning.{WatchPromises, ReadPromises};
 use buffer::put_byte;
@@ -26,6 +27,9 @@ use trial::words::word_end;
 
 // The bytes of the text that are read at most.
 const TEXT_BYTES: usize = 65536;
+
+// What every byte of a buffer holds before it is lent: no byte of a text, and not 0.
+const OLD: u8 = 170;
 
 // A case: where its name ends, its numbers and its file, whether its input is cut and after how many bytes, and where the next case starts.
 struct Case {
@@ -107,23 +111,44 @@ fn read_promised(front: [u8; WATCH_FRONT], read: usize, out: &mut [u8; WATCH_BYT
     watch_read(front, read, out)
 }
 
+// The bytes from `start` on are as they were.
+fn kept_from(out: &[u8; WATCH_BYTES], start: usize) -> bool {
+    let mut kept = true;
+    for i in 0..WATCH_BYTES {
+        kept = kept & ((i < start) | (out[i] == OLD));
+    }
+    kept
+}
+
+// Whether all bytes past those written are as they were.
+fn say_rest(out: &[u8; WATCH_BYTES], written: usize) {
+    if kept_from(out, written) {
+        say(b" kept");
+    } else {
+        say(b" CHANGED");
+    }
+}
+
 // Whether what the program reads has this text.
 fn say_read(front: [u8; WATCH_FRONT], size: usize, text: &[u8]) {
-    let mut out = [0u8; WATCH_BYTES];
+    let mut out: [u8; WATCH_BYTES] = [OLD; WATCH_BYTES];
     let written = read_promised(front, size, &mut out);
     if same(text, &out[..written]) {
-        say(b" read: same\n");
+        say(b" read: same");
     } else {
-        say(b" read: other\n");
+        say(b" read: other");
     }
+    say_rest(&out, written);
 }
 
 // The text of the first bytes of an input.
 fn say_cut(front: [u8; WATCH_FRONT], size: usize) {
-    let mut out = [0u8; WATCH_BYTES];
+    let mut out: [u8; WATCH_BYTES] = [OLD; WATCH_BYTES];
     let written = read_promised(front, size, &mut out);
     say(&out[..written]);
-    say(b" read: cut\n");
+    say(b" read: cut");
+    say_rest(&out, written);
+    say(b"\n");
 }
 
 fn say_case(name: &[u8], c: Case) {
@@ -136,7 +161,7 @@ fn say_case(name: &[u8], c: Case) {
         say_cut(front, c.size);
         return;
     }
-    let mut out = [0u8; WATCH_BYTES];
+    let mut out: [u8; WATCH_BYTES] = [OLD; WATCH_BYTES];
     let written = watch_promised(
         first_of(&bytes, file.size),
         c.engine,
@@ -147,6 +172,8 @@ fn say_case(name: &[u8], c: Case) {
     let text = &out[..written];
     say(text);
     say_read(front, file.size % 4096 + 9, text);
+    say_rest(&out, written);
+    say(b"\n");
 }
 
 // All cases of the text: there are fewer of them than bytes.

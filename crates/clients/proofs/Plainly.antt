@@ -1,0 +1,34 @@
+-- From the definitions by which a cause is numbered and a blank system made, what stands in plain numbers.
+use Prim.Native.Nat.{ℕ}
+use mathlib.Core.Path.{_≡_, ap, _∙_}
+use Rattle.system.specs.declared.System.{System}
+use Rattle.system.specs.Values.{blank}
+use Rattle.causes.specs.declared.Cause.{Cause}
+use Rattle.causes.specs.declared.Cause.the-variants.{Possible, NoEngine, OneTooLarge, TooMuchTime, TooMuchMemory, TooManyReplicas, NoArrangement}
+use Rattle.causes.specs.Causes.{causeNumber}
+use Rattle.clients.specs.Wide.{NumberedAsAsked, NothingRead}
+
+numbered-as : (c d : Cause) (n : ℕ) → n ≡ causeNumber c → c ≡ d → n ≡ causeNumber d
+numbered-as c d n e is = e ∙ ap (λ (k : Cause). causeNumber k) is
+
+pub cause-numbered : (c : Cause) (n : ℕ) → n ≡ causeNumber c → NumberedAsAsked c n
+cause-numbered c n e = (
+  numbered-as c Possible n e,
+  numbered-as c NoEngine n e,
+  (λ t. numbered-as c (OneTooLarge t) n e),
+  numbered-as c TooMuchTime n e,
+  numbered-as c TooMuchMemory n e,
+  numbered-as c TooManyReplicas n e,
+  numbered-as c NoArrangement n e,
+)
+
+pub nothing-read : (y : System) → y ≡ blank → NothingRead y
+nothing-read y e = (
+  ap (λ (z : System). z .engines) e,
+  ap (λ (z : System). z .rule) e,
+  ap (λ (z : System). z .timecap) e,
+  ap (λ (z : System). z .memorycap) e,
+  ap (λ (z : System). z .typecount) e,
+  ap (λ (z : System). z .types) e,
+  ap (λ (z : System). z .second) e,
+)
