@@ -62,20 +62,20 @@ module _ (y : System) (keeps : keepsLimits y ≡ true) (sheet : List ℕ) where
       go true q = absurd (omega (arith, laid-short q))
       go false q = rw q
 
-check-cut : (x : Reading) (sheet : List ℕ) → ((y : System) → x ≡ opened y → keepsLimits y ≡ true) → readingCheck x (take partBytes sheet) ≡ readingCheck x sheet
-check-cut (unread n) sheet known = unfold readingCheck in refl
-check-cut (opened y) sheet known = go (leb (length sheet) partBytes) refl
+pub check-cut : (cut : ℕ) (x : Reading) (sheet : List ℕ) → 389 < cut → ((y : System) → x ≡ opened y → keepsLimits y ≡ true) → readingCheck x (take cut sheet) ≡ readingCheck x sheet
+check-cut cut (unread n) sheet wide known = unfold readingCheck in refl
+check-cut cut (opened y) sheet wide known = go (leb (length sheet) cut) refl
   where
-    go : (b : Bool) → leb (length sheet) partBytes ≡ b → readingCheck (opened y) (take partBytes sheet) ≡ readingCheck (opened y) sheet
-    go true q = ap (readingCheck (opened y)) (take-all partBytes sheet (leb-true (length sheet) partBytes q))
+    go : (b : Bool) → leb (length sheet) cut ≡ b → readingCheck (opened y) (take cut sheet) ≡ readingCheck (opened y) sheet
+    go true q = ap (readingCheck (opened y)) (take-all cut sheet (leb-true (length sheet) cut q))
     go false q =
-        let more : partBytes < length sheet = leb-false (length sheet) partBytes q in
-        let size : length (take partBytes sheet) ≡ partBytes = length-take-le partBytes sheet (omega arith) in
-        long-32 y (known y refl) (take partBytes sheet) (omega arith) ∙ sym (long-32 y (known y refl) sheet (omega arith))
+        let more : cut < length sheet = leb-false (length sheet) cut q in
+        let size : length (take cut sheet) ≡ cut = length-take-le cut sheet (omega arith) in
+        long-32 y (known y refl) (take cut sheet) (omega arith) ∙ sym (long-32 y (known y refl) sheet (omega arith))
 
 text-cut : (file sheet : List ℕ) → checkText (take partBytes file) (take partBytes sheet) ≡ checkText file sheet
 text-cut file sheet =
-    ap (λ (x : Reading). lineOf (readingCheck x (take partBytes sheet))) (read-take partBytes file (lit≤ tt)) ∙ ap lineOf (check-cut (readFile file) sheet (λ y e. read-keeps-limits file y e))
+    ap (λ (x : Reading). lineOf (readingCheck x (take partBytes sheet))) (read-take partBytes file (lit≤ tt)) ∙ ap lineOf (check-cut partBytes (readFile file) sheet (lit≤ tt) (λ y e. read-keeps-limits file y e))
 
 -- what was joined comes apart
 

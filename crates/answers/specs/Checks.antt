@@ -1,12 +1,11 @@
 -- What program `sheet_check` says of a file and a sheet, whatever their lengths: `right`, `right, fewer would do`, or a refusal.
-use Prim.Native.Nat.{ℕ, _<_}
+use Prim.Native.Nat.{ℕ, _+_, _*_, _<_}
 use mathlib.Core.List.{List, [], _∷_, _++_}
 use mathlib.Core.Bool.{Bool, true, cond}
 use mathlib.Core.Path.{_≡_}
 use mathlib.Core.Logic.{_↔_}
-use lib.ListN.{length, getD, take}
-use Rattle.io.specs.Counts.{Counts}
-use Rattle.buffer.specs.Written.{Written}
+use lib.ListN.{length, getD, take, drop}
+use Rattle.buffer.specs.Written.{Counts, Written}
 use Rattle.system.specs.declared.System.{System}
 use Rattle.system.specs.Layout.{Reading, readFile, opened, unread}
 use Rattle.system.specs.Outcome.{fromInput}
@@ -63,12 +62,27 @@ partBytes = 4096
 abbrev pub joined : List ℕ → List ℕ → List ℕ
 joined file sheet = twoOut (length file) ++ (file ++ sheet)
 
--- what the call `check_joined` promises: the same of every file and every sheet, whatever their lengths, of each of which just the first 4,096 bytes were joined
+-- any input taken apart: its first two bytes say how long the file is, a byte that is missing counts as 0; the file is as many of the bytes behind those two, all of them where there are
+-- fewer; the sheet is all that is behind the file, to the end, and empty where there is nothing
+abbrev pub fileLength : List ℕ → ℕ
+fileLength input = 256 * getD input 0 0 + getD input 1 0
+
+abbrev pub filePart : List ℕ → List ℕ
+filePart input = take (fileLength input) (drop 2 input)
+
+abbrev pub sheetPart : List ℕ → List ℕ
+sheetPart input = drop (fileLength input) (drop 2 input)
+
+-- what the call `check_joined` promises: of every input, the same of the file and the sheet that it comes apart into, each to its last byte; and the same of every file and every sheet,
+-- whatever their lengths, of each of which just the first 4,096 bytes were joined
 pub record JoinedPromises (read old new : List ℕ) (r : ℕ) : Type 0 where
   pub within : Counts r new
+  pub ofRead : CheckPromises (filePart read) (sheetPart read) old new r
   pub ofBoth : (file sheet : List ℕ) → read ≡ joined (take partBytes file) (take partBytes sheet) → CheckPromises file sheet old new r
 
--- what the call `check_read` promises: the same of what was read; and there is room for all that can be joined, two bytes and twice 4,096, so that nothing of it is cut off
+-- what the call `check_read` promises: the same of what was read; there is room for all that can be joined, two bytes and twice 4,096, so that nothing of it is cut off; and the same of
+-- every input, whatever its length, of whose first bytes, as many as `front` has room for, just these were read
 pub record ReadBothPromises (front : List ℕ) (read : ℕ) (old new : List ℕ) (r : ℕ) : Type 0 where
   pub size : length front ≡ 8194
   pub joins : JoinedPromises (take read front) old new r
+  pub ofInput : (input : List ℕ) → take (length front) input ≡ take read front → CheckPromises (filePart input) (sheetPart input) old new r

@@ -89,7 +89,7 @@ fn check_joined(joined: &[u8], out: &mut [u8; 4096]) -> usize
     check_of(&rest[..size], sheet, out)
 }
 
-// The same for such an input of which `read` bytes were read. Of a longer file or a longer sheet the first `PART_BYTES` are joined; what is written is that of the whole two.
+// The same for such an input of which `read` bytes were read, whatever they are. Of a longer file or a longer sheet the first `PART_BYTES` are joined; what is written is that of the whole two.
 pub fn check_read(front: [u8; JOINED_BYTES], read: usize, out: &mut [u8; 4096]) -> usize
     ensures { λ r. ⌜ ReadBothPromises front read (now (out .entry)) (now (out .exit)) r ⌝ }
 {

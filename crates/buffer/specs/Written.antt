@@ -1,9 +1,13 @@
 -- What is said of bytes put into a lent buffer.
-use Prim.Native.Nat.{ℕ, _+_}
+use Prim.Native.Nat.{ℕ, _+_, _≤_}
 use mathlib.Core.List.{List, _++_}
 use mathlib.Core.Path.{_≡_}
 use lib.ListN.{length, take, drop}
-use Rattle.io.specs.Counts.{Counts}
+
+-- n counts bytes at the start of xs. The second part follows from the first; both are said so that a program's `&buf[..n]` is proved without more. It is what `io` of the toolchain calls so, and
+-- is said here again so that no library but listing, which spells numbers by `io::decimal`, names `io`: what does not name it cannot read or write anything.
+abbrev pub Counts : ℕ → List ℕ → Type 0
+Counts n xs = (n ≤ length xs) × (n ≡ length (take n xs))
 
 -- the buffer with `bytes` from place `at` on; what stood before and past them is as it was
 abbrev pub put : List ℕ → ℕ → List ℕ → List ℕ

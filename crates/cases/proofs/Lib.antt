@@ -3,4 +3,6 @@ pub mod Shown
 pub mod OursShown
 pub mod EdgesShown
 pub mod SupposedShown
+pub mod EveryShown
+pub mod CellsShown
 pub mod WorkedShown

@@ -30,7 +30,7 @@ use Rattle.partition.specs.Kinds.{splitCost, leastAt}
 use Rattle.partition.specs.Lent.{Lent}
 use Rattle.partition.specs.Plain.{columnsOut, LongEnough}
 use Rattle.partition.proofs.Lists.{every-parts}
-use Rattle.partition.specs.Releases.{SameButRule, NoMore}
+use Rattle.partition.specs.Releases.{SameButRule}
 use Rattle.writer.specs.Meaning.{IsBytes}
 use Rattle.writer.specs.RuleByte.{RuleApart}
 use Rattle.writer.proofs.RuleByte.{cards-apart}
@@ -50,6 +50,7 @@ use Rattle.cases.specs.Cases.{fileA, fileB, systemOf, lent, planAnswer, 
 use Rattle.cases.specs.Worked.{fileShared, PlannedBy01, RefusedBy01, SharesInBytes, fileKinds, KindsShare, AddsInBytes, ReleasesMet, CodeAnswers}
 use Rattle.cases.specs.Supposed.{typesReleased, released}
 use Rattle.cases.proofs.SupposedShown.{releases-given}
+use Rattle.cases.proofs.EveryShown.{bounds-out}
 
 -- an answer is not a refusal
 not-refused : (ns : List ℕ) (n : ℕ) → accepted ns ≡ refused fromInput n → ⊥
@@ -111,7 +112,7 @@ module _ (ownFile sharedFile : List ℕ) (ownTable sharedTable ownAfter sharedAf
   -- of one kind of engine, and of two: which it is, the first file says
   one-shares : readCard ownFile ≡ opened y → readCard sharedFile ≡ opened z → SameButRule y z → y .second ≡ OneKind → LongEnough y ownTable → LongEnough z sharedTable
       → PlanCall (cardOf (readCard ownFile)) ownTable 16 own ownAfter → PlanCall (cardOf (readCard sharedFile)) sharedTable 16 shared sharedAfter
-      → outcomeOf (own .answer) ≡ accepted (a ∷ []) → (c : ℕ) × (outcomeOf (shared .answer) ≡ accepted (c ∷ [])) × NoMore c a
+      → outcomeOf (own .answer) ≡ accepted (a ∷ []) → (c : ℕ) × (outcomeOf (shared .answer) ≡ accepted (c ∷ [])) × (c ≤ a)
   one-shares reads readsToo alike one long longToo p q is =
       let oneToo = alike .second ∙ one in
       let f = card-file ownFile y reads one in
@@ -122,7 +123,7 @@ module _ (ownFile sharedFile : List ℕ) (ownTable sharedTable ownAfter sharedAf
 
   two-share : (k : Kind) → readCard ownFile ≡ opened y → readCard sharedFile ≡ opened z → SameButRule y z → y .second ≡ TwoKinds k → LongEnough y ownTable → LongEnough z sharedTable
       → PlanCall (cardOf (readCard ownFile)) ownTable 16 own ownAfter → PlanCall (cardOf (readCard sharedFile)) sharedTable 16 shared sharedAfter
-      → outcomeOf (own .answer) ≡ accepted (a ∷ []) → (c : ℕ) × (outcomeOf (shared .answer) ≡ accepted (c ∷ [])) × NoMore c a
+      → outcomeOf (own .answer) ≡ accepted (a ∷ []) → (c : ℕ) × (outcomeOf (shared .answer) ≡ accepted (c ∷ [])) × (c ≤ a)
   two-share k reads readsToo alike two long longToo p q is =
       let twoToo = alike .second ∙ two in
       let first = p .twoKinds y k (card-is .twoKinds (readCard ownFile) y k reads two) in
@@ -133,7 +134,7 @@ module _ (ownFile sharedFile : List ℕ) (ownTable sharedTable ownAfter sharedAf
 pub shares-in-bytes : (ownFile sharedFile : List ℕ) → IsBytes ownFile → IsBytes sharedFile → RuleApart ownFile sharedFile → SharesInBytes ownFile sharedFile
 shares-in-bytes ownFile sharedFile bytes bytesToo apart ownTable sharedTable ownAfter sharedAfter own shared a long longToo p q is = at (readCard ownFile) refl
   where
-    kinds : (y : System) (s : Second) → readCard ownFile ≡ opened y → y .second ≡ s → (c : ℕ) × (outcomeOf (shared .answer) ≡ accepted (c ∷ [])) × NoMore c a
+    kinds : (y : System) (s : Second) → readCard ownFile ≡ opened y → y .second ≡ s → (c : ℕ) × (outcomeOf (shared .answer) ≡ accepted (c ∷ [])) × (c ≤ a)
     kinds y OneKind e k =
         let other = cards-apart ownFile sharedFile bytes bytesToo apart .reads y e in
         one-shares ownFile sharedFile ownTable sharedTable ownAfter sharedAfter own shared a y (other .0) e (other .1) (other .2) k (long y e) (longToo (other .0) (other .1)) p q is
@@ -141,7 +142,7 @@ shares-in-bytes ownFile sharedFile bytes bytesToo apart ownTable sharedTable own
         let other = cards-apart ownFile sharedFile bytes bytesToo apart .reads y e in
         two-share ownFile sharedFile ownTable sharedTable ownAfter sharedAfter own shared a y (other .0) j e (other .1) (other .2) k (long y e) (longToo (other .0) (other .1)) p q is
 
-    at : (x : Reading) → readCard ownFile ≡ x → (c : ℕ) × (outcomeOf (shared .answer) ≡ accepted (c ∷ [])) × NoMore c a
+    at : (x : Reading) → readCard ownFile ≡ x → (c : ℕ) × (outcomeOf (shared .answer) ≡ accepted (c ∷ [])) × (c ≤ a)
     at (opened y) e = kinds y (y .second) e refl
     at (unread n) e = absurd (not-refused (a ∷ []) n (sym is ∙ p .oneKind (unread n) (card-is .notRead (readCard ownFile) n e) .order .fileFirst n refl))
 
@@ -187,8 +188,10 @@ adds-in-bytes f1 f2 f3 y n m p q r t1 t2 t3 after1 after2 after3 first second bo
     let x = released y n p in
     let z = released y m q in
     let w = released y (λ (t : ℕ). n t + m t) r in
-    plans-add f1 f2 f3 x z w (outcomeOf (first .answer)) (outcomeOf (second .answer)) (outcomeOf (both .answer))
-    (asked-of f1 t1 after1 x first e1 l1 p1) (asked-of f2 t2 after2 z second e2 l2 p2) (asked-of f3 t3 after3 w both e3 l3 p3) a b (releases-given y .both n m p q r) is1 is2 few
+    let s = plans-add f1 f2 f3 x z w (outcomeOf (first .answer)) (outcomeOf (second .answer)) (outcomeOf (both .answer))
+    (asked-of f1 t1 after1 x first e1 l1 p1) (asked-of f2 t2 after2 z second e2 l2 p2) (asked-of f3 t3 after3 w both e3 l3 p3) a b (releases-given y .both n m p q r) is1 is2 few in
+    let (most, one, other) = bounds-out a b (s .0) (s .2) in
+    (s .0, s .1, most, one, other)
 
 -- n(1) and n(2), counted from 1
 abbrev twoCounts : ℕ → ℕ → ℕ → ℕ
@@ -221,8 +224,9 @@ three-engines = refl
 
 pub releases-met : ReleasesMet
 releases-met after1 after2 after3 first second both p1 p2 p3 =
-    adds-in-bytes (fileA 3 2 0) (fileA 3 1 2) (fileA 3 3 2) (systemOf (fileA 3 3 2)) (twoCounts 2 0) (twoCounts 1 2) unpaced unpaced unpaced lent lent lent after1 after2 after3 first second both 1 1
-    (read-releases .0) (read-releases .1) (read-releases .2) (long-releases .0) (long-releases .1) (long-releases .2) p1 p2 p3 (p1 .answers ∙ one-each .0) (p2 .answers ∙ one-each .1) (omega (arith, three-engines))
+    let s = adds-in-bytes (fileA 3 2 0) (fileA 3 1 2) (fileA 3 3 2) (systemOf (fileA 3 3 2)) (twoCounts 2 0) (twoCounts 1 2) unpaced unpaced unpaced lent lent lent after1 after2 after3 first second both 1 1
+    (read-releases .0) (read-releases .1) (read-releases .2) (long-releases .0) (long-releases .1) (long-releases .2) p1 p2 p3 (p1 .answers ∙ one-each .0) (p2 .answers ∙ one-each .1) (omega (arith, three-engines)) in
+    (s .0, s .1, s .2, s .3)
 
 -- ---- calls on a board
 

@@ -3,4 +3,5 @@ pub mod Cases
 pub mod Ours
 pub mod Edges
 pub mod Supposed
+pub mod Every
 pub mod Worked

@@ -1,5 +1,6 @@
 -- Worked files through the theorems that are proved of every file: document 01's own table (request 2026-10), two releases and both, the two rules in bytes, of one kind of engine and of two (requests 2026-09 and 2026-13),
--- and a list of calls as the code makes them (demand 3). A theorem that asked for more than these files have would be refused here.
+-- and a list of calls as the code makes them (demand 3). `plan-by-01` and `list-by-01` of planner and `demand3-runs` of ledger go through the files that stand here, and would be refused if they asked for more than these have;
+-- `plans-add`, `plans-share` and `mixed-plans-share` of planner and `cards-apart` of writer go through any files. What other theorems ask, Every says.
 use Prim.Native.Nat.{ℕ, _+_, _-_, _≤_}
 use mathlib.Core.List.{List, [], _∷_, _++_, map}
 use mathlib.Core.Path.{_≡_}
@@ -12,7 +13,6 @@ use Rattle.system.specs.Card.{cardOf}
 use Rattle.system.specs.Outcome.{Outcome, accepted, refused, fromInput, outcomeOf}
 use Rattle.partition.specs.Lent.{Lent}
 use Rattle.partition.specs.Plain.{ceilingNo, LongEnough, recordNo}
-use Rattle.partition.specs.Releases.{Bounds, NoMore}
 use Rattle.table.specs.Document01.{filled01, NoRow01, Recovered01}
 use Rattle.planner.specs.declared.Plan.{Plan}
 use Rattle.planner.specs.declared.EngineRecord.{EngineRecord}
@@ -58,7 +58,7 @@ SharesInBytes ownFile sharedFile =
     → ((y : System) → readCard ownFile ≡ opened y → LongEnough y ownTable) → ((y : System) → readCard sharedFile ≡ opened y → LongEnough y sharedTable)
     → PlanCall (cardOf (readCard ownFile)) ownTable 16 own ownAfter → PlanCall (cardOf (readCard sharedFile)) sharedTable 16 shared sharedAfter
     → outcomeOf (own .answer) ≡ accepted (a ∷ [])
-    → (c : ℕ) × (outcomeOf (shared .answer) ≡ accepted (c ∷ [])) × NoMore c a
+    → (c : ℕ) × (outcomeOf (shared .answer) ≡ accepted (c ∷ [])) × (c ≤ a)
 
 -- system B with m 2 and two engines of a second kind, which are as large: under rule 0 each engine holds one of the four
 abbrev pub fileKinds : ℕ → List ℕ
@@ -68,7 +68,7 @@ fileKinds rule = platform 2 rule 10 8 ++ (6 ∷ 0 ∷ 9 ∷ 2 ∷ 0 ∷ 0 ∷ 0 
 abbrev pub KindsShare : Type 0
 KindsShare =
     (ownAfter sharedAfter : Lent) (own shared : Plan) → PlanCall (cardOf (readCard (fileKinds 0))) lent 16 own ownAfter → PlanCall (cardOf (readCard (fileKinds 1))) lent 16 shared sharedAfter
-    → (outcomeOf (own .answer) ≡ accepted (4 ∷ [])) × ((c : ℕ) × (outcomeOf (shared .answer) ≡ accepted (c ∷ [])) × NoMore c 4)
+    → (outcomeOf (own .answer) ≡ accepted (4 ∷ [])) × ((c : ℕ) × (outcomeOf (shared .answer) ≡ accepted (c ∷ [])) × (c ≤ 4))
 
 -- Two releases
 
@@ -80,14 +80,14 @@ AddsInBytes firstFile secondFile bothFile =
     → LongEnough (released y n p) t1 → LongEnough (released y m q) t2 → LongEnough (released y (λ (t : ℕ). n t + m t) r) t3
     → PlanPromises (readFile firstFile) t1 16 first after1 → PlanPromises (readFile secondFile) t2 16 second after2 → PlanPromises (readFile bothFile) t3 16 both after3
     → outcomeOf (first .answer) ≡ accepted (a ∷ []) → outcomeOf (second .answer) ≡ accepted (b ∷ []) → a + b ≤ y .engines
-    → (c : ℕ) × (outcomeOf (both .answer) ≡ accepted (c ∷ [])) × Bounds a b c
+    → (c : ℕ) × (outcomeOf (both .answer) ≡ accepted (c ∷ [])) × (c ≤ a + b) × (a ≤ c) × (b ≤ c)
 
 -- the worked example of two releases (Ours, 17): one engine each, so one or two for both
 abbrev pub ReleasesMet : Type 0
 ReleasesMet =
     (after1 after2 after3 : Lent) (first second both : Plan)
     → PlanPromises (readFile (fileA 3 2 0)) lent 16 first after1 → PlanPromises (readFile (fileA 3 1 2)) lent 16 second after2 → PlanPromises (readFile (fileA 3 3 2)) lent 16 both after3
-    → (c : ℕ) × (outcomeOf (both .answer) ≡ accepted (c ∷ [])) × Bounds 1 1 c
+    → (c : ℕ) × (outcomeOf (both .answer) ≡ accepted (c ∷ [])) × (c ≤ 1 + 1) × (1 ≤ c)
 
 -- Calls on a board
 

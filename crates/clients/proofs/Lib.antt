@@ -1,4 +1,6 @@
 -- The laws of crate `clients`.
+pub mod Keeps
+pub mod Kept
 pub mod Plainly
 pub mod Told
 pub mod Wide

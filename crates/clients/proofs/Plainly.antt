@@ -1,12 +1,15 @@
--- From the definitions by which a cause is numbered and a blank system made, what stands in plain numbers.
+-- From the definitions by which a cause is numbered and a blank system and a blank board are made, what stands in plain numbers.
 use Prim.Native.Nat.{ℕ}
 use mathlib.Core.Path.{_≡_, ap, _∙_}
 use Rattle.system.specs.declared.System.{System}
 use Rattle.system.specs.Values.{blank}
+use Rattle.system.specs.Layout.{Reading, unread}
+use Rattle.board.specs.declared.Board.{Board}
+use Rattle.board.specs.Boards.{openedBoard}
 use Rattle.causes.specs.declared.Cause.{Cause}
 use Rattle.causes.specs.declared.Cause.the-variants.{Possible, NoEngine, OneTooLarge, TooMuchTime, TooMuchMemory, TooManyReplicas, NoArrangement}
 use Rattle.causes.specs.Causes.{causeNumber}
-use Rattle.clients.specs.Wide.{NumberedAsAsked, NothingRead}
+use Rattle.clients.specs.Wide.{NumberedAsAsked, NothingRead, NothingOpened}
 
 numbered-as : (c d : Cause) (n : ℕ) → n ≡ causeNumber c → c ≡ d → n ≡ causeNumber d
 numbered-as c d n e is = e ∙ ap (λ (k : Cause). causeNumber k) is
@@ -32,3 +35,8 @@ nothing-read y e = (
   ap (λ (z : System). z .types) e,
   ap (λ (z : System). z .second) e,
 )
+
+pub nothing-opened : (x : Reading) (b : Board) → b ≡ openedBoard x → (n : ℕ) → x ≡ unread n → NothingOpened b
+nothing-opened x b is n none =
+    let e : b ≡ openedBoard (unread n) = is ∙ ap openedBoard none in
+    (nothing-read (b .system) (ap (λ (a : Board). a .system) e), ap (λ (a : Board). a .loads) e, ap (λ (a : Board). a .marks) e)

@@ -2,11 +2,15 @@
 use Prim.Native.Nat.{ℕ}
 use mathlib.Core.List.{List, _++_}
 use mathlib.Core.Path.{_≡_, sym, ap, ap₂, subst, _∙_}
+use mathlib.Core.Logic.{_↔_}
 use lib.ListN.{length, take, drop}
 use lib.Seq.{take-at}
 use Rattle.buffer.specs.Written.{Written}
 use Rattle.system.specs.declared.Refusal.{Refusal}
+use Rattle.system.specs.declared.System.{System}
+use Rattle.system.specs.Layout.{readCard, opened}
 use Rattle.partition.specs.Lent.{Lent}
+use Rattle.partition.specs.Plain.{TooShort}
 use Rattle.planner.specs.declared.Plan.{Plan}
 use Rattle.listing.specs.Demands.{TellsRefusal, numberOf, RefusalPromises, WriteListingPromises, ListingPromises, ListingRefuses, ListingDemand2}
 use Rattle.listing.specs.Text.{TellsFile, TextPromises}
@@ -68,3 +72,8 @@ pub lent-told : {file old new : List ℕ} {table after : Lent} {r : ℕ} → Lis
     → KeptPastText old new r × (ListingRefuses file table (take r new) × ListingDemand2 file table (take r new))
 lent-told {file = file} {table = table} e =
     written-told (λ (text : List ℕ). ListingRefuses file table text × ListingDemand2 file table text) (e .written) (e .refuses, e .demand2)
+
+-- and where it tells `refused 11`
+pub lent-eleven : {file old new : List ℕ} {table after : Lent} {r : ℕ} → ListingPromises file table old new r after
+    → (y : System) → readCard file ≡ opened y → TellsRefusal 11 (take r new) ↔ TooShort y table
+lent-eleven e = lent-told e .1 .0 .shortTable

@@ -1,12 +1,13 @@
 -- What is easily narrowed in a promise, written out a second time: where 11 and 15 are said, of parts and lists of any length; which sheets are right, of sheets of any length; where 13 and
--- 14 are said, of numbers of any size; what a text call leaves past its text, of a buffer that held anything before; what the text of a plan handed in tells; the number of each cause; and
--- a system of which nothing was read.
-use Prim.Native.Nat.{ℕ, _+_, _≤_, _<_}
-use mathlib.Core.List.{List, _++_}
-use mathlib.Core.Bool.{Bool}
+-- 14 are said, of numbers of any size; where 30 and 38 are said, of buffers and parts of any length; what a call leaves past what it writes, of a buffer or part that held anything before;
+-- how an input comes apart into a file and a sheet; what the text of a plan handed in tells; that an engine of a plan misses no deadline; the number of each cause; and a system of which nothing was read,
+-- with its board.
+use Prim.Native.Nat.{ℕ, _+_, _*_, _≤_, _<_}
+use mathlib.Core.List.{List, [], _∷_, _++_}
+use mathlib.Core.Bool.{Bool, false}
 use mathlib.Core.Path.{_≡_}
 use mathlib.Core.Logic.{_↔_, _⊎_}
-use lib.ListN.{length, take, drop, replicate}
+use lib.ListN.{length, getD, take, drop, replicate}
 use Rattle.system.specs.declared.Answer.the-variants.{Refused}
 use Rattle.system.specs.declared.Refusal.{Refusal}
 use Rattle.system.specs.declared.Refusal.the-variants.{Input, State}
@@ -18,11 +19,15 @@ use Rattle.system.specs.declared.Kind.{Kind}
 use Rattle.system.specs.declared.Second.{Second}
 use Rattle.system.specs.declared.Second.the-variants.{OneKind, TwoKinds}
 use Rattle.system.specs.declared.System.{System}
-use Rattle.system.specs.Layout.{Reading, opened}
-use Rattle.system.specs.Outcome.{Outcome, refused, fromInput}
+use Rattle.system.specs.Layout.{Reading, opened, readFile}
+use Rattle.system.specs.Outcome.{Outcome, Source, accepted, refused, fromInput}
 use Rattle.partition.specs.Assignment.{Assignment}
 use Rattle.partition.specs.Plain.{columnsOut, recordNo}
+use Rattle.loads.specs.declared.EngineLoad.{EngineLoad}
+use Rattle.planner.specs.declared.EngineRecord.{EngineRecord}
 use Rattle.planner.specs.declared.Plan.{Plan}
+use Rattle.planner.specs.Demands.{entryNo}
+use Rattle.deadlines.specs.Plans.{NoneMissed, PlanRuns}
 use Rattle.board.specs.declared.Board.{Board}
 use Rattle.board.specs.Words.{IsTrue}
 use Rattle.causes.specs.declared.Cause.{Cause}
@@ -34,6 +39,11 @@ use Rattle.sheets.specs.Meaning.{sheetOut, GoodForAll}
 -- of every file that opens, 11 is said exactly where one of the two parts has fewer entries than there are columns
 abbrev pub Says11 : Reading → List ℕ → List ℕ → Type 0 → Type 0
 Says11 x rows predecessors said = (y : System) → x ≡ opened y → said ↔ ((length rows < columnsOut y) ⊎ (length predecessors < columnsOut y))
+
+-- of a true board likewise, by the columns of its system
+abbrev pub BoardSays11 : Board → List ℕ → List ℕ → Outcome → Type 0
+BoardSays11 b rows predecessors o =
+    IsTrue b → (o ≡ refused fromInput 11) ↔ ((length rows < columnsOut (b .system)) ⊎ (length predecessors < columnsOut (b .system)))
 
 -- the engines of one kind, or of both
 abbrev pub enginesIn : System → Second → ℕ
@@ -51,9 +61,41 @@ RightExactly x sheet rows predecessors o =
     (y : System) → x ≡ opened y → columnsOut y ≤ length rows → columnsOut y ≤ length predecessors
     → ((fewer : Bool) × (o ≡ right fewer)) ↔ ((χ : Assignment) × GoodForAll y χ × (sheet ≡ sheetOut y χ))
 
+-- request 2026-14, of what a plan call of one kind of engine hands out: whatever run is made of an engine's counts, at whatever number of ticks, no deadline is missed
+abbrev pub PlanKeeps : List ℕ → List EngineLoad → Outcome → Type 0
+PlanKeeps file loads o = (used : ℕ) → o ≡ accepted (used ∷ []) → PlanRuns file loads
+
+abbrev pub ListKeeps : List ℕ → List EngineRecord → Outcome → Type 0
+ListKeeps file list o = (y : System) (used e : ℕ) → readFile file ≡ opened y → o ≡ accepted (used ∷ []) → 1 ≤ e → e ≤ used → NoneMissed file (entryNo list e .load .counts)
+
 -- a text call's buffer before and after: the r bytes of the text are within it, and every byte past them is the one that stood there, whatever it was
 abbrev pub KeptPastText : List ℕ → List ℕ → ℕ → Type 0
 KeptPastText old new r = (r ≤ length new) × (new ≡ take r new ++ drop r old)
+
+-- a call that writes bytes: those past the ones that it answers are as they were, and where it refuses all are
+abbrev pub KeptPastAnswer : List ℕ → List ℕ → Outcome → Type 0
+KeptPastAnswer old new o = ((n : ℕ) → o ≡ accepted (n ∷ []) → KeptPastText old new n) × ((s : Source) (n : ℕ) → o ≡ refused s n → new ≡ old)
+
+-- where nothing else is in the way, 30 is said exactly where the buffer has fewer bytes than what is to be written
+abbrev pub Says30 : Type 0 → ℕ → ℕ → Outcome → Type 0
+Says30 mayBe size room o = mayBe → (o ≡ refused fromInput 30) ↔ (room < size)
+
+-- of a file that opens and whose total is not refused, 38 is said exactly where the part has fewer than two entries for each column
+abbrev pub Says38 : Reading → List ℕ → Outcome → Type 0
+Says38 x part o = (y : System) → x ≡ opened y → (o ≡ refused fromInput 37 → ⊥) → (o ≡ refused fromInput 38) ↔ (length part < 2 * columnsOut y)
+
+-- and what a count leaves: a part as long as before, the entries past those two for each column as they were, and where it refuses all
+pub record KeptPastColumns (x : Reading) (part after : List ℕ) (o : Outcome) : Type 0 where
+  pub asLong : length after ≡ length part
+  pub past : (y : System) (i : ℕ) → x ≡ opened y → 2 * columnsOut y ≤ i → getD after i 0 ≡ getD part i 0
+  pub asLent : (s : Source) (n : ℕ) → o ≡ refused s n → after ≡ part
+
+-- of every input to a check, with two bytes in front, 0 where one is missing: the file is as many of the bytes behind them as these say, and the sheet is all the others, to the last
+abbrev pub fileIn : List ℕ → List ℕ
+fileIn input = take (256 * getD input 0 0 + getD input 1 0) (drop 2 input)
+
+abbrev pub sheetIn : List ℕ → List ℕ
+sheetIn input = drop (256 * getD input 0 0 + getD input 1 0) (drop 2 input)
 
 -- what a plan's text tells: a refusal from either list with its number, and else the records of the engines that it uses
 abbrev pub TellsOfPlan : Plan → List ℕ → Type 0
@@ -97,3 +139,10 @@ NothingRead y =
     × (y .typecount ≡ 0)
     × (y .types ≡ replicate 6 unknownType)
     × (y .second ≡ OneKind)
+
+-- and the board of a file that does not read: such a system, sixteen engines that hold nothing, and no mark
+abbrev pub NothingOpened : Board → Type 0
+NothingOpened b =
+    NothingRead (b .system)
+    × (b .loads ≡ replicate 16 (record { time = 0; memory = 0; counts = 0 ∷ 0 ∷ 0 ∷ 0 ∷ 0 ∷ 0 ∷ [] }))
+    × (b .marks ≡ replicate 16 false)

@@ -1,11 +1,12 @@
-// Boards, causes, counts and runs. The trials of these calls have proved clients of their own, of the same words; here it is also said plainly of which numbers 13 and 14 are said.
-ghost use Prim.Native.Nat.{_≤_};
+// Boards, causes, counts and runs. The trials of these calls have proved clients of their own, of the same words; here it is also said plainly of which numbers 13 and 14 are
+// said, of which lengths 11 and 38, and what a count leaves in its part.
+ghost use Prim.Native.Nat.{ℕ, _≤_};
 ghost use mathlib.Core.List.{[]};
 ghost use mathlib.Core.Bool.{true};
 ghost use mathlib.Core.Path.{_≡_};
 ghost use mathlib.Core.Logic.{_↔_};
-ghost use Rattle.system.specs.Layout.{readFile};
-ghost use Rattle.system.specs.Outcome.{outcomeOf};
+ghost use Rattle.system.specs.Layout.{readFile, unread};
+ghost use Rattle.system.specs.Outcome.{refused, fromInput, outcomeOf};
 ghost use Rattle.partition.specs.Lent.{lent};
 ghost use Rattle.board.specs.Truth.{trueBoard};
 ghost use Rattle.board.specs.Words.{IsTrue};
@@ -13,9 +14,9 @@ ghost use Rattle.board.specs.Calls.{admitOf, seatOf, retireOf, repackOf, withdr
 ghost use Rattle.board.specs.Meaning.{OpenMeans, AdmitPromises, SeatPromises, RetirePromises, RepackPromises, WithdrawPromises, RestorePromises};
 ghost use Rattle.causes.specs.Causes.{causeNumber, causeOutcomeOf};
 ghost use Rattle.causes.specs.Meaning.{PlanCausePromises, RoomCausePromises};
-ghost use Rattle.counting.specs.Meaning.{CountPromises};
+ghost use Rattle.counting.specs.Meaning.{countedOutcome, CountPromises};
 ghost use Rattle.deadlines.specs.Meaning.{RunPromises};
-ghost use Rattle.clients.specs.Wide.{Says13, Says14, NumberedAsAsked};
+ghost use Rattle.clients.specs.Wide.{Says11, BoardSays11, Says13, Says14, Says38, KeptPastColumns, NumberedAsAsked, NothingOpened};
 use board::Board;
 use board::Turn;
 use causes::Cause;
@@ -34,6 +35,7 @@ pub fn true_board(b: Board) -> bool
 pub fn open_board(file: &[u8]) -> Turn
     ensures { λ r. ⌜ Opens (readFile (now (file .entry))) r ⌝ }
     ensures { λ r. ⌜ OpenMeans (readFile (now (file .entry))) (outcomeOf (r .answer)) (r .board) ⌝ }
+    ensures { λ r. ⌜ ((n : ℕ) → readFile (now (file .entry)) ≡ unread n → NothingOpened (r .board)) ⌝ }
 {
     board::open_board(file)
 }
@@ -41,7 +43,7 @@ pub fn open_board(file: &[u8]) -> Turn
 pub fn admit(b: Board, t: usize, rows: &mut [u16], predecessors: &mut [u16]) -> Turn
     ensures { λ r. ⌜ Does (admitOf b t (lent (now (rows .entry)) (now (predecessors .entry)))) r (lent (now (rows .exit)) (now (predecessors .exit))) ⌝ }
     ensures { λ r. ⌜ AdmitPromises b t (lent (now (rows .entry)) (now (predecessors .entry))) (gave r (lent (now (rows .exit)) (now (predecessors .exit)))) ⌝ }
-    ensures { λ r. ⌜ Says13 b t (outcomeOf (r .answer)) ⌝ }
+    ensures { λ r. ⌜ Says13 b t (outcomeOf (r .answer)) × ((1 ≤ t) × (t ≤ b .system .typecount) → BoardSays11 b (now (rows .entry)) (now (predecessors .entry)) (outcomeOf (r .answer))) ⌝ }
 {
     board::admit(b, t, rows, predecessors)
 }
@@ -49,7 +51,7 @@ pub fn admit(b: Board, t: usize, rows: &mut [u16], predecessors: &mut [u16]) -> 
 pub fn seat(b: Board, t: usize, rows: &mut [u16], predecessors: &mut [u16]) -> Turn
     ensures { λ r. ⌜ Does (seatOf b t (lent (now (rows .entry)) (now (predecessors .entry)))) r (lent (now (rows .exit)) (now (predecessors .exit))) ⌝ }
     ensures { λ r. ⌜ SeatPromises b t (lent (now (rows .entry)) (now (predecessors .entry))) (gave r (lent (now (rows .exit)) (now (predecessors .exit)))) ⌝ }
-    ensures { λ r. ⌜ Says13 b t (outcomeOf (r .answer)) ⌝ }
+    ensures { λ r. ⌜ Says13 b t (outcomeOf (r .answer)) × ((1 ≤ t) × (t ≤ b .system .typecount) → BoardSays11 b (now (rows .entry)) (now (predecessors .entry)) (outcomeOf (r .answer))) ⌝ }
 {
     board::seat(b, t, rows, predecessors)
 }
@@ -65,6 +67,7 @@ pub fn retire(b: Board, t: usize, e: usize) -> Turn
 pub fn repack(b: Board, rows: &mut [u16], predecessors: &mut [u16]) -> Turn
     ensures { λ r. ⌜ Does (repackOf b (lent (now (rows .entry)) (now (predecessors .entry)))) r (lent (now (rows .exit)) (now (predecessors .exit))) ⌝ }
     ensures { λ r. ⌜ RepackPromises b (lent (now (rows .entry)) (now (predecessors .entry))) (gave r (lent (now (rows .exit)) (now (predecessors .exit)))) ⌝ }
+    ensures { λ r. ⌜ BoardSays11 b (now (rows .entry)) (now (predecessors .entry)) (outcomeOf (r .answer)) ⌝ }
 {
     board::repack(b, rows, predecessors)
 }
@@ -87,13 +90,14 @@ pub fn restore(b: Board, e: usize) -> Turn
 
 pub fn why_no_plan(file: &[u8], rows: &mut [u16], predecessors: &mut [u16]) -> CauseAnswer
     ensures { λ r. ⌜ PlanCausePromises (readFile (now (file .entry))) (lent (now (rows .entry)) (now (predecessors .entry))) r (lent (now (rows .exit)) (now (predecessors .exit))) ⌝ }
+    ensures { λ r. ⌜ Says11 (readFile (now (file .entry))) (now (rows .entry)) (now (predecessors .entry)) (causeOutcomeOf r ≡ refused fromInput 11) ⌝ }
 {
     causes::why_no_plan(file, rows, predecessors)
 }
 
 pub fn why_no_room(b: Board, t: usize, rows: &mut [u16], predecessors: &mut [u16]) -> CauseAnswer
     ensures { λ r. ⌜ RoomCausePromises b t (lent (now (rows .entry)) (now (predecessors .entry))) r (lent (now (rows .exit)) (now (predecessors .exit))) ⌝ }
-    ensures { λ r. ⌜ Says13 b t (causeOutcomeOf r) ⌝ }
+    ensures { λ r. ⌜ Says13 b t (causeOutcomeOf r) × ((1 ≤ t) × (t ≤ b .system .typecount) → BoardSays11 b (now (rows .entry)) (now (predecessors .entry)) (causeOutcomeOf r)) ⌝ }
 {
     causes::why_no_room(b, t, rows, predecessors)
 }
@@ -107,6 +111,8 @@ pub fn cause_number(cause: Cause) -> u8
 
 pub fn count_assignments(file: &[u8], part: &mut [u64]) -> CountAnswer
     ensures { λ r. ⌜ CountPromises (readFile (now (file .entry))) (now (part .entry)) r (now (part .exit)) ⌝ }
+    ensures { λ r. ⌜ Says38 (readFile (now (file .entry))) (now (part .entry)) (countedOutcome r)
+        × KeptPastColumns (readFile (now (file .entry))) (now (part .entry)) (now (part .exit)) (countedOutcome r) ⌝ }
 {
     counting::count_assignments(file, part)
 }

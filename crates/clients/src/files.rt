@@ -1,11 +1,15 @@
-// Reading system files, and writing and making them; and the system of which nothing was read.
+// Reading system files, and writing and making them, with where 30 is said and what stands past the file; and the system of which nothing was read.
+ghost use Prim.Native.Nat.{ℕ, _+_, _*_};
+ghost use mathlib.Core.List.{[], _∷_, _++_};
 ghost use mathlib.Core.Path.{_≡_};
+ghost use lib.ListN.{length, drop};
 ghost use Rattle.system.specs.Values.{blank};
 ghost use Rattle.system.specs.Layout.{readCard, readFile, fieldAt, Reads};
 ghost use Rattle.system.specs.Inner.{partOf};
-ghost use Rattle.writer.specs.Meaning.{WritePromises};
-ghost use Rattle.making.specs.Meaning.{MakePromises};
-ghost use Rattle.clients.specs.Wide.{NothingRead};
+ghost use Rattle.system.specs.Outcome.{accepted, outcomeOf};
+ghost use Rattle.writer.specs.Meaning.{fileOut, MayBeWritten, WritesInOrder, WritePromises};
+ghost use Rattle.making.specs.Meaning.{NumbersWithin, PowerWithin, MakePromises};
+ghost use Rattle.clients.specs.Wide.{Says30, KeptPastAnswer, NothingRead};
 use making::Recipe;
 use system::Answer;
 use system::Cursor;
@@ -46,12 +50,16 @@ pub fn body_part(file: &[u8], field: Field) -> &[u8]
 
 pub fn write_system(y: System, out: &mut [u8]) -> Answer
     ensures { λ r. ⌜ WritePromises y (now (out .entry)) (now (out .exit)) r ⌝ }
+    ensures { λ r. ⌜ WritesInOrder y (length (now (out .entry))) (outcomeOf r)
+        × ((n : ℕ) → outcomeOf r ≡ accepted (n ∷ []) → MayBeWritten y × (now (out .exit) ≡ fileOut y ++ drop n (now (out .entry))))
+        × KeptPastAnswer (now (out .entry)) (now (out .exit)) (outcomeOf r) ⌝ }
 {
     writer::write_system(y, out)
 }
 
 pub fn make_file(w: Recipe, out: &mut [u8]) -> Answer
     ensures { λ r. ⌜ MakePromises w (now (out .entry)) (now (out .exit)) r ⌝ }
+    ensures { λ r. ⌜ Says30 (NumbersWithin w × PowerWithin w) (13 + 13 * w .typecount) (length (now (out .entry))) (outcomeOf r) × KeptPastAnswer (now (out .entry)) (now (out .exit)) (outcomeOf r) ⌝ }
 {
     making::make_file(w, out)
 }

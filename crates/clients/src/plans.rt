@@ -1,4 +1,4 @@
-// Filling a table, and planning.
+// Filling a table, and planning. Of a plan of one kind of engine it is also said that no run of one of its engines misses a deadline.
 ghost use mathlib.Core.List.{[], _∷_};
 ghost use mathlib.Core.Path.{_≡_};
 ghost use lib.ListN.{length};
@@ -11,7 +11,7 @@ ghost use Rattle.partition.specs.Plain.{columnsOut};
 ghost use Rattle.table.specs.Meaning.{FillCall, NeedPromises};
 ghost use Rattle.planner.specs.Demands.{PlanPromises};
 ghost use Rattle.planner.specs.MixedDemands.{PlanCall, ListCall};
-ghost use Rattle.clients.specs.Wide.{Says11, Says15};
+ghost use Rattle.clients.specs.Wide.{Says11, Says15, PlanKeeps, ListKeeps};
 use planner::EngineRecord;
 use planner::Plan;
 use planner::PlannedList;
@@ -42,6 +42,7 @@ pub fn plan_one_kind(file: &[u8], rows: &mut [u16], predecessors: &mut [u16]) ->
 pub fn plan_of(file: &[u8], rows: &mut [u16], predecessors: &mut [u16]) -> Plan
     ensures { λ r. ⌜ PlanCall (cardOf (readCard (now (file .entry)))) (lent (now (rows .entry)) (now (predecessors .entry))) 16 r (lent (now (rows .exit)) (now (predecessors .exit))) ⌝ }
     ensures { λ r. ⌜ Says11 (readCard (now (file .entry))) (now (rows .entry)) (now (predecessors .entry)) (outcomeOf (r .answer) ≡ refused fromInput 11) ⌝ }
+    ensures { λ r. ⌜ PlanKeeps (now (file .entry)) (r .loads) (outcomeOf (r .answer)) ⌝ }
 {
     planner::plan_of(file, rows, predecessors)
 }
@@ -55,6 +56,7 @@ pub fn plan_list(
     ensures { λ r. ⌜ ListCall (cardOf (readCard (now (file .entry)))) (lent (now (rows .entry)) (now (predecessors .entry))) list (r .answer) (lent (now (rows .exit)) (now (predecessors .exit))) (r .list) ⌝ }
     ensures { λ r. ⌜ Says11 (readCard (now (file .entry))) (now (rows .entry)) (now (predecessors .entry)) (outcomeOf (r .answer) ≡ refused fromInput 11)
         × Says15 (readCard (now (file .entry))) (now (rows .entry)) (now (predecessors .entry)) (length list) (outcomeOf (r .answer)) ⌝ }
+    ensures { λ r. ⌜ ListKeeps (now (file .entry)) (r .list) (outcomeOf (r .answer)) ⌝ }
 {
     planner::plan_list(file, rows, predecessors, list)
 }

@@ -12,7 +12,7 @@ ghost use Rattle.wording.specs.Meaning.{TellsWhy, WhyPromises, ReadPromises as 
 ghost use Rattle.tightness.specs.Meaning.{TellsTight, TightPromises, ReadPromises as TightRead};
 ghost use Rattle.recipes.specs.Meaning.{TellsText, RecipePromises, saysNotSeven, ReadPromises as MakeRead};
 ghost use Rattle.timeline.specs.Meaning.{TellsWatch, WatchPromises, inputOut, ReadPromises as WatchRead};
-ghost use Rattle.clients.specs.Wide.{KeptPastText};
+ghost use Rattle.clients.specs.Wide.{KeptPastText, fileIn, sheetIn};
 use answers::JOINED_BYTES;
 use system::FILE_BYTES;
 use timeline::WATCH_BYTES;
@@ -59,6 +59,10 @@ pub fn check_read(front: [u8; JOINED_BYTES], read: usize, out: &mut [u8; 4096]) 
     ensures { λ r. ⌜ ReadBothPromises front read (now (out .entry)) (now (out .exit)) r ⌝ }
     ensures { λ r. ⌜ ((file sheet : List ℕ) → take read front ≡ joined (take 4096 file) (take 4096 sheet) → CheckPromises file sheet (now (out .entry)) (now (out .exit)) r) ⌝ }
     ensures { λ r. ⌜ ((file sheet : List ℕ) → take read front ≡ joined (take 4096 file) (take 4096 sheet) → KeptPastText (now (out .entry)) (now (out .exit)) r × TellsCheck file sheet (take r (now (out .exit)))) ⌝ }
+    ensures { λ r. ⌜ CheckPromises (fileIn (take read front)) (sheetIn (take read front)) (now (out .entry)) (now (out .exit)) r
+        × (KeptPastText (now (out .entry)) (now (out .exit)) r × TellsCheck (fileIn (take read front)) (sheetIn (take read front)) (take r (now (out .exit)))) ⌝ }
+    ensures { λ r. ⌜ ((input : List ℕ) → take 8194 input ≡ take read front → CheckPromises (fileIn input) (sheetIn input) (now (out .entry)) (now (out .exit)) r
+        × TellsCheck (fileIn input) (sheetIn input) (take r (now (out .exit)))) ⌝ }
 {
     answers::check_read(front, read, out)
 }

@@ -1,13 +1,17 @@
 // Listings and sheets over tables and buffers of the caller. Of the listings, as of what the programs write, it is said of the bytes in the buffer too.
+ghost use Prim.Native.Nat.{_+_, _*_, _≤_};
 ghost use mathlib.Core.Path.{_≡_};
-ghost use lib.ListN.{take};
-ghost use Rattle.system.specs.Layout.{readFile};
+ghost use lib.ListN.{length, take};
+ghost use Rattle.system.specs.declared.System.{System};
+ghost use Rattle.system.specs.Layout.{readCard, readFile, opened};
 ghost use Rattle.system.specs.Outcome.{refused, fromInput, outcomeOf};
+ghost use Rattle.partition.specs.Assignment.{Assignment};
 ghost use Rattle.partition.specs.Lent.{lent};
+ghost use Rattle.partition.specs.Plain.{columnsOut, usedTo};
 ghost use Rattle.listing.specs.Demands.{TellsRefusal, numberOf, ListingRefuses, ListingDemand2, RefusalPromises, WriteListingPromises, ListingPromises};
-ghost use Rattle.sheets.specs.Meaning.{WriteSheetPromises, CheckPromises};
+ghost use Rattle.sheets.specs.Meaning.{GoodOnFewest, WriteSheetPromises, CheckPromises};
 ghost use Rattle.sheets.specs.Checking.{wrong, sheetOutcomeOf};
-ghost use Rattle.clients.specs.Wide.{Says11, RightExactly, KeptPastText, TellsOfPlan};
+ghost use Rattle.clients.specs.Wide.{Says11, RightExactly, KeptPastText, KeptPastAnswer, Says30, TellsOfPlan};
 use planner::Plan;
 use sheets::SheetAnswer;
 use system::Answer;
@@ -36,6 +40,7 @@ pub fn listing(
     ensures { λ r. ⌜ ListingPromises (now (file .entry)) (lent (now (rows .entry)) (now (predecessors .entry))) (now (out .entry)) (now (out .exit)) r (lent (now (rows .exit)) (now (predecessors .exit))) ⌝ }
     ensures { λ r. ⌜ KeptPastText (now (out .entry)) (now (out .exit)) r × (ListingRefuses (now (file .entry)) (lent (now (rows .entry)) (now (predecessors .entry))) (take r (now (out .exit)))
         × ListingDemand2 (now (file .entry)) (lent (now (rows .entry)) (now (predecessors .entry))) (take r (now (out .exit)))) ⌝ }
+    ensures { λ r. ⌜ Says11 (readCard (now (file .entry))) (now (rows .entry)) (now (predecessors .entry)) (TellsRefusal 11 (take r (now (out .exit)))) ⌝ }
 {
     listing::listing(file, rows, predecessors, out)
 }
@@ -47,7 +52,10 @@ pub fn write_sheet(
     buffer: &mut [u8],
 ) -> Answer
     ensures { λ r. ⌜ WriteSheetPromises (readFile (now (file .entry))) (lent (now (rows .entry)) (now (predecessors .entry))) (now (buffer .entry)) r (lent (now (rows .exit)) (now (predecessors .exit))) (now (buffer .exit)) ⌝ }
-    ensures { λ r. ⌜ Says11 (readFile (now (file .entry))) (now (rows .entry)) (now (predecessors .entry)) (outcomeOf r ≡ refused fromInput 11) ⌝ }
+    ensures { λ r. ⌜ Says11 (readFile (now (file .entry))) (now (rows .entry)) (now (predecessors .entry)) (outcomeOf r ≡ refused fromInput 11)
+        × ((y : System) (χ : Assignment) → Says30 ((readFile (now (file .entry)) ≡ opened y) × (columnsOut y ≤ length (now (rows .entry))) × (columnsOut y ≤ length (now (predecessors .entry))) × GoodOnFewest y χ)
+        (5 + usedTo (y .engines) χ * (12 + 2 * y .typecount)) (length (now (buffer .entry))) (outcomeOf r))
+        × KeptPastAnswer (now (buffer .entry)) (now (buffer .exit)) (outcomeOf r) ⌝ }
 {
     sheets::write_sheet(file, rows, predecessors, buffer)
 }

@@ -18,7 +18,7 @@ use Rattle.board.specs.Before.{Unmarked}
 use Rattle.board.proofs.Before.{as-before, admit-marks, seat-marks, retire-marks, repack-marks}
 use Rattle.ledger.specs.Ledger.{Call, admit, seat, retire, repack, withdraw, restore, Ledger, stands, countsAt, engines, exists, Entry, isType, isEngine, isFull, takers, countedOn, admitEntry, seatEntry, retireEntry, repackEntry, step, freshLedger, ledgerAfter}
 use Rattle.ledger.specs.Demand3.{Request, Made, boardAfter, callsOf, callOn, answerOn, played}
-use Rattle.ledger.specs.Before.{isOld, OldList, OldKept}
+use Rattle.ledger.specs.Before.{isOld, OldList, OldKept, OfOldLists}
 use Rattle.ledger.proofs.Demand3.{asked-played}
 
 -- intermediate: on the board
@@ -95,7 +95,7 @@ fresh-engines y l s =
     ∙ passing-all (λ (e : ℕ). not (getD (l .marks) (e - 1) false)) (enginesTo (y .engines))
     (every-always (λ (e : ℕ). not (getD (l .marks) (e - 1) false)) (λ e. ap not (ap (λ (ms : List Bool). getD ms (e - 1) false) (s .marks) ∙ getD-padded [] (y .engines) (e - 1) false)) (enginesTo (y .engines)))
 
-pub old-kept : (file : List ℕ) (y : System) (rs : List Request) → readFile file ≡ opened y → OldList rs → OldKept y (openedBoard (readFile file)) (played (openedBoard (readFile file)) rs)
+pub old-kept : OfOldLists
 old-kept file y rs opens old = record {
   calls = λ before after e. as-before _ (unmarked-of _ (old-boards rs start old before after e ∙ clear));
   ledger = λ before after e. fresh-engines y _ (old-ledgers rs (freshLedger y) old before after (ap callsOf (sym (asked-played start rs)) ∙ e));

@@ -25,7 +25,7 @@ use Rattle.board.specs.Words.{countAt, standsNo, markNo, EngineIn, IsTrue, IsFr
 use Rattle.board.proofs.Truth.{boardOn, Served, marked-on}
 use Rattle.board.proofs.TrueMeans.{count-out, stands-on, true-on, parted-on, parted-whole, fresh-on, served-clear, fresh-is}
 use Rattle.ledger.specs.Ledger.{Call, admit, seat, retire, repack, withdraw, restore, Ledger, ledgerWith, countsAt, isMarked, freshLedger, ledgerAfter, ledgerAnswers}
-use Rattle.ledger.specs.Demand3.{Request, Made, boardAfter, requestsOf, callsOf, answersOf, addsType, retiresType, acceptedOf, lendsTable, LongTables, CallKept, Demand3, callOn, answerOn, played, Ran, madeBy, Promised, none, next, KeepsContract, EachKeeps}
+use Rattle.ledger.specs.Demand3.{Request, Made, boardAfter, requestsOf, callsOf, answersOf, addsType, retiresType, acceptedOf, lendsTable, LongTables, CallKept, Demand3, callOn, answerOn, played, Ran, madeBy, Promised, none, next, KeepsContract, EachKeeps, OfEveryList, OfEveryRun}
 use Rattle.ledger.proofs.Step.{Step, step-of, kept-of}
 
 -- intermediate: the requests of what was played
@@ -220,3 +220,11 @@ promised-each b (r ∷ rs) (next d p) (x ∷ before) after q e =
 
 pub promised-exactly : (b : Board) (rs : List Ran) → EachKeeps b rs ↔ Promised b rs
 promised-exactly b rs = (each-promised b rs, promised-each b rs)
+
+-- main: both of every list
+
+pub every-list : OfEveryList
+every-list file y rs opens long = demand3 file y rs opens (long-tables y rs long)
+
+pub every-run : OfEveryRun
+every-run file y start rs opens starts keeps long = demand3-runs file y start rs opens starts (promised-exactly (start .board) rs .0 keeps) (long-tables y (map (λ (r : Ran). r .asked) rs) long)

@@ -4,15 +4,17 @@ use Prim.Native.Nat.{ℕ, _+_, _-_, _≤_}
 use mathlib.Core.List.{List, [], _∷_, _++_, map}
 use mathlib.Core.Bool.{Bool, true, false, cond, _&&_}
 use mathlib.Core.Path.{_≡_}
-use lib.ListN.{getD}
+use lib.ListN.{length, getD}
 use lib.Dec.{eqb}
 use Rattle.system.specs.declared.System.{System}
+use Rattle.system.specs.Layout.{readFile, opened}
 use Rattle.system.specs.Outcome.{Outcome, isAccepted}
 use Rattle.partition.specs.Lent.{Lent, lent}
-use Rattle.partition.specs.Plain.{LongEnough, EngineOf, Stands}
+use Rattle.partition.specs.Plain.{columnsOut, LongEnough, EngineOf, Stands}
 use Rattle.board.specs.declared.Board.{Board}
 use Rattle.board.specs.declared.Turn.{Turn}
-use Rattle.board.specs.Calls.{Result, admitOf, seatOf, retireOf, repackOf, withdrawOf, restoreOf, gave, Does}
+use Rattle.board.specs.Boards.{openedBoard}
+use Rattle.board.specs.Calls.{Result, admitOf, seatOf, retireOf, repackOf, withdrawOf, restoreOf, gave, Opens, Does}
 use Rattle.board.specs.Words.{countAt, standsNo, markNo, EngineIn, IsTrue, IsFresh}
 use Rattle.board.specs.Meaning.{AdmitMeans, SeatMeans, RetireMeans, RepackMeans, WithdrawMeans, RestoreMeans}
 use Rattle.ledger.specs.Ledger.{Call, admit, seat, retire, repack, withdraw, restore, countsAt, isMarked, freshLedger, ledgerAfter, ledgerAnswers}
@@ -152,3 +154,21 @@ KeepsContract b (restore e) table r after = Does (restoreOf b e (lent [] [])) r 
 -- and the board that a call was given is the one that the call before it returned
 abbrev pub EachKeeps : Board → List Ran → Type 0
 EachKeeps b rs = (before after : List Ran) (r : Ran) → rs ≡ before ++ r ∷ after → KeepsContract (boardAfter b (map madeBy before)) (r .asked .call) (r .asked .table) (r .turn) (r .after)
+
+-- Demand 3 of every list
+
+-- "For every list of admit, seat, retire and repack calls from a fresh board, refused ones included, every table lent being long enough and holding anything", with withdraw and restore since request
+-- 2026-07: of every system file that opens, by the definitions that the contracts cite. Both parts of each table that is lent have an entry for each column; nothing else is asked
+abbrev pub OfEveryList : Type 0
+OfEveryList =
+    (file : List ℕ) (y : System) (rs : List Request) → readFile file ≡ opened y
+    → ((before after : List Request) (r : Request) → rs ≡ before ++ r ∷ after → lendsTable (r .call) ≡ true → (columnsOut y ≤ length (r .table .rows)) × (columnsOut y ≤ length (r .table .predecessors)))
+    → Demand3 y (openedBoard (readFile file)) (played (openedBoard (readFile file)) rs)
+
+-- and by the code: `start` is what `open_board` gave for the file, and each call kept its contract on the board of the one before it
+abbrev pub OfEveryRun : Type 0
+OfEveryRun =
+    (file : List ℕ) (y : System) (start : Turn) (rs : List Ran) → readFile file ≡ opened y → Opens (readFile file) start → EachKeeps (start .board) rs
+    → ((before after : List Request) (r : Request) → map (λ (q : Ran). q .asked) rs ≡ before ++ r ∷ after → lendsTable (r .call) ≡ true
+    → (columnsOut y ≤ length (r .table .rows)) × (columnsOut y ≤ length (r .table .predecessors)))
+    → Demand3 y (start .board) (map madeBy rs)

@@ -4,8 +4,7 @@ use mathlib.Core.List.{List}
 use mathlib.Core.Path.{_≡_}
 use mathlib.Core.Logic.{_↔_}
 use lib.ListN.{length, take}
-use Rattle.buffer.specs.Written.{Written}
-use Rattle.io.specs.Counts.{Counts}
+use Rattle.buffer.specs.Written.{Counts, Written}
 use Rattle.system.specs.declared.System.{System}
 use Rattle.system.specs.Limits.{engineLimit}
 use Rattle.system.specs.declared.Kind.{Kind}

@@ -33,7 +33,7 @@ rows-larger : (rowA allThree 2 1 ≡ 2) × (rowA allThree 0 1 ≡ 1) × (rowA al
 unfolding columnsOf ruleOf platformFrom typeFrom dataFrom ruledHead headOf bodyOf ruledField fieldOf endOf fieldsFrom readCard ofOneKind kindsAgree readFile sumOver apart fitsEngine within less columnFrom loadOf lowest precedes cell lowestRow
 rows-larger = (refl, refl, refl)
 
--- both bounds hold of these numbers, and each is met
+-- both bounds hold of these numbers; that each is met is `rows-sum` and `rows-larger`
 pub sum-met : Bounds (rowA oneAndThree 2 0) (rowA oneAndThree 1 2) (rowA oneAndThree 3 2)
 sum-met = rw (rows-sum .0, rows-sum .1, rows-sum .2) (record { atMost = omega arith; atLeast = omega arith })
 

@@ -6,8 +6,7 @@ use mathlib.Core.Bool.{true}
 use mathlib.Core.Path.{_≡_}
 use mathlib.Core.Logic.{_↔_, _⊎_}
 use lib.ListN.{length, take}
-use Rattle.io.specs.Counts.{Counts}
-use Rattle.buffer.specs.Written.{Written}
+use Rattle.buffer.specs.Written.{Counts, Written}
 use Rattle.system.specs.declared.System.{System}
 use Rattle.system.specs.Layout.{readFile, opened}
 use Rattle.partition.specs.Plain.{LimitsOut}

@@ -3,7 +3,7 @@
 use front::read_joined;
 use libc::STDOUT_FILENO;
 
-// What is read holds all that can be joined. What `check_read` promises it promises of every file and every sheet that begin with these parts.
+// What is read holds all that can be joined. What `check_read` promises it promises of every file and every sheet that begin with these parts, and of any input that begins with what was read.
 fn main() {
     let joined = read_joined();
     let bytes = joined.bytes;

@@ -7,8 +7,7 @@ use mathlib.Core.Path.{_≡_}
 use mathlib.Core.Logic.{_↔_, _⊎_}
 use lib.ListN.{length, getD, take, drop}
 use lib.Dec.{eqb}
-use Rattle.io.specs.Counts.{Counts}
-use Rattle.buffer.specs.Written.{Written}
+use Rattle.buffer.specs.Written.{Counts, Written}
 use Rattle.system.specs.declared.Pace.{Pace}
 use Rattle.system.specs.declared.Pace.the-variants.{Unpaced, Paced}
 use Rattle.system.specs.declared.System.{System}

@@ -1,5 +1,6 @@
 // What is said of sheets of document 01's system A, three engines and two types, through `check_of` and through `check_read`: each of the two other lines, each refusal
-// of a sheet, a file that does not read; input that is joined, cut at every place that matters, and far too long; and of a file with 4,096 columns and one with 4,097.
+// of a sheet, a file that does not read; input that is joined, cut at every place that matters, and far too long; of a file with 4,096 columns and one with 4,097; and of
+// the longest sheet there is, alone and with up to 7,712 bytes behind it.
 // What is expected was computed apart from the code.
 use answers::JOINED_BYTES;
 use answers::check_of;
@@ -380,10 +381,76 @@ fn say_widest() {
     say_sheet(b"4097 columns", &more);
 }
 
+// The longest sheet there is: 389 bytes, sixteen engines and six types. Its file has 91: one instance of type 1 fills an engine, n 16, and there are none of the types 2 to 6.
+
+// The file's length, the file, and the sheet's first field.
+fn put_file(front: &mut [u8; JOINED_BYTES]) {
+    let none = b"\x02\x00\x0a\x00\x00\x00\x01\x00\x00\x00\x01\x00\x00";
+    put_bytes(front, 0, b"\x00\x5b");
+    put_bytes(
+        front,
+        2,
+        b"\x01\x00\x0a\x10\x00\x00\x00\x00\x0a\x00\x00\x00\x08",
+    );
+    put_bytes(
+        front,
+        15,
+        b"\x02\x00\x0a\x00\x00\x00\x0a\x00\x00\x00\x08\x00\x10",
+    );
+    put_bytes(front, 28, none);
+    put_bytes(front, 41, none);
+    put_bytes(front, 54, none);
+    put_bytes(front, 67, none);
+    put_bytes(front, 80, none);
+    put_bytes(front, 93, b"\x10\x00\x02\x10\x06");
+}
+
+// The record of engine e + 1, with one instance of type 1.
+fn put_record(front: &mut [u8; JOINED_BYTES], e: usize) {
+    let record =
+        b"\x11\x00\x15\x00\x00\x00\x00\x0a\x00\x00\x00\x08\x00\x01\x00\x00\x00\x00\x00\x00\x00\x00\x00\x00";
+    if e < 16 {
+        let at = 98 + 24 * e;
+        put_bytes(front, at, record);
+        front[at + 3] = (e + 1) as u8;
+    }
+}
+
+// The two joined, and nothing but this byte behind them.
+fn longest(behind: u8) -> [u8; JOINED_BYTES] {
+    let mut front = [behind; JOINED_BYTES];
+    put_file(&mut front);
+    for e in 0..16usize {
+        put_record(&mut front, e);
+    }
+    front
+}
+
+// The sheet alone, and with bytes behind it: then it has surplus bytes, however many, as 3,707, with which it has 4,096, and one more.
+fn say_behind(front: [u8; JOINED_BYTES]) {
+    say_read(b"389 bytes", front, 482);
+    say_read(b"one less", front, 481);
+    say_read(b"one behind", front, 483);
+    say_read(b"3707 behind", front, 4189);
+    say_read(b"3708 behind", front, 4190);
+    say_read(b"7000 behind", front, 7482);
+    say_read(b"all that is read", front, JOINED_BYTES);
+}
+
+fn say_longest() {
+    say(b"0 behind it\n");
+    say_behind(longest(0));
+    say(b"17 behind it\n");
+    say_behind(longest(17));
+    say(b"255 behind it\n");
+    say_behind(longest(255));
+}
+
 fn main() {
     say_sheets();
     say_less();
     say_joined();
     say_written();
     say_widest();
+    say_longest();
 }

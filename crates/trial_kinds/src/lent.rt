@@ -88,7 +88,7 @@ fn call_front(
 }
 
 // The same over the first entries of both parts, or all where they have fewer.
-fn call_fronts(
+pub fn call_fronts(
     kind: u8,
     file: &[u8],
     rows: &mut [u16],

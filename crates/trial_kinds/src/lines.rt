@@ -6,7 +6,9 @@
 // - c: the columns that are needed;
 // - l: the listing, whole, or where it is of a plan of two kinds, what is wrong with that;
 // - w: a plan by value, for which the list's records do not count. The used engines and the types that it hands out, what was changed in the parts, and then all of its 16 places,
-//   whether an engine is used there or not; then whether `write_listing` of that plan left all bytes past those written as they were, and what it wrote. Its file has one right plan alone.
+//   whether an engine is used there or not; then whether `write_listing` of that plan left all bytes past those written as they were, and what it wrote. Its file has one right plan alone;
+// - s: as p, and whether plans of the same file over parts that held other things, and into lists of 16 and 17 records, have the same answer and the same list.
+use crate::again;
 use crate::judge;
 use crate::lent::After;
 use crate::lent::Lengths;
@@ -148,11 +150,14 @@ fn say_call(kind: u8, file: &[u8], n: Lengths) {
     let front = c.front;
     let answer = front.answer;
     say::say_answer(answer);
-    if kind == b'p' {
+    if kind == b'f' {
+        say_kept(y, c, 0);
+    } else {
         say_planned(y, front);
         say_kept(y, c, used_by(answer));
-    } else {
-        say_kept(y, c, 0);
+    }
+    if kind == b's' {
+        again::say_same(file, n, front);
     }
     say::say(b"\n");
 }

@@ -7,9 +7,11 @@
 // which that request did not know, and are answered as request 2026-14 says). Then the same with a C and T (2026-14), which changes no plan, 43 before 11, 15 and 12, and all files
 // that were made outside this project from that request (`run-vector`; a file is cut after 512 bytes, of which `plan` reads 384).
 // Then plans by value, printed whole and as listings, of files that have one right plan only: placed on all engines of both kinds, of either kind alone, on 16 and on none; and refused, 12, 11, and for the file.
+// Then cards that have several right plans, each planned over parts that held other things before and into lists of other lengths: the same list each time.
 // Then many drawn systems, each planned over tables of several lengths, and held to the same. What is expected was computed apart from the code, by a model of documents 01 and 02.
 use libc::STDIN_FILENO;
 
+mod again;
 mod drawn;
 mod judge;
 mod lent;

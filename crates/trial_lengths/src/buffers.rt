@@ -1,8 +1,10 @@
 // Sheets, system files and made files in the first bytes of a buffer: what is answered, the bytes written, and whether all bytes past them are as they were.
+// A system that is to be written is one that a file reads as, or one told by words, which may break any limit: the reading of a file ends where a limit is broken, with none of the types after that.
 use making::Recipe;
 use making::make_file;
 use sheets::write_sheet;
 use system::Answer;
+use system::System;
 use trial::files::reading_of;
 use trial::say;
 use writer::write_system;
@@ -26,9 +28,10 @@ fn say_byte(b: u8) {
     io::print_hex(1, b as u64, 2);
 }
 
+// The bytes written, at most 512: more than the 307 of the longest file.
 fn say_bytes(buffer: &[u8; LONG], size: usize) {
     say::say(b" ");
-    for i in 0..64 {
+    for i in 0..512 {
         if i < size {
             say_byte(buffer[i]);
         }
@@ -74,20 +77,25 @@ pub fn say_sheet(file: &[u8], rows: &mut [u16], predecessors: &mut [u16], room: 
     say_written(answer, &buffer);
 }
 
-// The system of a file, as crate `trial` reads it, written.
-fn system_in(file: &[u8], buffer: &mut [u8], room: usize) -> Answer {
-    let read = reading_of(file);
-    let y = read.system;
+// A system into the first bytes of a buffer, or all where it has fewer.
+fn system_in(y: System, buffer: &mut [u8], room: usize) -> Answer {
     if room < buffer.len() {
         return write_system(y, &mut buffer[0..room]);
     }
     write_system(y, buffer)
 }
 
-pub fn say_system(file: &[u8], room: usize) {
+pub fn say_told(y: System, room: usize) {
     let mut buffer: [u8; LONG] = [OLD; LONG];
-    let answer = system_in(file, &mut buffer, room);
+    let answer = system_in(y, &mut buffer, room);
     say_written(answer, &buffer);
+}
+
+// The system of a file, as crate `trial` reads it.
+pub fn say_system(file: &[u8], room: usize) {
+    let read = reading_of(file);
+    let y = read.system;
+    say_told(y, room);
 }
 
 // A file made from seed 1, of system A's platform, two types and top count 3.

@@ -6,6 +6,7 @@
 // - a admit, s seat, x why_no_room: the type of the newcomer, on a fresh board;
 // - r repack, after two of type 1 were admitted to two engines: nothing;
 // - t write_sheet, y write_system, m make_file: the bytes of the buffer that are lent;
+// - Y write_system, of a system told by words, which stand in place of the sheet and are named in `told`: the same;
 // - c check_sheet, o check_of: the bytes that are lent of the sheet (0s behind it);
 // - v listing_read, b sheet_read, U why_read, Z tight_read, J make_read, O check_read, for which the file has a sheet behind it: the bytes that were read;
 // - d run_engine, of an engine that holds nothing: the ticks;
@@ -21,6 +22,7 @@ use crate::opened;
 use crate::plans;
 use crate::sheets_of;
 use crate::texts;
+use crate::told::system_told;
 use trial::files::first_of;
 use trial::say;
 use trial::words::Bytes;
@@ -42,13 +44,15 @@ struct Numbers {
     number: usize,
 }
 
-// A case: where its name ends, its kind, its file, its numbers, its sheet, and where the next case starts.
+// A case: where its name ends, its kind, its file, its numbers, where its sheet or its words start, its sheet, where its line ends, and where the next case starts.
 struct Case {
     named: usize,
     kind: u8,
     file: Bytes,
     numbers: Numbers,
+    stated: usize,
     sheet: Bytes,
+    ended: usize,
     next: usize,
 }
 
@@ -88,13 +92,16 @@ fn case_at(text: &[u8], at: usize) -> Case {
     let filed = word_end(text, after(kind));
     let counted = numbers_at(text, after(filed));
     let numbers = counted.numbers;
-    let ended = line_end(text, after(counted.end));
+    let stated = after(counted.end);
+    let ended = line_end(text, stated);
     Case {
         named,
         kind: byte_of(text, after(named)),
         file: bytes_in(text, after(kind), filed),
         numbers: numbers,
-        sheet: bytes_in(text, after(counted.end), ended),
+        stated,
+        sheet: bytes_in(text, stated, ended),
+        ended,
         next: after(ended),
     }
 }
@@ -117,14 +124,13 @@ fn say_call(kind: u8, file: &[u8], sheet: Wide, n: Numbers) {
     }
 }
 
-fn say_case(name: &[u8], c: Case) {
+// A case that has a file.
+fn say_filed(c: Case) {
     let given = c.file;
     let stated = c.sheet;
     let numbers = c.numbers;
     let file = wide_of(given);
     let bytes = file.bytes;
-    say::say(name);
-    say::say(b":");
     say_call(
         c.kind,
         first_of(&bytes, numbers.size),
@@ -133,13 +139,25 @@ fn say_case(name: &[u8], c: Case) {
     );
 }
 
+// A case by its name, and the words that stand where another has its sheet.
+fn say_case(name: &[u8], words: &[u8], c: Case) {
+    let numbers = c.numbers;
+    say::say(name);
+    say::say(b":");
+    if c.kind == b'Y' {
+        buffers::say_told(system_told(words), numbers.number);
+    } else {
+        say_filed(c);
+    }
+}
+
 // All cases of the text: there are fewer of them than bytes.
 pub fn say_cases(text: &[u8]) {
     let mut at: usize = 0;
     for line in 0..text.len() {
         if at < text.len() {
             let c = case_at(text, at);
-            say_case(part(text, at, c.named), c);
+            say_case(part(text, at, c.named), part(text, c.stated, c.ended), c);
             at = c.next;
         }
     }

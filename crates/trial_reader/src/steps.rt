@@ -1,9 +1,14 @@
 // The field step at some places of a file: the tag and the length that stand there (0 past the end), whether both are there (`headed`, else `bare`), whether
-// the whole field is (`whole`, else `cut`), where its body starts, the place after it, and how long the part is that is handed on as its body.
+// the whole field is (`whole`, else `cut`), where its body starts, the place after it, how long the part is that is handed on as its body, and its bytes.
+use crate::bodies::say_body;
+use std::num::wrapping_add_usize;
 use system::Cursor;
 use trial::files::first_of;
 use trial::say::say;
 use trial::say::say_also;
+
+// The bytes of the longest file here: a field of 65,535 bytes, the most that its length can say, and one of 2.
+const FILE_BYTES: usize = 65543;
 
 // One of two words.
 fn say_either(first: bool, word: &[u8], other: &[u8]) {
@@ -33,6 +38,7 @@ fn step(name: &[u8], file: &[u8], at: usize) {
     say_named(b" start", field.start);
     say_named(b" next", field.next.at);
     say_named(b" body", body.len());
+    say_body(body);
     say(b"\n");
 }
 
@@ -52,18 +58,50 @@ pub fn steps() {
     step(b"step-past-the-end", file, 18446744073709551615);
 }
 
+// A file whose bytes differ from place to place: each is 7 more than the one before it, at every 256th place 8 more, from 255 on to 0 again. So no 256 bytes in a row are
+// those that begin at another place less than 65,536 away.
+fn varied() -> [u8; FILE_BYTES] {
+    let mut file = [0u8; FILE_BYTES];
+    for i in 0..FILE_BYTES {
+        file[i] = (wrapping_add_usize((i % 65536) * 7, i / 256) % 256) as u8;
+    }
+    file
+}
+
 // A field of 300 bytes, whose length takes both of its bytes, 1 and 44, and one of 2 after it; then the long field alone, the same one byte short, and with 44 bytes of its body.
 pub fn long_steps() {
-    let mut file = [46u8; 308];
-    file[0] = 6;
-    file[1] = 1;
-    file[2] = 44;
-    file[303] = 9;
-    file[304] = 0;
-    file[305] = 2;
-    step(b"long-at-0", &file, 0);
-    step(b"long-at-303", &file, 303);
-    step(b"long-alone", first_of(&file, 303), 0);
-    step(b"long-cut-by-one", first_of(&file, 302), 0);
-    step(b"long-cut-after-44", first_of(&file, 47), 0);
+    let mut all = varied();
+    all[0] = 6;
+    all[1] = 1;
+    all[2] = 44;
+    all[303] = 9;
+    all[304] = 0;
+    all[305] = 2;
+    let file = first_of(&all, 308);
+    step(b"long-at-0", file, 0);
+    step(b"long-at-303", file, 303);
+    step(b"long-alone", first_of(file, 303), 0);
+    step(b"long-cut-by-one", first_of(file, 302), 0);
+    step(b"long-cut-after-44", first_of(file, 47), 0);
+}
+
+// A field of 65,535 bytes and one of 2 after it; the long field alone, and one byte short; and at place 5, within it, the head of another of 65,535, which ends where the
+// file does, and one byte short.
+pub fn longest_steps() {
+    let mut file = varied();
+    file[0] = 7;
+    file[1] = 255;
+    file[2] = 255;
+    file[5] = 8;
+    file[6] = 255;
+    file[7] = 255;
+    file[65538] = 9;
+    file[65539] = 0;
+    file[65540] = 2;
+    step(b"longest-at-0", &file, 0);
+    step(b"longest-at-65538", &file, 65538);
+    step(b"longest-alone", first_of(&file, 65538), 0);
+    step(b"longest-cut-by-one", first_of(&file, 65537), 0);
+    step(b"longest-at-5", &file, 5);
+    step(b"longest-at-5-cut-by-one", first_of(&file, 65542), 5);
 }

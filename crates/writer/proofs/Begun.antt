@@ -1,10 +1,9 @@
--- A file of a system within the limits reads as that system, so it is read to its end, and by `beginnings` it is a beginning after each of its fields. Its platform, any second kind and
+-- A file of which each field keeps its limits is read to its end (`read-to-end`), and by `beginnings` it is a beginning after each of its fields. Its platform, any second kind and
 -- the fields of its types are whole fields by their lengths, and each of them leaves a rest of the file.
 use Prim.Native.Nat.{ℕ, zero, suc, _≤_, _<_}
 use mathlib.Core.Path.{_≡_, refl, sym, ap, _∙_, subst}
 use mathlib.Core.List.{List, [], _∷_, _++_, append-nil, append-assoc}
 use mathlib.Core.Bool.{Bool, true, false}
-use mathlib.Core.Logic.{inl}
 use native.Mathlib.Omega.{arith}
 use borrow.Author.Tests.{leb-true, leb-false}
 use lib.ListN.{length}
@@ -26,9 +25,9 @@ use Rattle.system.proofs.Later.{later-fields}
 use Rattle.system.proofs.Begins.{beginnings}
 use Rattle.partition.specs.Plain.{typeNo, CardOut}
 use Rattle.writer.specs.Meaning.{twoOut, fourOut, platformOut, secondOut, dataOut, mostOut, paceOut, costsOut, typeOut, typesOut, fileWith}
-use Rattle.writer.specs.Begun.{upToType, ownOut, FieldByField}
+use Rattle.writer.specs.Begun.{FieldsWithin, upToType, ownOut, FieldByField}
 use Rattle.writer.proofs.Told.{HasData, left-out, given, has-data}
-use Rattle.writer.proofs.Exactly.{card-reads}
+use Rattle.writer.proofs.Ends.{card-fields, read-to-end}
 
 -- intermediate: whole fields
 
@@ -146,8 +145,8 @@ module _ (told : ℕ → Bool) (y : System) where
 
 -- main
 
-pub field-by-field : (told : ℕ → Bool) (y : System) → CardOut y → FieldByField told y
-field-by-field told y card = record {
+pub field-by-field : (told : ℕ → Bool) (y : System) → FieldsWithin y → FieldByField told y
+field-by-field told y within = record {
   ends = ends;
   whole = beginnings .whole-file (fileWith told y) (λ none. omega (arith, ap length none)) ends;
   each = each;
@@ -164,7 +163,7 @@ field-by-field told y card = record {
 }
   where
     ends : AtEnd (readCard (fileWith told y))
-    ends = inl (y, card-reads told y card)
+    ends = read-to-end told y within
 
     each : (p rest : List ℕ) (last : ℕ) → WholeFields p last → p ++ rest ≡ fileWith told y → Begun p last
     each p rest last fields is = beginnings .each-field p rest last fields (subst (λ (x : List ℕ). AtEnd (readCard x)) (sym is) ends)
@@ -174,3 +173,7 @@ field-by-field told y card = record {
 
     from : (p : List ℕ) (last : ℕ) → WholeFields p last → Starts p (fileWith told y) → Begun p last
     from p last fields start = each p (start .0) last fields (start .1)
+
+-- and so of every card within the limits
+pub card-by-field : (told : ℕ → Bool) (y : System) → CardOut y → FieldByField told y
+card-by-field told y card = field-by-field told y (card-fields y card)

@@ -29,7 +29,7 @@ use Rattle.system.specs.Layout.{readCard, readFile, opened}
 use Rattle.system.proofs.Laws.{CardLimits, card-of, card-keep, limits-of, limits-card, read-keeps-card, read-keeps-limits, file-card, card-file, ceiling-lt}
 use Rattle.partition.specs.Plain.{typeNo, LimitsOut, CardOut}
 use Rattle.partition.proofs.Plain.{limits-out, card-out}
-use Rattle.writer.specs.Meaning.{twoOut, fourOut, platformOut, secondOut, dataOut, mostOut, paceOut, costsOut, typeOut, typesOut, fileWith, fileOut, IsBytes, ReadsExactly, CardExactly, Given, ReplicasFit}
+use Rattle.writer.specs.Meaning.{twoOut, fourOut, platformOut, secondOut, dataOut, mostOut, paceOut, costsOut, typeOut, typesOut, fileWith, fileOut, IsBytes, ReadsExactly, CardExactly, Given, GivenOneKind, ReplicasFit}
 use Rattle.writer.proofs.Bytes.{four-out}
 use Rattle.writer.proofs.Told.{HasData, left-out, given, has-data}
 use Rattle.writer.proofs.Writable.{card-writable}
@@ -258,3 +258,19 @@ given-iff y = (given-keeps, limits-give)
       bytes = file-bytes (λ (t : ℕ). false) y (card-of y (card-out y .1 (p .0))) (p .0) (p .1);
       reads = card-reads (λ (t : ℕ). false) y (p .0);
     }
+
+-- main: the systems of one kind that a file gives, which are those that a true board may have
+
+pub given-one-kind : (y : System) → GivenOneKind y ↔ (LimitsOut y × ReplicasFit y)
+given-one-kind y = (given-keeps, limits-give)
+  where
+    given-keeps : GivenOneKind y → LimitsOut y × ReplicasFit y
+    given-keeps g =
+        let card = given-iff y .0 (record { file = g .file; bytes = g .bytes; reads = file-card (g .file) y (g .reads) .0 }) in
+        (limits-out y .0 (read-keeps-limits (g .file) y (g .reads)), card .1)
+
+    limits-give : LimitsOut y × ReplicasFit y → GivenOneKind y
+    limits-give p =
+        let card = card-out y .0 (card-keep y (limits-card y (limits-of y (limits-out y .1 (p .0))))) in
+        let g = given-iff y .1 (card, p .1) in
+        record { file = g .file; bytes = g .bytes; reads = card-file (g .file) y (g .reads) (p .0 .oneKind) }

@@ -7,9 +7,10 @@ pub mod Writable
 pub mod Written
 pub mod Read
 pub mod Exactly
+pub mod Tests
+pub mod Ends
 pub mod Begun
 pub mod RuleByte
-pub mod Tests
 pub mod Order
 pub mod Promises
 pub mod Examples

@@ -240,10 +240,10 @@ module _ (test : TaskType → ℕ) (Asks : TaskType → Type 0) {n : ℕ} (some 
 
 -- 8: u, s and d of types 1 to k, and their u and s on the second kind
 
-abbrev Within : TaskType → Type 0
+abbrev pub Within : TaskType → Type 0
 Within t = (t .time ≤ 1000000) × (t .memory ≤ 1000000) × (t .data ≤ 1000000)
 
-abbrev CostsWithin : There → Type 0
+abbrev pub CostsWithin : There → Type 0
 CostsWithin x = (c : Costs) → x ≡ Takes c → (c .time ≤ 1000000) × (c .memory ≤ 1000000)
 
 abbrev TaskWithin : TaskType → Type 0
@@ -252,7 +252,7 @@ TaskWithin t = Within t × CostsWithin (t .there)
 size-test : (u s : ℕ) → Test ((u ≤ 1000000) × (s ≤ 1000000)) 8 (sizeFault u s)
 size-test u s = both-test u sizeLimit s sizeLimit
 
-type-test : (t : TaskType) → Test (Within t) 8 (typeFault t)
+pub type-test : (t : TaskType) → Test (Within t) 8 (typeFault t)
 type-test t =
     let u = leb (t .time) sizeLimit in
     let s = leb (t .memory) sizeLimit in
@@ -261,7 +261,7 @@ type-test t =
     (λ q h. let two = and-both u s (le-leb (t .time) sizeLimit (h .0)) (le-leb (t .memory) sizeLimit (h .1)) in false≢true (sym (not-true _ q) ∙ and-both (u && s) d two (le-leb (t .data) sizeLimit (h .2))))
     (λ q. let h = sized-task t (rw q) in (h .time, h .memory, h .data))
 
-costs-test : (x : There) → Test (CostsWithin x) 8 (costsFault x)
+pub costs-test : (x : There) → Test (CostsWithin x) 8 (costsFault x)
 costs-test Absent = passed (λ c is. let z : _≡_ {A = ℕ} 0 1 = cc in absurd (omega arith))
 costs-test (Takes d) =
     asked ((λ p c is. let same : d ≡ c = cc in subst (λ (e : Costs). (e .time ≤ 1000000) × (e .memory ≤ 1000000)) same p), (λ all. all d refl)) (size-test (d .time) (d .memory))
@@ -305,10 +305,10 @@ sizes-test y =
 
 -- 31: q of types 1 to k
 
-abbrev Apart : Most → Type 0
+abbrev pub Apart : Most → Type 0
 Apart m = (q : ℕ) → m ≡ AtMost q → 1 ≤ q
 
-most-test : (m : Most) → Test (Apart m) 31 (mostFault m)
+pub most-test : (m : Most) → Test (Apart m) 31 (mostFault m)
 most-test NotGiven = passed (λ q e. let z : _≡_ {A = ℕ} 0 1 = cc in absurd (omega arith))
 most-test (AtMost p) =
     test-of (eqb p 0) (λ e all. omega (arith, eqb-true p 0 e, all p refl)) (λ e q is. let same : p ≡ q = cc in omega (arith, eqb-false p 0 e))
@@ -345,7 +345,7 @@ within-limits whole u c l = record {
 limits-within : (whole u : ℕ) (c : Cycle) → PaceWithin whole u c → CycleLimits whole u c
 limits-within whole u c w = record { some-run = w .run .0; runs = w .runs; period = w .period .1; some-time = w .some; share = w .share }
 
-pace-test : (whole u : ℕ) (x : Pace) → Test ((c : Cycle) → x ≡ Paced c → PaceWithin whole u c) 43 (paceFault whole u x)
+pub pace-test : (whole u : ℕ) (x : Pace) → Test ((c : Cycle) → x ≡ Paced c → PaceWithin whole u c) 43 (paceFault whole u x)
 pace-test whole u Unpaced = passed (λ c is. let z : _≡_ {A = ℕ} 0 1 = cc in absurd (omega arith))
 pace-test whole u (Paced d) =
     test-of (not (cycleKeeps whole u d))

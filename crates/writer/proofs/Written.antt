@@ -29,7 +29,7 @@ use Rattle.system.specs.declared.reader.Head.the-variants.{Ruled}
 use Rattle.system.specs.Values.{taskOf, withData, withMost, withPace, withCosts, noTask, blank, withPlatform, withSecond, withType, lastType, withLast, cleared}
 use Rattle.system.specs.Limits.{typeLimit, platformFault, kindFault, secondFault, typeFault, mostFault, paceFault, costsFault, kindsFault, columnsFault}
 use Rattle.system.specs.Rules.{platformRule, typeRule, dataRule, mostRule, paceRule, secondRule, costsRule, ruleOf, follows, mayFollow, headSize}
-use Rattle.system.specs.Layout.{Reading, opened, word4, headOf, ruledHead, bodyPart, bodyOf, platformFrom, typeFrom, dataFrom, mostFrom, paceFrom, secondFrom, costsFrom}
+use Rattle.system.specs.Layout.{Reading, opened, unread, word4, headOf, ruledHead, bodyPart, bodyOf, platformFrom, typeFrom, dataFrom, mostFrom, paceFrom, secondFrom, costsFrom}
 use Rattle.system.specs.Layout.{unlessFault, ruledField, fieldOf, endOf, afterField, fieldsFrom, readCard}
 use Rattle.system.proofs.Laws.{sized-task, sized-test, paces-each, type-later, fieldsFrom-nil}
 use Rattle.partition.specs.Plain.{typeNo}
@@ -479,14 +479,105 @@ end-later : (last : ℕ) (z : System) → (last ≡ 0 → ⊥) → endOf last z 
 unfolding endOf
 end-later last z n = rw (ne-eqb last 0 n)
 
+-- intermediate: every file of which each field passes is read to its end
+
+-- what the fields of a system's file are judged by: nothing of it is asked at the end
+pub record Passing (y : System) : Type 0 where
+  pub few : y .typecount ≤ typeLimit
+  pub platform : platformFault (y .engines) (y .rule) (y .timecap) (y .memorycap) ≡ 0
+  pub second : secondFault (y .engines) (y .second) ≡ 0
+  pub sound : (t : ℕ) → 1 ≤ t → t ≤ y .typecount → typeFault (typeNo y t) ≡ 0
+  pub costs : (t : ℕ) → 1 ≤ t → t ≤ y .typecount → costsFault (typeNo y t .there) ≡ 0
+  pub apart : (t : ℕ) → 1 ≤ t → t ≤ y .typecount → mostFault (typeNo y t .most) ≡ 0
+  pub paced : (t : ℕ) → 1 ≤ t → t ≤ y .typecount → paceFault (y .timecap) (typeNo y t .time) (typeNo y t .pace) ≡ 0
+
+module _ (told : ℕ → Bool) (y : System) (six : length (y .types) ≡ 6) (pass : Passing y) where
+  first-types : (n : ℕ) → n ≤ y .typecount → length (take n (y .types)) ≡ n
+  first-types n h = length-take-le n (y .types) (omega (arith, pass .few))
+
+  next-type : (n : ℕ) → n < y .typecount → withType (typeNo y (suc n)) (holding y (take n (y .types))) ≡ holding y (take (suc n) (y .types))
+  next-type n h =
+      let back : suc n - 1 ≡ n = omega arith in
+      holding-more y (take n (y .types)) (typeNo y (suc n)) (omega (arith, pass .few, first-types n (omega arith)))
+      ∙ ap (λ (j : ℕ). holding y (take n (y .types) ++ (getD (y .types) j noTask ∷ []))) back
+      ∙ ap (holding y) (sym (take-suc (y .types) n noTask (omega (arith, pass .few))))
+
+  types-read : (n : ℕ) → n ≤ y .typecount → (first : ℕ) → TypeMay first → (f : ℕ) (rest : List ℕ) → length (typesOut told y n ++ rest) ≤ f
+      → Comes TypeMay f (typesOut told y n ++ rest) first (holding y []) rest (holding y (take n (y .types)))
+  unfolding typesOut
+  types-read zero h first start f rest enough = record { steps = f; enough = enough; tag = first; place = start; goes = refl }
+  types-read (suc n) h first start f rest enough =
+      let t = typeNo y (suc n) in
+      let done = take n (y .types) in
+      let joined : typesOut told y n ++ (typeOut (told (suc n)) t ++ rest) ≡ (typesOut told y n ++ typeOut (told (suc n)) t) ++ rest =
+      sym (append-assoc (typesOut told y n) (typeOut (told (suc n)) t) rest) in
+      let few : length done < typeLimit = omega (arith, pass .few, first-types n (omega arith)) in
+      subst (λ (s : List ℕ). Comes TypeMay f s first (holding y []) rest (holding y (take (suc n) (y .types)))) joined
+      (subst (Comes TypeMay f (typesOut told y n ++ (typeOut (told (suc n)) t ++ rest)) first (holding y []) rest) (next-type n h)
+      (comes-then (types-read n (omega arith) first start f (typeOut (told (suc n)) t ++ rest) (omega (arith, ap length joined)))
+      (λ steps tag more place.
+      one-type (told (suc n)) t rest tag (holding y done) place (holding-six y done (omega arith)) few (pass .sound (suc n) (omega arith) h) (pass .apart (suc n) (omega arith) h)
+      (pass .paced (suc n) (omega arith) h) (pass .costs (suc n) (omega arith) h) steps more)))
+
+  reads-cleared : holding y (take (y .typecount) (y .types)) ≡ cleared y
+  reads-cleared =
+      let count = first-types (y .typecount) (le-refl (y .typecount)) in
+      λ i. record {
+        engines = y .engines;
+        rule = y .rule;
+        timecap = y .timecap;
+        memorycap = y .memorycap;
+        typecount = count i;
+        types = take (y .typecount) (y .types) ++ replicate (typeLimit - count i) noTask;
+        second = y .second;
+      }
+
+  fields-read : (f : ℕ) → length (fileWith told y) ≤ f → fieldsFrom f (fileWith told y) 0 blank ≡ endOf 2 (cleared y)
+  fields-read zero enough = absurd (omega arith)
+  fields-read (suc f) enough =
+      let k = y .typecount in
+      let all = append-nil (typesOut told y k) in
+      let both : secondOut (y .second) ++ (typesOut told y k ++ []) ≡ secondOut (y .second) ++ typesOut told y k = ap (λ (l : List ℕ). secondOut (y .second) ++ l) all in
+      let p =
+      comes-then (second-comes y (y .second) (pass .second) (typesOut told y k ++ []) f (omega (arith, ap length both)))
+      (λ steps tag more place. types-read k (le-refl k) tag place steps [] more) in
+      platform-step y (secondOut (y .second) ++ typesOut told y k) blank (pass .platform) f
+      ∙ ap (λ (s : List ℕ). fieldsFrom f s 1 (equipped y OneKind)) (sym both)
+      ∙ p .goes
+      ∙ fieldsFrom-nil (p .steps) (p .tag) (holding y (take k (y .types)))
+      ∙ ap (endOf (p .tag)) reads-cleared
+      ∙ end-later (p .tag) (cleared y) (type-later (p .tag) (p .place))
+
+  pub told-ends : readCard (fileWith told y) ≡ endOf 2 (cleared y)
+  unfolding readCard
+  told-ends = fields-read (length (fileWith told y)) (le-refl (length (fileWith told y)))
+
+-- what is judged at the end: 9, 41, 10
+pub ends-nine : (y : System) → y .typecount ≡ 0 → endOf 2 (cleared y) ≡ unread 9
+unfolding endOf
+ends-nine y none = rw (eq-eqb (y .typecount) 0 none)
+
+module _ (y : System) (some : 1 ≤ y .typecount) (long : y .typecount ≤ length (y .types)) where
+  pub ends-forty-one : kindsFault y ≡ 41 → endOf 2 (cleared y) ≡ unread 41
+  unfolding endOf
+  ends-forty-one apart = let kinds : kindsFault (cleared y) ≡ 41 = kinds-cleared y long ∙ apart in rw (ne-eqb (y .typecount) 0 (λ e. omega arith), kinds)
+
+  pub ends-ten : kindsFault y ≡ 0 → columnsFault (cleared y .types) ≡ 10 → endOf 2 (cleared y) ≡ unread 10
+  unfolding endOf
+  ends-ten agree many = let kinds : kindsFault (cleared y) ≡ 0 = kinds-cleared y long ∙ agree in rw (ne-eqb (y .typecount) 0 (λ e. omega arith), kinds, many)
+
+  pub ends-open : kindsFault y ≡ 0 → columnsFault (cleared y .types) ≡ 0 → endOf 2 (cleared y) ≡ opened (cleared y)
+  unfolding endOf
+  ends-open agree few =
+      let kinds : kindsFault (cleared y) ≡ 0 = kinds-cleared y long ∙ agree in
+      rw (ne-eqb (y .typecount) 0 (λ e. omega arith))
+      (unless-none (orElse (kindsFault (cleared y)) (columnsFault (cleared y .types))) (cleared y) (none-or (kindsFault (cleared y)) (columnsFault (cleared y .types)) kinds few))
+
 -- main: every file of the system reads as it, 0 past k
 
 module _ (told : ℕ → Bool) (y : System) (six : length (y .types) ≡ 6) (none : systemFault y ≡ 0) where
   few-types : y .typecount ≤ typeLimit
   few-types = faultless-of y none .count .1
-
-  first-types : (n : ℕ) → n ≤ y .typecount → length (take n (y .types)) ≡ n
-  first-types n h = length-take-le n (y .types) (omega (arith, few-types))
 
   each-sound : (t : ℕ) → 1 ≤ t → t ≤ y .typecount → typeFault (typeNo y t) ≡ 0
   each-sound t low high = ap typeFault (sym (same-to-k y six few-types .types t low high)) ∙ types-each (cleared y .types) (faultless-of y none .types) (t - 1) .0
@@ -504,71 +595,11 @@ module _ (told : ℕ → Bool) (y : System) (six : length (y .types) ≡ 6) (non
       ap (λ (x : TaskType). paceFault (y .timecap) (x .time) (x .pace)) (sym (same-to-k y six few-types .types t low high))
       ∙ paces-each (y .timecap) typeLimit (cleared y .types) (faultless-of y none .paces) (t - 1) (omega (arith, few-types))
 
-  next-type : (n : ℕ) → n < y .typecount → withType (typeNo y (suc n)) (holding y (take n (y .types))) ≡ holding y (take (suc n) (y .types))
-  next-type n h =
-      let back : suc n - 1 ≡ n = omega arith in
-      holding-more y (take n (y .types)) (typeNo y (suc n)) (omega (arith, few-types, first-types n (omega arith)))
-      ∙ ap (λ (j : ℕ). holding y (take n (y .types) ++ (getD (y .types) j noTask ∷ []))) back
-      ∙ ap (holding y) (sym (take-suc (y .types) n noTask (omega (arith, few-types))))
-
-  types-read : (n : ℕ) → n ≤ y .typecount → (first : ℕ) → TypeMay first → (f : ℕ) (rest : List ℕ) → length (typesOut told y n ++ rest) ≤ f
-      → Comes TypeMay f (typesOut told y n ++ rest) first (holding y []) rest (holding y (take n (y .types)))
-  unfolding typesOut
-  types-read zero h first start f rest enough = record { steps = f; enough = enough; tag = first; place = start; goes = refl }
-  types-read (suc n) h first start f rest enough =
-      let t = typeNo y (suc n) in
-      let done = take n (y .types) in
-      let joined : typesOut told y n ++ (typeOut (told (suc n)) t ++ rest) ≡ (typesOut told y n ++ typeOut (told (suc n)) t) ++ rest =
-      sym (append-assoc (typesOut told y n) (typeOut (told (suc n)) t) rest) in
-      let few : length done < typeLimit = omega (arith, few-types, first-types n (omega arith)) in
-      subst (λ (s : List ℕ). Comes TypeMay f s first (holding y []) rest (holding y (take (suc n) (y .types)))) joined
-      (subst (Comes TypeMay f (typesOut told y n ++ (typeOut (told (suc n)) t ++ rest)) first (holding y []) rest) (next-type n h)
-      (comes-then (types-read n (omega arith) first start f (typeOut (told (suc n)) t ++ rest) (omega (arith, ap length joined)))
-      (λ steps tag more place.
-      one-type (told (suc n)) t rest tag (holding y done) place (holding-six y done (omega arith)) few (each-sound (suc n) (omega arith) h) (each-apart (suc n) (omega arith) h)
-      (each-paced (suc n) (omega arith) h) (each-costs (suc n) (omega arith) h) steps more)))
-
-  reads-cleared : holding y (take (y .typecount) (y .types)) ≡ cleared y
-  reads-cleared =
-      let count = first-types (y .typecount) (le-refl (y .typecount)) in
-      λ i. record {
-        engines = y .engines;
-        rule = y .rule;
-        timecap = y .timecap;
-        memorycap = y .memorycap;
-        typecount = count i;
-        types = take (y .typecount) (y .types) ++ replicate (typeLimit - count i) noTask;
-        second = y .second;
-      }
-
-  ends-well : endOf 2 (cleared y) ≡ opened (cleared y)
-  unfolding endOf
-  ends-well =
-      let f = faultless-of y none in
-      let kinds : kindsFault (cleared y) ≡ 0 = kinds-cleared y (omega (arith, few-types)) ∙ f .kinds in
-      rw (ne-eqb (y .typecount) 0 (λ e. omega arith))
-      (unless-none (orElse (kindsFault (cleared y)) (columnsFault (cleared y .types))) (cleared y) (none-or (kindsFault (cleared y)) (columnsFault (cleared y .types)) kinds (f .columns)))
-
-  fields-read : (f : ℕ) → length (fileWith told y) ≤ f → fieldsFrom f (fileWith told y) 0 blank ≡ opened (cleared y)
-  fields-read zero enough = absurd (omega arith)
-  fields-read (suc f) enough =
-      let k = y .typecount in
-      let all = append-nil (typesOut told y k) in
-      let both : secondOut (y .second) ++ (typesOut told y k ++ []) ≡ secondOut (y .second) ++ typesOut told y k = ap (λ (l : List ℕ). secondOut (y .second) ++ l) all in
-      let p =
-      comes-then (second-comes y (y .second) (faultless-of y none .second) (typesOut told y k ++ []) f (omega (arith, ap length both)))
-      (λ steps tag more place. types-read k (le-refl k) tag place steps [] more) in
-      platform-step y (secondOut (y .second) ++ typesOut told y k) blank (faultless-of y none .platform) f
-      ∙ ap (λ (s : List ℕ). fieldsFrom f s 1 (equipped y OneKind)) (sym both)
-      ∙ p .goes
-      ∙ fieldsFrom-nil (p .steps) (p .tag) (holding y (take k (y .types)))
-      ∙ ap (endOf (p .tag)) reads-cleared
-      ∙ end-later (p .tag) (cleared y) (type-later (p .tag) (p .place))
-      ∙ ends-well
-
   pub told-reads : readCard (fileWith told y) ≡ opened (cleared y)
-  unfolding readCard
-  told-reads = fields-read (length (fileWith told y)) (le-refl (length (fileWith told y)))
+  told-reads =
+      let f = faultless-of y none in
+      let pass : Passing y = record { few = few-types; platform = f .platform; second = f .second; sound = each-sound; costs = each-costs; apart = each-apart; paced = each-paced } in
+      told-ends told y six pass ∙ ends-open y (f .count .0) (omega (arith, few-types)) (f .kinds) (f .columns)
 
 pub written-reads : (y : System) → length (y .types) ≡ 6 → systemFault y ≡ 0 → readCard (fileOf y) ≡ opened (cleared y)
 written-reads y six none =

@@ -1,4 +1,5 @@
--- Every file of a system within the limits is, field by field, a beginning in the sense of system/specs/Fields, whichever zero tags 3 it has. So what is said there of the next field and of the file's end is said of every such file, after each of its fields.
+-- Every file of which each field keeps its limits is read to its end, where it is refused 9, 41 or 10 or opens; and it is, field by field, a beginning in the sense of system/specs/Fields, whichever zero tags 3
+-- it has. So what is said there of the next field and of the file's end is said of every such file, after each of its fields.
 use Prim.Native.Nat.{ℕ, suc, _≤_, _<_}
 use mathlib.Core.List.{List, [], _∷_, _++_}
 use mathlib.Core.Bool.{Bool}
@@ -7,10 +8,30 @@ use Rattle.system.specs.declared.Kind.{Kind}
 use Rattle.system.specs.declared.Second.the-variants.{TwoKinds}
 use Rattle.system.specs.declared.TaskType.{TaskType}
 use Rattle.system.specs.declared.System.{System}
-use Rattle.system.specs.Layout.{unread, readCard}
+use Rattle.system.specs.Layout.{opened, unread, readCard}
 use Rattle.system.specs.Fields.{WholeFields, AtEnd, Begun}
-use Rattle.partition.specs.Plain.{typeNo}
+use lib.ListN.{length}
+use Rattle.partition.specs.Plain.{typeNo, PacesWithin, AllOrNone}
 use Rattle.writer.specs.Meaning.{twoOut, fourOut, platformOut, secondOut, typesOut, fileWith}
+use Rattle.writer.specs.Meaning.{EnginesWithin, SizesWithin, ReplicasWithin, columnsTo, SameToK}
+
+-- every limit that is judged in a field: m, the rule, U, S, u, s, d, q, C and T, and those of a second kind. There may be no type at all, u and s on a second kind may be missing, and the
+-- columns may be any number: that is judged at the file's end
+pub record FieldsWithin (y : System) : Type 0 where
+  pub six : length (y .types) ≡ 6
+  pub count : y .typecount ≤ 6
+  pub engines : EnginesWithin y
+  pub rule : y .rule ≤ 1
+  pub sizes : SizesWithin y
+  pub replicas : ReplicasWithin y
+  pub paces : PacesWithin y
+
+-- "At the end 9, 10", and 41 "after 9" (request 2026-13): what the file of such a system reads as that `told` tells, and no field of it is refused
+pub record JudgedAtEnd (told : ℕ → Bool) (y : System) : Type 0 where
+  pub noType : y .typecount ≡ 0 → readCard (fileWith told y) ≡ unread 9
+  pub kindsApart : 1 ≤ y .typecount → (AllOrNone y → ⊥) → readCard (fileWith told y) ≡ unread 41
+  pub manyColumns : 1 ≤ y .typecount → AllOrNone y → 4096 < columnsTo y (y .typecount) → readCard (fileWith told y) ≡ unread 10
+  pub opens : 1 ≤ y .typecount → AllOrNone y → columnsTo y (y .typecount) ≤ 4096 → (z : System) × (readCard (fileWith told y) ≡ opened z) × SameToK y z
 
 -- a file up to the last field of type t, counted from 1; of t 0, up to its first type
 abbrev pub upToType : (ℕ → Bool) → System → ℕ → List ℕ

@@ -104,6 +104,12 @@ pub record Given (y : System) : Type 0 where
   pub bytes : IsBytes file
   pub reads : readCard file ≡ opened y
 
+-- and some file gives it where one kind of engine is wanted, as of a board (refusal 20: "a board whose system no file gives")
+pub record GivenOneKind (y : System) : Type 0 where
+  pub file : List ℕ
+  pub bytes : IsBytes file
+  pub reads : readFile file ≡ opened y
+
 -- each q of types 1 to k fits the two bytes of its field, as every q of the code does, which has 16 bits
 abbrev pub ReplicasFit : System → Type 0
 ReplicasFit y = (t q : ℕ) → 1 ≤ t → t ≤ y .typecount → typeNo y t .most ≡ AtMost q → q < 65536

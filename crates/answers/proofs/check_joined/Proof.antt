@@ -1,4 +1,4 @@
--- `check_joined`: the two parts are the file and the sheet that were joined, and what is said of these is said of the whole two (`cut-promised`).
+-- `check_joined`: the two parts are those of any input (`file-part`, `sheet-part`); they are the file and the sheet that were joined, and what is said of these is said of the whole two (`cut-promised`).
 use Prim.Native.Nat.{min}
 use mathlib.Core.Path.{_≡_, sym, ap, ap₂, _∙_}
 use native.Mathlib.Nat.{min-le-right}
@@ -8,6 +8,7 @@ use lib.Seq.{length-take-le}
 use Rattle.system.specs.Layout.{word2}
 use Rattle.answers.specs.Checks.{partBytes}
 use Rattle.answers.proofs.Cut.{file-joined, sheet-joined, cut-promised}
+use Rattle.answers.proofs.Parts.{file-part, sheet-part, same-promised}
 use borrow.Author.Needs.{needs}
 use Rattle.answers.proofs.check_joined.Statement.{statement}
 use Rattle.answers.proofs.check_joined.Tie as tie
@@ -44,6 +45,7 @@ returns c =
     let size : split .least .result ≡ min (word2 read 0) (length (drop 2 read)) = split .least .ensures ∙ ap₂ min (split .before .two-bytes .ensures) (ap length rest) in
     record {
       within = c .check-of .ensures .written .within;
+      ofRead = same-promised (ap₂ take size rest ∙ file-part read) (c .before .before .before .rest-at2 .ensures ∙ ap₂ drop size rest ∙ sheet-part read) (c .check-of .ensures);
       ofBoth = λ file sheet is.
           cut-promised file sheet
           (ap₂ take size rest ∙ file-joined read (take partBytes file) (take partBytes sheet) is)

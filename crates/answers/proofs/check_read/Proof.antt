@@ -1,4 +1,4 @@
--- `check_read`: what was read is the joined input, all of it.
+-- `check_read`: what was read is the joined input, all of it, or as much of it as decides (`input-promised`).
 use Prim.Native.Nat.{ℕ, min}
 use mathlib.Core.Path.{_≡_, sym, ap, _∙_}
 use native.Mathlib.Nat.{min-le-right}
@@ -6,6 +6,7 @@ use native.Mathlib.Omega.{arith}
 use lib.ListN.{length, take}
 use lib.Seq.{length-take-le}
 use Rattle.listing.proofs.Laws.{take-min}
+use Rattle.answers.proofs.Parts.{input-promised}
 use borrow.Author.Needs.{needs}
 use Rattle.answers.proofs.check_read.Statement.{statement}
 use Rattle.answers.proofs.check_read.Tie as tie
@@ -32,7 +33,14 @@ returns c =
     let least = c .before .before .before .least in
     let end : least .result ≡ min (start .args .read) (length front) = least .ensures ∙ ap (min (start .args .read)) (sym l) in
     let read : take (least .result) front ≡ take (start .args .read) front = ap (λ (n : ℕ). take n front) end ∙ take-min (start .args .read) front in
-    record { size = l; joins = rw read at (c .check-joined .ensures) }
+    let joins = rw read at (c .check-joined .ensures) in
+    record {
+      size = l;
+      joins = joins;
+      ofInput = λ input same.
+          let is : take (start .args .read) front ≡ take 8194 input = sym (ap (λ (n : ℕ). take n input) (sym l) ∙ same) in
+          input-promised input (rw is at (joins .ofRead));
+    }
 
 pub check-read-spec : {M : Type 1} → statement M
 check-read-spec =

@@ -1,5 +1,5 @@
-use borrow.Author.Needs.{needs}
 -- The loop's invariant: the best so far is the choice among the jobs from `i` on.
+use borrow.Author.Needs.{needs}
 use Prim.Native.Nat.{_+_, _-_, _≤_, _<_}
 use mathlib.Core.Path.{_≡_, refl, sym, _∙_}
 use mathlib.Core.Bool.{true, false, not, _&&_}

@@ -1,5 +1,5 @@
-use borrow.Author.Needs.{needs}
 -- The loop's invariant: found, exactly when one of the jobs passed is late.
+use borrow.Author.Needs.{needs}
 use Prim.Native.Nat.{ℕ, _-_, _≤_}
 use mathlib.Core.Path.{_≡_, sym, ap, _∙_}
 use lib.ListN.{length, take}

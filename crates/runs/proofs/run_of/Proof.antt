@@ -1,6 +1,6 @@
-use borrow.Author.Needs.{needs}
 -- The loop's invariant holds in the middle of a tick (Passes): the jobs from place `i` on have been seen, and the run from here on reports what the
 -- whole run does. Each turn sees a job, or ends a tick.
+use borrow.Author.Needs.{needs}
 use Prim.Native.Nat.{_+_, _-_, _*_, _≤_, _<_}
 use mathlib.Core.Path.{_≡_, sym, ap, _∙_}
 use mathlib.Core.List.{List}

@@ -1,5 +1,5 @@
-use borrow.Author.Needs.{needs}
 -- The loop's invariant: the jobs passed are done.
+use borrow.Author.Needs.{needs}
 use Prim.Native.Nat.{_+_, _-_, _≤_}
 use mathlib.Core.Path.{_≡_, sym, ap, _∙_}
 use lib.ListN.{length, set, take, length-set}

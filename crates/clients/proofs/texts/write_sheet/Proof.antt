@@ -1,4 +1,5 @@
--- `write_sheet`: what is said of 11 is the record's own.
+-- `write_sheet`: what is said of 11 and 30 is the record's own; and the bytes past the sheet.
+use Rattle.clients.proofs.Kept.{sheet-room, sheet-kept}
 use borrow.Author.Needs.{needs}
 use Rattle.clients.proofs.texts.write_sheet.Statement.{statement}
 use Rattle.clients.proofs.texts.write_sheet.Tie as tie
@@ -16,7 +17,7 @@ same-length-3 : tie.Need-same-length-3
 same-length-3 c = search needs
 
 returns : tie.Need-returns
-returns c = let e = c .before .before .before .before .before .before .write-sheet .ensures in (e, e .order .thenTable)
+returns c = let e = c .before .before .before .before .before .before .write-sheet .ensures in (e, (e .order .thenTable, sheet-room e, sheet-kept e))
 
 pub write-sheet-spec : {M : Type 1} → statement M
 write-sheet-spec = tie.close (tie.spec write-sheet-requires same-length same-length-2 same-length-3 returns)

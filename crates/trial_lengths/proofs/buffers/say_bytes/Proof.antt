@@ -1,14 +1,14 @@
--- The loop's invariant: `i` is at most 64.
+-- The loop's invariant: `i` is at most 512.
 use Prim.Native.Nat.{_-_, _≤_}
 use borrow.Author.Needs.{needs}
 use Rattle.trial_lengths.proofs.buffers.say_bytes.Statement.{statement}
 use Rattle.trial_lengths.proofs.buffers.say_bytes.Tie as tie
 
 abbrev Inv-loop : tie.InvT-loop
-Inv-loop buffer size i₀ i = i ≤ 64
+Inv-loop buffer size i₀ i = i ≤ 512
 
 abbrev μ-loop : tie.MeasureT-loop
-μ-loop buffer size i₀ i = 64 - i
+μ-loop buffer size i₀ i = 512 - i
 
 slice-aggregate-say : tie.Need-slice-aggregate-say Inv-loop μ-loop
 slice-aggregate-say c = search needs

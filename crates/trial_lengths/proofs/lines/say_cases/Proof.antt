@@ -19,6 +19,9 @@ case-at-requires c κs = search needs
 part-requires : tie.Need-part-requires Inv-loop μ-loop
 part-requires c κs = search needs
 
+part-requires-2 : tie.Need-part-requires-2 Inv-loop μ-loop
+part-requires-2 c κs = search needs
+
 say-case-requires : tie.Need-say-case-requires Inv-loop μ-loop
 say-case-requires c κs = search needs
 
@@ -43,6 +46,7 @@ say-cases-spec =
     loop-holds
     case-at-requires
     part-requires
+    part-requires-2
     say-case-requires
     add-line
     loop-less
