@@ -6,3 +6,4 @@ pub mod SupposedShown
 pub mod EveryShown
 pub mod CellsShown
 pub mod WorkedShown
+pub mod AlwaysShown

@@ -1,5 +1,6 @@
 -- Theorems at the end of their chains, said a second time of every input they are about: each statement that is shown is closed, so that nothing can be supposed but what stands in it.
--- What is supposed of loads and of engines, and every bound, is written in numbers and not in the words of partition/specs/Releases and table/specs/Releases: a word made weaker there, or a theorem that asks for more, is refused here.
+-- What is supposed of loads, and every bound, is written in numbers and not in the words of partition/specs/Releases and table/specs/Releases: a word made weaker there, or a theorem that asks for more, is refused here.
+-- Words that stay: `Serving`, `BothReleases` and `SameButRule`, which are given elsewhere (`ServingGiven`; `ReleasesGiven` of Supposed; `CardRuleByte` of writer), and `Fewest`, `LongEnough`, `IsTrue`, `FilledMeans`, plain words themselves.
 use Prim.Native.Nat.{ℕ, _+_, _-_, _*_, _≤_, _<_}
 use mathlib.Core.List.{List, [], _∷_}
 use mathlib.Core.Bool.{true}

@@ -4,4 +4,5 @@ pub mod Ours
 pub mod Edges
 pub mod Supposed
 pub mod Every
+pub mod Always
 pub mod Worked

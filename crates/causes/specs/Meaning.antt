@@ -1,6 +1,6 @@
 -- What a cause says, in plain words about instances, engines, U, S and q, and what the two calls promise.
--- None of these words stands in the definitions by which the code is described, so that code and statement cannot be wrong together. That a case of `Cause` has its number (`causeNumber`,
--- through which an answer is read here) is believed by reading; trial_causes tells the cases apart by their names.
+-- None of these words stands in the definitions by which the code is described, but for those that read an answer (`causeOutcomeOf`, `told`), so that code and statement cannot be wrong together. These
+-- are said case by case in clients/specs/Answers; trial_causes tells the cases apart by their names.
 use Prim.Native.Nat.{ℕ, _+_, _*_, _≤_, _<_}
 use mathlib.Core.List.{[], _∷_}
 use mathlib.Core.Path.{_≡_}

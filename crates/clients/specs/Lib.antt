@@ -1,2 +1,3 @@
 -- The definitions of crate `clients`.
 pub mod Wide
+pub mod Answers

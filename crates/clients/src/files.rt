@@ -10,6 +10,7 @@ ghost use Rattle.system.specs.Outcome.{accepted, outcomeOf};
 ghost use Rattle.writer.specs.Meaning.{fileOut, MayBeWritten, WritesInOrder, WritePromises};
 ghost use Rattle.making.specs.Meaning.{NumbersWithin, PowerWithin, MakePromises};
 ghost use Rattle.clients.specs.Wide.{Says30, KeptPastAnswer, NothingRead};
+ghost use Rattle.clients.specs.Answers.{ReadsPlainly, PartPlainly};
 use making::Recipe;
 use system::Answer;
 use system::Cursor;
@@ -26,12 +27,14 @@ pub fn blank_system() -> System
 
 pub fn read_system(file: &[u8]) -> Opened
     ensures { λ r. ⌜ Reads (readFile (now (file .entry))) r ⌝ }
+    ensures { λ r. ⌜ ReadsPlainly (readFile (now (file .entry))) r ⌝ }
 {
     system::read_system(file)
 }
 
 pub fn read_card(file: &[u8]) -> Opened
     ensures { λ r. ⌜ Reads (readCard (now (file .entry))) r ⌝ }
+    ensures { λ r. ⌜ ReadsPlainly (readCard (now (file .entry))) r ⌝ }
 {
     system::read_card(file)
 }
@@ -44,6 +47,7 @@ pub fn field_at(file: &[u8], c: Cursor) -> Field
 
 pub fn body_part(file: &[u8], field: Field) -> &[u8]
     ensures { λ r. ⌜ now r ≡ partOf (now (file .entry)) (field .start) (field .next .at) ⌝ }
+    ensures { λ r. ⌜ PartPlainly (now (file .entry)) (field .start) (field .next .at) (now r) ⌝ }
 {
     system::body_part(file, field)
 }

@@ -1,5 +1,5 @@
 -- What a written and a checked sheet mean, in plain words: the layout byte by byte, over assignments of single instances and over any records, and what each refusal says.
--- None of these words stands in the definitions by which the code is described, so that code and statement cannot be wrong together.
+-- None of these words stands in the definitions by which the code is described, but for those that read a check's answer (`sheetOutcomeOf`, which clients/specs/Answers says case by case), so that code and statement cannot be wrong together.
 use Prim.Native.Nat.{ℕ, zero, suc, _+_, _*_, _≤_, _<_}
 use mathlib.Core.List.{List, [], _∷_, _++_}
 use mathlib.Core.Bool.{Bool, true, false, cond}

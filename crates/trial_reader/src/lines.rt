@@ -23,7 +23,7 @@
 //   length (4), and that before the cut (1);
 // - `start-..`: 1 or 2 bytes where a field should start, the first one and after each of the seven tags, with each of the seven tags, right there or not, and with three that are none:
 //   the start's cut (1) is judged before the tag (2), its place (3) and its length (4);
-// - `pending-..`: files that are to be refused at their end, 41 for costs without a second kind or a second kind without costs, 10 for columns far past 4,096, or both, 41 first; each
+// - `pending-..`: files that are to be refused at their end, 41 for costs without a second kind or a second kind without costs, 10 for columns far past 4,096, or both, 41 first, and 9 for a second kind without a type; each
 //   also with one more field for every refusal that a field can have after a type (1 to 4, 7, 8, 31, 43), which is told and not the one of the end, and with types up to the sixth,
 //   which change nothing.
 use crate::show::show;
