@@ -4,12 +4,16 @@ use mathlib.Core.Path.{_≡_, ap, _∙_}
 use Rattle.system.specs.declared.System.{System}
 use Rattle.system.specs.Values.{blank}
 use Rattle.system.specs.Layout.{Reading, unread}
+use Rattle.system.specs.Outcome.{Outcome, isAccepted}
+use Rattle.partition.specs.Lent.{Lent}
 use Rattle.board.specs.declared.Board.{Board}
 use Rattle.board.specs.Boards.{openedBoard}
+use Rattle.board.specs.Calls.{Result}
+use Rattle.board.specs.Meaning.{Demand1}
 use Rattle.causes.specs.declared.Cause.{Cause}
 use Rattle.causes.specs.declared.Cause.the-variants.{Possible, NoEngine, OneTooLarge, TooMuchTime, TooMuchMemory, TooManyReplicas, NoArrangement}
 use Rattle.causes.specs.Causes.{causeNumber}
-use Rattle.clients.specs.Wide.{NumberedAsAsked, NothingRead, NothingOpened}
+use Rattle.clients.specs.Wide.{NumberedAsAsked, NothingRead, NothingOpened, BoardKept}
 
 numbered-as : (c d : Cause) (n : ℕ) → n ≡ causeNumber c → c ≡ d → n ≡ causeNumber d
 numbered-as c d n e is = e ∙ ap (λ (k : Cause). causeNumber k) is
@@ -40,3 +44,6 @@ pub nothing-opened : (x : Reading) (b : Board) → b ≡ openedBoard x → (n : 
 nothing-opened x b is n none =
     let e : b ≡ openedBoard (unread n) = is ∙ ap openedBoard none in
     (nothing-read (b .system) (ap (λ (a : Board). a .system) e), ap (λ (a : Board). a .loads) e, ap (λ (a : Board). a .marks) e)
+
+pub board-kept : (b : Board) (table left : Lent) (r : Result) → Demand1 b table left r → BoardKept b (r .outcome) (r .board)
+board-kept b table left r d s n is = d .board (ap (λ (o : Outcome). isAccepted o) is)

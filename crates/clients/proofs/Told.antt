@@ -20,7 +20,7 @@ use Rattle.wording.specs.Meaning.{TellsWhy, WhyPromises}
 use Rattle.tightness.specs.Meaning.{TellsTight, TightPromises}
 use Rattle.recipes.specs.Meaning.{TellsText, saysNotSeven, RecipePromises}
 use Rattle.timeline.specs.Meaning.{TellsWatch, WatchPromises}
-use Rattle.clients.specs.Wide.{KeptPastText, TellsOfPlan}
+use Rattle.clients.specs.Wide.{KeptPastText, TellsOfPlan, ListsItsPlan, ListsAnyPlan}
 
 -- What was written at the start of a buffer
 
@@ -77,3 +77,10 @@ lent-told {file = file} {table = table} e =
 pub lent-eleven : {file old new : List ℕ} {table after : Lent} {r : ℕ} → ListingPromises file table old new r after
     → (y : System) → readCard file ≡ opened y → TellsRefusal 11 (take r new) ↔ TooShort y table
 lent-eleven e = lent-told e .1 .0 .shortTable
+
+-- and which plan it tells
+pub lent-same : {file old new : List ℕ} {table after : Lent} {r : ℕ} → ListingPromises file table old new r after → ListsItsPlan file table (take r new) after
+lent-same e p left call = (written-taken (e .written) ∙ sym (e .samePlan p left call), e .sameTable p left call)
+
+pub listing-same : {file old new : List ℕ} {r : ℕ} → TextPromises file old new r → ListsAnyPlan file (take r new)
+listing-same e p table after long call = written-taken (e .written) ∙ sym (e .samePlan p table after long call)

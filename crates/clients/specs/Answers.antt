@@ -2,26 +2,32 @@
 -- can read one answer as another. And what reading a file, and a part of a file, hands out, apart from the words by which the code is described.
 use Prim.Native.Nat.{ℕ, _-_, _≤_, _<_}
 use mathlib.Core.List.{List, [], _∷_}
-use mathlib.Core.Bool.{Bool}
+use mathlib.Core.Bool.{Bool, true, false}
 use mathlib.Core.Path.{_≡_}
 use mathlib.Core.Logic.{_↔_, _⊎_}
 use lib.ListN.{length, take, drop}
+use Rattle.system.specs.declared.Refusal.{Refusal}
 use Rattle.system.specs.declared.Refusal.the-variants.{Input, State}
+use Rattle.system.specs.declared.Answer.{Answer}
 use Rattle.system.specs.declared.Answer.the-variants.{Accepted, Number, Refused}
 use Rattle.system.specs.declared.System.{System}
 use Rattle.system.specs.declared.Opened.{Opened}
 use Rattle.system.specs.Layout.{Reading, opened, unread}
-use Rattle.system.specs.Outcome.{accepted, refused, fromInput, fromState, outcomeOf}
+use Rattle.system.specs.Outcome.{Outcome, Source, accepted, refused, fromInput, fromState, outcomeOf, isAccepted}
 use Rattle.partition.specs.Lent.{Lent}
 use Rattle.board.specs.declared.Turn.{Turn}
 use Rattle.board.specs.Calls.{Result, gave, Does}
+use Rattle.causes.specs.declared.Cause.{Cause}
+use Rattle.causes.specs.declared.CauseAnswer.{CauseAnswer}
 use Rattle.causes.specs.declared.Cause.the-variants.{Possible, NoEngine, OneTooLarge, TooMuchTime, TooMuchMemory, TooManyReplicas, NoArrangement}
 use Rattle.causes.specs.declared.CauseAnswer.the-variants.{Because, Refused as NoCause}
 use Rattle.causes.specs.Causes.{causeOutcomeOf}
 use Rattle.causes.specs.Meaning.{Numbered, EachImplies}
+use Rattle.sheets.specs.declared.SheetAnswer.{SheetAnswer}
 use Rattle.sheets.specs.declared.SheetAnswer.the-variants.{Right, Refused as NotRight}
 use Rattle.sheets.specs.Checking.{right, wrong, sheetOutcomeOf}
 use Rattle.counting.specs.declared.Counts.{Counts}
+use Rattle.counting.specs.declared.CountAnswer.{CountAnswer}
 use Rattle.counting.specs.declared.CountAnswer.the-variants.{Counted, Refused as NotCounted}
 use Rattle.counting.specs.Meaning.{countedOutcome}
 use Rattle.clients.specs.Wide.{NothingRead}
@@ -29,6 +35,8 @@ use Rattle.clients.specs.Wide.{NothingRead}
 -- An answer
 
 pub record AnswersRead : Type 0 where
+  pub yes : (ns : List ℕ) → isAccepted (accepted ns) ≡ true
+  pub no : (s : Source) (n : ℕ) → isAccepted (refused s n) ≡ false
   pub none : outcomeOf Accepted ≡ accepted []
   pub number : (n : ℕ) → outcomeOf (Number n) ≡ accepted (n ∷ [])
   pub input : (n : ℕ) → outcomeOf (Refused (Input n)) ≡ refused fromInput n
@@ -57,6 +65,18 @@ pub record CountsRead : Type 0 where
   pub counted : (c : Counts) → countedOutcome (Counted c) ≡ accepted (c .good ∷ c .total ∷ [])
   pub input : (n : ℕ) → countedOutcome (NotCounted (Input n)) ≡ refused fromInput n
   pub state : (n : ℕ) → countedOutcome (NotCounted (State n)) ≡ refused fromState n
+
+-- and every answer is one of the cases that stand here
+pub record OneOfThese : Type 0 where
+  pub outcome : (o : Outcome) → ((ns : List ℕ) × (o ≡ accepted ns)) ⊎ ((s : Source) × (n : ℕ) × (o ≡ refused s n))
+  pub source : (s : Source) → (s ≡ fromInput) ⊎ (s ≡ fromState)
+  -- and the two lists are two
+  pub apart : fromInput ≡ fromState → ⊥
+  pub refusal : (why : Refusal) → ((n : ℕ) × (why ≡ Input n)) ⊎ ((n : ℕ) × (why ≡ State n))
+  pub answer : (r : Answer) → (r ≡ Accepted) ⊎ (((n : ℕ) × (r ≡ Number n)) ⊎ ((why : Refusal) × (r ≡ Refused why)))
+  pub cause : (r : CauseAnswer) → ((c : Cause) × (r ≡ Because c)) ⊎ ((why : Refusal) × (r ≡ NoCause why))
+  pub sheet : (r : SheetAnswer) → ((fewer : Bool) × (r ≡ Right fewer)) ⊎ ((why : Refusal) × (r ≡ NotRight why))
+  pub count : (r : CountAnswer) → ((c : Counts) × (r ≡ Counted c)) ⊎ ((why : Refusal) × (r ≡ NotCounted why))
 
 -- What a call on a board gave: its answer, the board that it returned and what the table then held; and that it did what is defined is that these three are what is defined
 abbrev pub GaveIs : Type 0

@@ -1,7 +1,7 @@
 -- What is easily narrowed in a promise, written out a second time: where 11 and 15 are said, of parts and lists of any length; which sheets are right, of sheets of any length; where 13 and
 -- 14 are said, of numbers of any size; where 30 and 38 are said, of buffers and parts of any length; what a call leaves past what it writes, of a buffer or part that held anything before;
 -- how an input comes apart into a file and a sheet; what the text of a plan handed in tells; that an engine of a plan misses no deadline; the number of each cause; and a system of which nothing was read,
--- with its board.
+-- with its board; that a refusal keeps the board; and which plan a listing tells.
 use Prim.Native.Nat.{ℕ, _+_, _*_, _≤_, _<_}
 use mathlib.Core.List.{List, [], _∷_, _++_}
 use mathlib.Core.Bool.{Bool, false}
@@ -19,19 +19,23 @@ use Rattle.system.specs.declared.Kind.{Kind}
 use Rattle.system.specs.declared.Second.{Second}
 use Rattle.system.specs.declared.Second.the-variants.{OneKind, TwoKinds}
 use Rattle.system.specs.declared.System.{System}
-use Rattle.system.specs.Layout.{Reading, opened, readFile}
+use Rattle.system.specs.Layout.{Reading, opened, readCard, readFile}
+use Rattle.system.specs.Card.{cardOf}
 use Rattle.system.specs.Outcome.{Outcome, Source, accepted, refused, fromInput}
 use Rattle.partition.specs.Assignment.{Assignment}
+use Rattle.partition.specs.Lent.{Lent}
 use Rattle.partition.specs.Plain.{columnsOut, recordNo}
 use Rattle.loads.specs.declared.EngineLoad.{EngineLoad}
 use Rattle.planner.specs.declared.EngineRecord.{EngineRecord}
 use Rattle.planner.specs.declared.Plan.{Plan}
 use Rattle.planner.specs.Demands.{entryNo}
+use Rattle.planner.specs.MixedDemands.{PlanCall}
 use Rattle.deadlines.specs.Plans.{NoneMissed, PlanRuns}
 use Rattle.board.specs.declared.Board.{Board}
 use Rattle.board.specs.Words.{IsTrue}
 use Rattle.causes.specs.declared.Cause.{Cause}
 use Rattle.causes.specs.declared.Cause.the-variants.{Possible, NoEngine, OneTooLarge, TooMuchTime, TooMuchMemory, TooManyReplicas, NoArrangement}
+use Rattle.listing.specs.Listing.{planListing}
 use Rattle.listing.specs.Demands.{TellsRefusal, TellsRecords}
 use Rattle.sheets.specs.Checking.{SheetOutcome, right}
 use Rattle.sheets.specs.Meaning.{sheetOut, GoodForAll}
@@ -146,3 +150,17 @@ NothingOpened b =
     NothingRead (b .system)
     × (b .loads ≡ replicate 16 (record { time = 0; memory = 0; counts = 0 ∷ 0 ∷ 0 ∷ 0 ∷ 0 ∷ 0 ∷ [] }))
     × (b .marks ≡ replicate 16 false)
+
+-- "It returns the board as given": at every refusal, whatever its number
+abbrev pub BoardKept : Board → Outcome → Board → Type 0
+BoardKept b o after = (s : Source) (n : ℕ) → o ≡ refused s n → after ≡ b
+
+-- the plan that a listing tells is the one that `plan_of` gives, which has 16 records: over the same table, which is left as that call leaves it
+abbrev pub ListsItsPlan : List ℕ → Lent → List ℕ → Lent → Type 0
+ListsItsPlan file table text left = (p : Plan) (after : Lent) → PlanCall (cardOf (readCard file)) table 16 p after → (text ≡ planListing p) × (left ≡ after)
+
+-- and over any table that is long enough, where the listing has a table of its own
+abbrev pub ListsAnyPlan : List ℕ → List ℕ → Type 0
+ListsAnyPlan file text =
+    (p : Plan) (table after : Lent) → ((y : System) → readCard file ≡ opened y → (columnsOut y ≤ length (table .rows)) × (columnsOut y ≤ length (table .predecessors)))
+    → PlanCall (cardOf (readCard file)) table 16 p after → text ≡ planListing p

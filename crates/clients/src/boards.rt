@@ -16,7 +16,7 @@ ghost use Rattle.causes.specs.Causes.{causeNumber, causeOutcomeOf};
 ghost use Rattle.causes.specs.Meaning.{PlanCausePromises, RoomCausePromises};
 ghost use Rattle.counting.specs.Meaning.{countedOutcome, CountPromises};
 ghost use Rattle.deadlines.specs.Meaning.{RunPromises};
-ghost use Rattle.clients.specs.Wide.{Says11, BoardSays11, Says13, Says14, Says38, KeptPastColumns, NumberedAsAsked, NothingOpened};
+ghost use Rattle.clients.specs.Wide.{Says11, BoardSays11, Says13, Says14, Says38, KeptPastColumns, NumberedAsAsked, NothingOpened, BoardKept};
 use board::Board;
 use board::Turn;
 use causes::Cause;
@@ -43,7 +43,8 @@ pub fn open_board(file: &[u8]) -> Turn
 pub fn admit(b: Board, t: usize, rows: &mut [u16], predecessors: &mut [u16]) -> Turn
     ensures { λ r. ⌜ Does (admitOf b t (lent (now (rows .entry)) (now (predecessors .entry)))) r (lent (now (rows .exit)) (now (predecessors .exit))) ⌝ }
     ensures { λ r. ⌜ AdmitPromises b t (lent (now (rows .entry)) (now (predecessors .entry))) (gave r (lent (now (rows .exit)) (now (predecessors .exit)))) ⌝ }
-    ensures { λ r. ⌜ Says13 b t (outcomeOf (r .answer)) × ((1 ≤ t) × (t ≤ b .system .typecount) → BoardSays11 b (now (rows .entry)) (now (predecessors .entry)) (outcomeOf (r .answer))) ⌝ }
+    ensures { λ r. ⌜ Says13 b t (outcomeOf (r .answer)) × ((1 ≤ t) × (t ≤ b .system .typecount) → BoardSays11 b (now (rows .entry)) (now (predecessors .entry)) (outcomeOf (r .answer)))
+        × BoardKept b (outcomeOf (r .answer)) (r .board) ⌝ }
 {
     board::admit(b, t, rows, predecessors)
 }
@@ -51,7 +52,8 @@ pub fn admit(b: Board, t: usize, rows: &mut [u16], predecessors: &mut [u16]) -> 
 pub fn seat(b: Board, t: usize, rows: &mut [u16], predecessors: &mut [u16]) -> Turn
     ensures { λ r. ⌜ Does (seatOf b t (lent (now (rows .entry)) (now (predecessors .entry)))) r (lent (now (rows .exit)) (now (predecessors .exit))) ⌝ }
     ensures { λ r. ⌜ SeatPromises b t (lent (now (rows .entry)) (now (predecessors .entry))) (gave r (lent (now (rows .exit)) (now (predecessors .exit)))) ⌝ }
-    ensures { λ r. ⌜ Says13 b t (outcomeOf (r .answer)) × ((1 ≤ t) × (t ≤ b .system .typecount) → BoardSays11 b (now (rows .entry)) (now (predecessors .entry)) (outcomeOf (r .answer))) ⌝ }
+    ensures { λ r. ⌜ Says13 b t (outcomeOf (r .answer)) × ((1 ≤ t) × (t ≤ b .system .typecount) → BoardSays11 b (now (rows .entry)) (now (predecessors .entry)) (outcomeOf (r .answer)))
+        × BoardKept b (outcomeOf (r .answer)) (r .board) ⌝ }
 {
     board::seat(b, t, rows, predecessors)
 }
@@ -59,7 +61,7 @@ pub fn seat(b: Board, t: usize, rows: &mut [u16], predecessors: &mut [u16]) -> T
 pub fn retire(b: Board, t: usize, e: usize) -> Turn
     ensures { λ r. ⌜ Does (retireOf b t e (lent [] [])) r (lent [] []) ⌝ }
     ensures { λ r. ⌜ RetirePromises b t e (gave r (lent [] [])) ⌝ }
-    ensures { λ r. ⌜ Says13 b t (outcomeOf (r .answer)) × ((1 ≤ t) × (t ≤ b .system .typecount) → Says14 b e (outcomeOf (r .answer))) ⌝ }
+    ensures { λ r. ⌜ Says13 b t (outcomeOf (r .answer)) × ((1 ≤ t) × (t ≤ b .system .typecount) → Says14 b e (outcomeOf (r .answer))) × BoardKept b (outcomeOf (r .answer)) (r .board) ⌝ }
 {
     board::retire(b, t, e)
 }
@@ -67,7 +69,7 @@ pub fn retire(b: Board, t: usize, e: usize) -> Turn
 pub fn repack(b: Board, rows: &mut [u16], predecessors: &mut [u16]) -> Turn
     ensures { λ r. ⌜ Does (repackOf b (lent (now (rows .entry)) (now (predecessors .entry)))) r (lent (now (rows .exit)) (now (predecessors .exit))) ⌝ }
     ensures { λ r. ⌜ RepackPromises b (lent (now (rows .entry)) (now (predecessors .entry))) (gave r (lent (now (rows .exit)) (now (predecessors .exit)))) ⌝ }
-    ensures { λ r. ⌜ BoardSays11 b (now (rows .entry)) (now (predecessors .entry)) (outcomeOf (r .answer)) ⌝ }
+    ensures { λ r. ⌜ BoardSays11 b (now (rows .entry)) (now (predecessors .entry)) (outcomeOf (r .answer)) × BoardKept b (outcomeOf (r .answer)) (r .board) ⌝ }
 {
     board::repack(b, rows, predecessors)
 }
@@ -75,7 +77,7 @@ pub fn repack(b: Board, rows: &mut [u16], predecessors: &mut [u16]) -> Turn
 pub fn withdraw(b: Board, e: usize) -> Turn
     ensures { λ r. ⌜ Does (withdrawOf b e (lent [] [])) r (lent [] []) ⌝ }
     ensures { λ r. ⌜ WithdrawPromises b e (gave r (lent [] [])) ⌝ }
-    ensures { λ r. ⌜ Says14 b e (outcomeOf (r .answer)) ⌝ }
+    ensures { λ r. ⌜ Says14 b e (outcomeOf (r .answer)) × BoardKept b (outcomeOf (r .answer)) (r .board) ⌝ }
 {
     board::withdraw(b, e)
 }
@@ -83,7 +85,7 @@ pub fn withdraw(b: Board, e: usize) -> Turn
 pub fn restore(b: Board, e: usize) -> Turn
     ensures { λ r. ⌜ Does (restoreOf b e (lent [] [])) r (lent [] []) ⌝ }
     ensures { λ r. ⌜ RestorePromises b e (gave r (lent [] [])) ⌝ }
-    ensures { λ r. ⌜ Says14 b e (outcomeOf (r .answer)) ⌝ }
+    ensures { λ r. ⌜ Says14 b e (outcomeOf (r .answer)) × BoardKept b (outcomeOf (r .answer)) (r .board) ⌝ }
 {
     board::restore(b, e)
 }

@@ -3,13 +3,13 @@ ghost use Prim.Native.Nat.{ℕ, _+_, _*_};
 ghost use mathlib.Core.List.{[], _∷_, _++_};
 ghost use mathlib.Core.Path.{_≡_};
 ghost use lib.ListN.{length, drop};
-ghost use Rattle.system.specs.Values.{blank};
+ghost use Rattle.system.specs.Values.{noTask, blank};
 ghost use Rattle.system.specs.Layout.{readCard, readFile, fieldAt, Reads};
 ghost use Rattle.system.specs.Inner.{partOf};
 ghost use Rattle.system.specs.Outcome.{accepted, outcomeOf};
 ghost use Rattle.writer.specs.Meaning.{fileOut, MayBeWritten, WritesInOrder, WritePromises};
 ghost use Rattle.making.specs.Meaning.{NumbersWithin, PowerWithin, MakePromises};
-ghost use Rattle.clients.specs.Wide.{Says30, KeptPastAnswer, NothingRead};
+ghost use Rattle.clients.specs.Wide.{Says30, KeptPastAnswer, unknownType, NothingRead};
 ghost use Rattle.clients.specs.Answers.{ReadsPlainly, PartPlainly};
 use making::Recipe;
 use system::Answer;
@@ -17,6 +17,14 @@ use system::Cursor;
 use system::Field;
 use system::Opened;
 use system::System;
+use system::TaskType;
+
+pub fn no_task() -> TaskType
+    ensures { λ r. ⌜ r ≡ noTask ⌝ }
+    ensures { λ r. ⌜ r ≡ unknownType ⌝ }
+{
+    system::no_task()
+}
 
 pub fn blank_system() -> System
     ensures { λ r. ⌜ r ≡ blank ⌝ }

@@ -16,6 +16,7 @@ use planner::EngineRecord;
 use planner::Plan;
 use planner::PlannedList;
 use system::Answer;
+use system::COLUMN_LIMIT;
 use system::ENGINE_LIMIT;
 
 pub fn columns_needed(file: &[u8]) -> Answer
@@ -72,4 +73,11 @@ pub fn plan_into(
         × Says15 (readCard (now (file .entry))) (now (rows .entry)) (now (predecessors .entry)) (length (now (list .entry))) (outcomeOf r) ⌝ }
 {
     planner::plan_into(file, rows, predecessors, list)
+}
+
+// The entries of each part that are enough for every system.
+pub fn column_limit() -> usize
+    ensures { λ r. ⌜ r ≡ 4096 ⌝ }
+{
+    COLUMN_LIMIT
 }

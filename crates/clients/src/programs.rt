@@ -12,7 +12,7 @@ ghost use Rattle.wording.specs.Meaning.{TellsWhy, WhyPromises, ReadPromises as 
 ghost use Rattle.tightness.specs.Meaning.{TellsTight, TightPromises, ReadPromises as TightRead};
 ghost use Rattle.recipes.specs.Meaning.{TellsText, RecipePromises, saysNotSeven, ReadPromises as MakeRead};
 ghost use Rattle.timeline.specs.Meaning.{TellsWatch, WatchPromises, inputOut, ReadPromises as WatchRead};
-ghost use Rattle.clients.specs.Wide.{KeptPastText, fileIn, sheetIn};
+ghost use Rattle.clients.specs.Wide.{KeptPastText, fileIn, sheetIn, ListsAnyPlan};
 use answers::JOINED_BYTES;
 use system::FILE_BYTES;
 use timeline::WATCH_BYTES;
@@ -20,7 +20,7 @@ use timeline::WATCH_FRONT;
 
 pub fn listing_of(file: &[u8], out: &mut [u8; 4096]) -> usize
     ensures { λ r. ⌜ TextPromises (now (file .entry)) (now (out .entry)) (now (out .exit)) r ⌝ }
-    ensures { λ r. ⌜ KeptPastText (now (out .entry)) (now (out .exit)) r × TellsFile (now (file .entry)) (take r (now (out .exit))) ⌝ }
+    ensures { λ r. ⌜ KeptPastText (now (out .entry)) (now (out .exit)) r × TellsFile (now (file .entry)) (take r (now (out .exit))) × ListsAnyPlan (now (file .entry)) (take r (now (out .exit))) ⌝ }
 {
     listing::listing_of(file, out)
 }
@@ -28,7 +28,7 @@ pub fn listing_of(file: &[u8], out: &mut [u8; 4096]) -> usize
 pub fn listing_read(front: [u8; FILE_BYTES], read: usize, out: &mut [u8; 4096]) -> usize
     ensures { λ r. ⌜ ListingRead front read (now (out .entry)) (now (out .exit)) r ⌝ }
     ensures { λ r. ⌜ ((file : List ℕ) → take 384 file ≡ take read front → TextPromises file (now (out .entry)) (now (out .exit)) r) ⌝ }
-    ensures { λ r. ⌜ ((file : List ℕ) → take 384 file ≡ take read front → KeptPastText (now (out .entry)) (now (out .exit)) r × TellsFile file (take r (now (out .exit)))) ⌝ }
+    ensures { λ r. ⌜ ((file : List ℕ) → take 384 file ≡ take read front → KeptPastText (now (out .entry)) (now (out .exit)) r × TellsFile file (take r (now (out .exit))) × ListsAnyPlan file (take r (now (out .exit)))) ⌝ }
 {
     listing::listing_read(front, read, out)
 }

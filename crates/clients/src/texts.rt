@@ -11,8 +11,9 @@ ghost use Rattle.partition.specs.Plain.{columnsOut, usedTo};
 ghost use Rattle.listing.specs.Demands.{TellsRefusal, numberOf, ListingRefuses, ListingDemand2, RefusalPromises, WriteListingPromises, ListingPromises};
 ghost use Rattle.sheets.specs.Meaning.{GoodOnFewest, WriteSheetPromises, CheckPromises};
 ghost use Rattle.sheets.specs.Checking.{wrong, sheetOutcomeOf};
-ghost use Rattle.clients.specs.Wide.{Says11, RightExactly, KeptPastText, KeptPastAnswer, Says30, TellsOfPlan};
+ghost use Rattle.clients.specs.Wide.{Says11, RightExactly, KeptPastText, KeptPastAnswer, Says30, TellsOfPlan, ListsItsPlan};
 use planner::Plan;
+use sheets::SHEET_BYTES;
 use sheets::SheetAnswer;
 use system::Answer;
 use system::Refusal;
@@ -41,6 +42,7 @@ pub fn listing(
     ensures { λ r. ⌜ KeptPastText (now (out .entry)) (now (out .exit)) r × (ListingRefuses (now (file .entry)) (lent (now (rows .entry)) (now (predecessors .entry))) (take r (now (out .exit)))
         × ListingDemand2 (now (file .entry)) (lent (now (rows .entry)) (now (predecessors .entry))) (take r (now (out .exit)))) ⌝ }
     ensures { λ r. ⌜ Says11 (readCard (now (file .entry))) (now (rows .entry)) (now (predecessors .entry)) (TellsRefusal 11 (take r (now (out .exit)))) ⌝ }
+    ensures { λ r. ⌜ ListsItsPlan (now (file .entry)) (lent (now (rows .entry)) (now (predecessors .entry))) (take r (now (out .exit))) (lent (now (rows .exit)) (now (predecessors .exit))) ⌝ }
 {
     listing::listing(file, rows, predecessors, out)
 }
@@ -71,4 +73,11 @@ pub fn check_sheet(
         × RightExactly (readFile (now (file .entry))) (now (sheet .entry)) (now (rows .entry)) (now (predecessors .entry)) (sheetOutcomeOf r) ⌝ }
 {
     sheets::check_sheet(file, sheet, rows, predecessors)
+}
+
+// The bytes that are enough for every sheet: 5, and for each of 16 engines 12 and two for each of six types.
+pub fn sheet_bytes() -> usize
+    ensures { λ r. ⌜ r ≡ 5 + 16 * (12 + 2 * 6) ⌝ }
+{
+    SHEET_BYTES
 }

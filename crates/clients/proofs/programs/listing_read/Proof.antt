@@ -2,7 +2,7 @@
 use Prim.Native.Nat.{ℕ}
 use mathlib.Core.Path.{ap, _∙_}
 use lib.ListN.{take}
-use Rattle.clients.proofs.Told.{listing-told}
+use Rattle.clients.proofs.Told.{listing-told, listing-same}
 use borrow.Author.Needs.{needs}
 use Rattle.clients.proofs.programs.listing_read.Statement.{statement}
 use Rattle.clients.proofs.programs.listing_read.Tie as tie
@@ -16,7 +16,7 @@ returns c =
       e,
       (
         (λ file same. e .ofFile file (ap (λ (n : ℕ). take n file) (e .size) ∙ same)),
-        (λ file same. listing-told (e .ofFile file (ap (λ (n : ℕ). take n file) (e .size) ∙ same))),
+        (λ file same. (let t = e .ofFile file (ap (λ (n : ℕ). take n file) (e .size) ∙ same) in (listing-told t .0, listing-told t .1, listing-same t))),
       ),
     )
 
