@@ -1,5 +1,7 @@
 // Writes what the programs `sheet` and `sheet_check` write: the sheet of a system file, and what is said of a sheet. Crate `answers` defines it. Each table is
 // the function's own, two parts of 4,096 entries, long enough for every system. The line of a refusal, with its word, is crate `listing`'s.
+#![tactic(auto)]
+
 ghost use Rattle.std.specs.Prelude.{take};
 ghost use Rattle.buffer.specs.Written.{Written};
 ghost use Rattle.sheets.specs.Checking.{sheet_outcome_of};

@@ -1,10 +1,12 @@
 // The types of the live board. What the calls do and mean is defined and proved in this crate, their functions stand in crate `board_code`.
+#![tactic(auto)]
+
 use loads::EngineLoad;
 use system::{Answer, ENGINE_LIMIT, System};
 
 // A board: the system, each engine's load with its stored time and memory, and whether it is marked, that is, out of service. Engine e is
 // at index e - 1.
-#[derive(Drop)]
+#[derive(Clone, Copy)]
 pub struct Board {
     pub system: System,
     pub loads: [EngineLoad; ENGINE_LIMIT],
@@ -12,14 +14,14 @@ pub struct Board {
 }
 
 // What a call answers, with the board after it: the one handed in where the call is refused.
-#[derive(Drop)]
+#[derive(Clone, Copy)]
 pub struct Turn {
     pub answer: Answer,
     pub board: Board,
 }
 
 // Where a newcomer can go: the number of an engine, or nowhere.
-#[derive(Drop)]
+#[derive(Clone, Copy)]
 pub enum Place {
     Engine(usize),
     Nowhere,

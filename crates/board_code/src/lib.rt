@@ -1,4 +1,6 @@
 // The functions on a live board: the truth test of a board handed in, opening one, and the six calls. What they answer is defined in crate `board`.
+#![tactic(auto)]
+
 mod calls;
 mod checks;
 mod state;

@@ -6,7 +6,7 @@ use loads::EngineLoad;
 use std::num::{wrapping_add_usize, wrapping_sub_usize};
 use system::{ENGINE_LIMIT, System};
 
-#[derive(Drop)]
+#[derive(Clone, Copy)]
 pub struct Ledger {
     pub system: System,
     pub loads: [EngineLoad; ENGINE_LIMIT],
@@ -14,14 +14,14 @@ pub struct Ledger {
 }
 
 // What a call is answered, and the ledger after it.
-#[derive(Drop)]
+#[derive(Clone, Copy)]
 pub struct Entry {
     pub code: usize,
     pub ledger: Ledger,
 }
 
 // A call: its kind, 0 admit, 1 seat, 2 retire, 3 repack, 4 withdraw, 5 restore, with its type and engine number where it has them.
-#[derive(Drop)]
+#[derive(Clone, Copy)]
 pub struct Call {
     pub kind: usize,
     pub task: usize,

@@ -8,7 +8,7 @@ use std::num::wrapping_add_usize;
 use system::{COLUMN_LIMIT, ENGINE_LIMIT, System, TYPE_LIMIT};
 
 // Whether a good assignment exists, how many engines the recovery uses, and what each holds.
-#[derive(Drop)]
+#[derive(Clone, Copy)]
 pub struct Recovery {
     pub feasible: bool,
     pub used: usize,
@@ -132,7 +132,7 @@ pub fn cell_of(y: System, row: usize, load: [usize; 8]) -> usize {
 }
 
 // What the two parts hold at the column of a load.
-#[derive(Drop)]
+#[derive(Clone, Copy)]
 pub struct Entry {
     pub row: usize,
     pub predecessor: usize,

@@ -12,7 +12,7 @@ pub const UNTRIED: usize = 254;
 
 // What the engines hold while instances are placed one by one; the count of type t on engine e is at e * 6 + t, both counted from 0.
 // `apart` says that no engine has held more of a type than its q.
-#[derive(Drop)]
+#[derive(Clone, Copy)]
 struct Held {
     time: [u64; 4],
     memory: [u64; 4],
@@ -22,7 +22,7 @@ struct Held {
 }
 
 // A number of eight digits, and whether the last step took it from its largest value back to 0.
-#[derive(Drop)]
+#[derive(Clone, Copy)]
 pub struct Odometer {
     pub digits: [usize; 8],
     pub wrapped: bool,
@@ -227,7 +227,7 @@ pub fn fewest(y: System, counts: [u16; TYPE_LIMIT]) -> usize {
 }
 
 // The time and memory of a load on one engine, instance by instance.
-#[derive(Drop)]
+#[derive(Clone, Copy)]
 pub struct Sums {
     pub time: u64,
     pub memory: u64,

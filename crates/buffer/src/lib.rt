@@ -1,5 +1,7 @@
 // Bytes put into a lent buffer. Each function that puts some answers the place after them, so that the next one goes on there; everything else in the buffer
 // is as it was.
+#![tactic(auto)]
+
 ghost use Rattle.std.specs.Prelude.{◌∷◌, [], ◌≡◌, ◌+◌, ◌≤◌, ◌<◌, min, length};
 ghost use Rattle.buffer.specs.Bytes.{bytes2, bytes4};
 ghost use Rattle.buffer.specs.Written.{Puts};

@@ -2,3 +2,4 @@
 // own, likewise.
 // Beside them stand what statements suppose, given of every input (Supposed), theorems said again as closed statements (Every), and worked files through the
 // theorems of every file (Worked).
+#![tactic(auto)]

@@ -1,8 +1,10 @@
 // The types of request 2026-08, why there is no place, with the definitions and theorems on them: no code. The functions stand in crate `causes_code`.
+#![tactic(auto)]
+
 use system::Refusal;
 
 // Why a load has no place on some engines. The request's numbers are those of `cause_number`.
-#[derive(Drop)]
+#[derive(Clone, Copy)]
 pub enum Cause {
     Possible, // 0: a good assignment exists
     NoEngine, // 1: no engine is in service, though the load is not empty
@@ -14,7 +16,7 @@ pub enum Cause {
 }
 
 // What a call answers: the cause, or refused.
-#[derive(Drop)]
+#[derive(Clone, Copy)]
 pub enum CauseAnswer {
     Because(Cause),
     Refused(Refusal),

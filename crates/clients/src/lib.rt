@@ -13,6 +13,8 @@
 // cite: where 11, 12 and 15 are said, how much of an input counts, and that no length is cut; where 13 and 14 are said, and that no number is cut; and of a
 // call that writes a text, what the
 // bytes in the buffer tell, and that those past them are as they were.
+#![tactic(auto)]
+
 mod boards;
 mod files;
 mod plans;

@@ -9,7 +9,7 @@ use crate::chosen::{SIDE, chosen};
 use system::{System, TYPE_LIMIT};
 
 // What a pass goes by: the counts of the column that it is at, and the strides of the types.
-#[derive(Drop)]
+#[derive(Clone, Copy)]
 pub struct Walk {
     pub columns: usize,
     pub column: usize,

@@ -1,5 +1,7 @@
 // Request 2026-14: the run of an engine. From a system file of one kind of engine, the number of instances of each type on an engine and a number of ticks:
 // the idle ticks, and the first missed deadline or none. Crate `deadlines` defines it.
+#![tactic(auto)]
+
 ghost use Rattle.std.specs.Prelude.{◌≡◌, ◌+◌, ◌≤◌, ◌++◌, replicate, take, drop};
 ghost use Rattle.runs.specs.Run.{job_limit};
 ghost use Rattle.deadlines.specs.Outcome.{run_outcome_of};

@@ -1,6 +1,8 @@
 // Example: a live board, from opening it to reading what its engines hold. A program of your own can begin as a copy of this one.
 // It is proved like everything here, and needs no proof file: no call on a board has a `requires`, and there is no loop.
 // What it says has words of its own, as "unit" and "storage": those of a listing are stored in crate `listing` alone.
+#![tactic(auto)]
+
 use board::Board;
 use board_code::{admit, open_board, restore, retire, seat, withdraw};
 use libc::STDOUT_FILENO;

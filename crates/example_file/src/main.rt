@@ -1,5 +1,7 @@
 // Example: a system file made from numbers. A program of your own can begin as a copy of this one.
 // It is proved like everything here, and needs no proof file: `write_system` has no `requires`, and there is no loop.
+#![tactic(auto)]
+
 use libc::{STDERR_FILENO, STDOUT_FILENO};
 use system::{Answer, Refusal, System, TaskType};
 use system_code::{blank_system, no_task};

@@ -1,6 +1,8 @@
 // Example: the run of an engine, tick by tick, and whether every deadline is kept. A program of your own can begin as a copy of this one.
 // It is proved like everything here, and needs no proof file: neither call has a `requires`, and there is no loop.
 // What it says has words of its own, as "unit": those of a listing are stored in crate `listing` alone.
+#![tactic(auto)]
+
 use deadlines::RunAnswer;
 use deadlines_code::run_engine;
 use libc::STDOUT_FILENO;

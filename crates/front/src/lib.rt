@@ -5,6 +5,8 @@
 // The contracts say that the bytes counted are bytes of the buffer. No contract can say what is read: that it is all there is, at whatever
 // pieces it comes in, and 0 past it, is run. `trial_front` goes on where all three sizes end, and `tests/outside` hands each program its
 // input in pieces.
+#![tactic(auto)]
+
 ghost use Rattle.std.specs.Prelude.{◌≡◌, length};
 ghost use Rattle.io.specs.Counts.{IsPrefixLen};
 
@@ -18,20 +20,20 @@ const WATCHED_BYTES: usize = 9 + FILE_BYTES;
 const JOINED_BYTES: usize = 2 + 4096 + 4096;
 
 // The bytes that were read, 0 past them, and how many they are.
-#[derive(Drop)]
+#[derive(Clone, Copy)]
 pub struct Front {
     pub bytes: [u8; FILE_BYTES],
     pub read: usize,
 }
 
 // The same for `watch`, and for `sheet_check`.
-#[derive(Drop)]
+#[derive(Clone, Copy)]
 pub struct Watched {
     pub bytes: [u8; WATCHED_BYTES],
     pub read: usize,
 }
 
-#[derive(Drop)]
+#[derive(Clone, Copy)]
 pub struct Joined {
     pub bytes: [u8; JOINED_BYTES],
     pub read: usize,

@@ -1,10 +1,12 @@
 // The type that the definitions of a placement on two kinds of engine speak of. No code: crate `kinds_code` has the functions.
+#![tactic(auto)]
+
 use loads::EngineLoad;
 use system::ENGINE_LIMIT;
 
 // All instances placed on the engines of two kinds: whether they can be, the number of used engines of both kinds together, and for each used engine,
 // numbers rising, its number and what it holds; 0 and idle past them.
-#[derive(Drop)]
+#[derive(Clone, Copy)]
 pub struct Mixed {
     pub placed: bool,
     pub used: usize,

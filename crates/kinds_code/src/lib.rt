@@ -1,5 +1,7 @@
 // All instances of a card placed on engines of two kinds (request 2026-13): the split between the kinds that uses the fewest engines, and each kind's
 // part of it by that kind's own table.
+#![tactic(auto)]
+
 ghost use Rattle.std.specs.Prelude.{◌≡◌};
 ghost use Rattle.partition.specs.Lent.{lent};
 ghost use Rattle.table.specs.Table.{filled_to};

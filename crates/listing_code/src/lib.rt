@@ -1,6 +1,8 @@
 // Writes the bytes of a plan's listing (document 01's "Listing"), which crate `listing` defines.
 //
 // The functions that put something into the buffer answer the place after it. Each asks for the room that its part can take, and promises to take no more.
+#![tactic(auto)]
+
 ghost use Rattle.std.specs.Prelude.{◌≡◌, ◌∷◌, [], ◌++◌, map, ◌+◌, ◌*◌, ◌≤◌, ◌<◌, length, get_or, take, drop};
 ghost use Rattle.buffer.specs.Written.{Puts};
 ghost use Rattle.system.specs.Outcome.{refusal_of};

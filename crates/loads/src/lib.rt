@@ -1,8 +1,10 @@
 // The types that the definitions of a load speak of. No code: crate `loads_code` has the functions.
+#![tactic(auto)]
+
 use system::TYPE_LIMIT;
 
 // What one engine holds: the number of instances of each type, with their time and memory.
-#[derive(Drop)]
+#[derive(Clone, Copy)]
 pub struct EngineLoad {
     pub time: u32,
     pub memory: u32,
@@ -10,7 +12,7 @@ pub struct EngineLoad {
 }
 
 // The time and the memory of a load, before anybody asked whether it fits.
-#[derive(Drop)]
+#[derive(Clone, Copy)]
 pub struct Sums {
     pub time: u64,
     pub memory: u64,

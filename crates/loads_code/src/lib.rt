@@ -1,4 +1,6 @@
 // Time, memory and fit of a load, and the column that stands for it.
+#![tactic(auto)]
+
 ghost use Rattle.std.specs.Prelude.{◌≡◌, ◌+◌, ◌-◌, ◌*◌, ◌%◌, ◌^◌, ◌≤◌, ◌<◌, true, get_or};
 ghost use Rattle.system.specs.Values.{ceilings_of};
 ghost use Rattle.system.specs.Limits.{type_limit, columns, column_limit};

@@ -1,5 +1,7 @@
 // Program `make`: reads seven numbers from standard input and writes the file of the system that they make to standard output; or one line, a refusal or `not
 // seven numbers`.
+#![tactic(auto)]
+
 use front::read_front;
 use libc::STDOUT_FILENO;
 

@@ -1,8 +1,10 @@
 // Trial systems that everyone can make again (request 2026-12): the types, with the definitions and theorems on them. No code: that is crate `making_code`.
+#![tactic(auto)]
+
 use system::TaskType;
 
 // What a trial system is made from: the seed, the m, rule, U, S and k that it is to have, and g, the top count.
-#[derive(Drop)]
+#[derive(Clone, Copy)]
 pub struct Recipe {
     pub seed: u64,
     pub engines: usize,
@@ -14,7 +16,7 @@ pub struct Recipe {
 }
 
 // A type drawn, and the generator's value after its draws.
-#[derive(Drop)]
+#[derive(Clone, Copy)]
 pub struct Draw {
     pub value: u64,
     pub task: TaskType,

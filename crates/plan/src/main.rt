@@ -1,4 +1,6 @@
 // Program `plan`: reads a system file from standard input and writes its listing to standard output, nothing else.
+#![tactic(auto)]
+
 use front::read_front;
 use libc::STDOUT_FILENO;
 

@@ -1,4 +1,6 @@
 // The plan of a system file, of one kind of engine or two.
+#![tactic(auto)]
+
 ghost use Rattle.std.specs.Prelude.{◌≡◌, ◌++◌, ◌≤◌, length, take, drop};
 ghost use Rattle.system.specs.Limits.{columns, column_limit, engine_limit};
 ghost use Rattle.system.specs.Layout.{read_card, read_file};

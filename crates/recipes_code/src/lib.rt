@@ -1,6 +1,8 @@
 // What program `make` writes for a text of seven numbers, as `1 3 0 100 200 2 3`: the file of the system that they make, the line of a refusal,
 // or a line which says that the text is not seven numbers. Crate `recipes` defines it. The line of a refusal, with its word, is crate `listing_code`'s.
 // No literal here holds one of the words that the listing keeps in its one string.
+#![tactic(auto)]
+
 mod forms;
 mod text;
 

@@ -1,11 +1,12 @@
 // The types of the run of an engine (request 2026-14), with the definitions and theorems on them: no code. The functions stand in crate `runs_code`.
+#![tactic(auto)]
 
 // The most jobs on an engine.
 pub const JOB_LIMIT: usize = 64;
 
 // An instance on the engine: run time and period in ticks, what is left of the job at hand, and the time that it is due. That time is the sum of a time
 // and a period, so it fits.
-#[derive(Drop)]
+#[derive(Clone, Copy)]
 pub struct Job {
     pub run: u32,
     pub period: u32,
@@ -14,21 +15,21 @@ pub struct Job {
 }
 
 // The first missed deadline.
-#[derive(Drop)]
+#[derive(Clone, Copy)]
 pub enum Missed {
     Never,
     At(u32),
 }
 
 // What a run reports: the ticks in which no job ran, and the first missed deadline, where it ends.
-#[derive(Drop)]
+#[derive(Clone, Copy)]
 pub struct Report {
     pub idle: u32,
     pub missed: Missed,
 }
 
 // What one tick does: the jobs after its arrivals, the place of the job that runs, the number of jobs where none does, and the jobs after it.
-#[derive(Drop)]
+#[derive(Clone, Copy)]
 pub struct Tick {
     pub here: [Job; JOB_LIMIT],
     pub at: usize,

@@ -1,4 +1,6 @@
 // The run of an engine (request 2026-14): each tick the pending job with the earliest deadline runs. Crate `runs` defines it.
+#![tactic(auto)]
+
 ghost use Rattle.std.specs.Prelude.{◌≡◌, ◌≤◌, ◌<◌, not, ◌&&◌, get_or, take};
 ghost use Rattle.runs.specs.declared.Missed.TheVariants.{At};
 ghost use Rattle.runs.specs.Run.{job_of, job_limit, late_job, fresh_job, arrived_job, worked_job, started, late, arrived, pending, due_before};

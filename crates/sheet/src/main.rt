@@ -1,4 +1,6 @@
 // Program `sheet`: reads a system file from standard input and writes its sheet, or the line of a refusal, to standard output, nothing else.
+#![tactic(auto)]
+
 use front::read_front;
 use libc::STDOUT_FILENO;
 

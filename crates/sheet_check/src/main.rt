@@ -1,6 +1,8 @@
 // Program `sheet_check`: reads a system file and a sheet, joined, from standard input and writes one line to standard output: `right`, `right, fewer would
 // do`, or a refusal.
 // They are joined as two bytes with the file's length, the file and the sheet; of a longer file or sheet its first 4,096 bytes.
+#![tactic(auto)]
+
 use front::read_joined;
 use libc::STDOUT_FILENO;
 

@@ -1,4 +1,6 @@
 // The types of placement sheets (request 2026-06), with the definitions and theorems on them: no code. The functions stand in crate `sheets_code`.
+#![tactic(auto)]
+
 use loads::EngineLoad;
 use system::Refusal;
 
@@ -6,7 +8,7 @@ use system::Refusal;
 pub const SHEET_BYTES: usize = 389;
 
 // One row of the table of a sheet's fields: a tag, the bytes of its body, and those more that it has for each type.
-#[derive(Drop)]
+#[derive(Clone, Copy)]
 pub struct SheetRule {
     pub tag: u8,
     pub body: usize,
@@ -14,14 +16,14 @@ pub struct SheetRule {
 }
 
 // What a check answers: right, with whether fewer engines would do, or refused.
-#[derive(Drop)]
+#[derive(Clone, Copy)]
 pub enum SheetAnswer {
     Right(bool),
     Refused(Refusal),
 }
 
 // What a sheet has for one engine: its load, idle where no record of it stands, and the place where the next record starts.
-#[derive(Drop)]
+#[derive(Clone, Copy)]
 pub struct Taken {
     pub load: EngineLoad,
     pub next: usize,

@@ -1,5 +1,7 @@
 // Request 2026-06: the sheets that partners send. A plan is written as a sheet, and any sheet is checked against its system file.
 // A sheet is a header with the used engines and k, then a record for each used engine, their numbers rising. Crate `sheets` defines it.
+#![tactic(auto)]
+
 mod checking;
 mod rules;
 mod writing;

@@ -327,8 +327,8 @@ any-one start a = record { number = 1; read = first-refusals.one_byte a; inside 
 any-one (behind p last b) a = record { number = 1; read = (next p last b.k b.c b.m b.kinds b.w b.whole b.u b.is).one_byte a; inside = refl }
 
 any-two : {p : List ℕ} → Before p → (a b : ℕ) → Stops (p ++ (a ∷ b ∷ []))
-any-two start a c = record { number = 1; read = first-refusals.two_bytes a c; inside = refl }
-any-two (behind p last b) a c = record { number = 1; read = (next p last b.k b.c b.m b.kinds b.w b.whole b.u b.is).two_bytes a c; inside = refl }
+any-two start a c = record { number = 1; read = first-refusals.two_bytes_lem a c; inside = refl }
+any-two (behind p last b) a c = record { number = 1; read = (next p last b.k b.c b.m b.kinds b.w b.whole b.u b.is).two_bytes_lem a c; inside = refl }
 
 -- All fields
 

@@ -1,6 +1,7 @@
 // The types and limits of a placement problem: the system, what a call answers, and what the reader of system files goes by. What the functions on
 // them do and mean is defined and proved in this crate, they stand in crate `system_code`.
 // These types stand here, and not in a module, so that other crates name them in definitions by the crate alone.
+#![tactic(auto)]
 
 // The largest m.
 pub const ENGINE_LIMIT: usize = 16;
@@ -21,35 +22,35 @@ pub const TICK_LIMIT: u32 = 65535;
 pub const FILE_BYTES: usize = 384;
 
 // How many instances of a type one engine may hold: request 2026-04's q, where it was given. Not given is no limit, and not a q of 0.
-#[derive(Drop)]
+#[derive(Clone, Copy)]
 pub enum Most {
     NotGiven,
     AtMost(u16),
 }
 
 // The run time and the period of an instance, in ticks: request 2026-14's C and T, of 32 bits, so that 0 and 65,536 can be said wrong.
-#[derive(Drop)]
+#[derive(Clone, Copy)]
 pub struct Cycle {
     pub run: u32,
     pub period: u32,
 }
 
 // A type's C and T, where they were given. Not given is not a C and T of 0.
-#[derive(Drop)]
+#[derive(Clone, Copy)]
 pub enum Pace {
     Unpaced,
     Paced(Cycle),
 }
 
 // What an instance takes on an engine of the second kind: request 2026-13's u and s there.
-#[derive(Drop)]
+#[derive(Clone, Copy)]
 pub struct Costs {
     pub time: u32,
     pub memory: u32,
 }
 
 // A type's costs there, where they were given. Not given is not a u and s of 0.
-#[derive(Drop)]
+#[derive(Clone, Copy)]
 pub enum There {
     Absent,
     Takes(Costs),
@@ -57,7 +58,7 @@ pub enum There {
 
 // A type of packet function: document 01's u, s and n, request 2026-03's d, the data memory of one instance, 2026-04's q, 2026-14's C and T,
 // and 2026-13's u and s on the second kind.
-#[derive(Drop)]
+#[derive(Clone, Copy)]
 pub struct TaskType {
     pub time: u32,
     pub memory: u32,
@@ -69,7 +70,7 @@ pub struct TaskType {
 }
 
 // The engines of a second kind: their number, U and S. They are numbered after those of the first.
-#[derive(Drop)]
+#[derive(Clone, Copy)]
 pub struct Kind {
     pub number: usize,
     pub timecap: u32,
@@ -77,14 +78,14 @@ pub struct Kind {
 }
 
 // Whether a card has a second kind of engine (request 2026-13). One without it has one kind, and not a second of 0 engines.
-#[derive(Drop)]
+#[derive(Clone, Copy)]
 pub enum Second {
     OneKind,
     TwoKinds(Kind),
 }
 
 // Document 01's m, rule, U, S and k, with the types in order of their number, all 0 and nothing given past k; and any second kind of engine.
-#[derive(Drop)]
+#[derive(Clone, Copy)]
 pub struct System {
     pub engines: usize,
     pub rule: u8,
@@ -96,14 +97,14 @@ pub struct System {
 }
 
 // Which of document 01's two lists a refusal is from, and its number there.
-#[derive(Drop)]
+#[derive(Clone, Copy)]
 pub enum Refusal {
     Input(u8),
     State(u8),
 }
 
 // What a call answers: accepted, accepted with a number, or refused.
-#[derive(Drop)]
+#[derive(Clone, Copy)]
 pub enum Answer {
     Accepted,
     Number(usize),
@@ -111,7 +112,7 @@ pub enum Answer {
 }
 
 // What a call is refused with before any work, or nothing.
-#[derive(Drop)]
+#[derive(Clone, Copy)]
 pub enum Check {
     Passes,
     Fails(Refusal),
@@ -119,7 +120,7 @@ pub enum Check {
 
 // One row of the table of fields: a tag, the length of its body, how many of it a file may have. Only of types is that
 // number asked (7): of the others the places allow just as many (`HowMany` of specs/Fields).
-#[derive(Drop)]
+#[derive(Clone, Copy)]
 pub struct FieldRule {
     pub tag: u8,
     pub body: usize,
@@ -127,34 +128,34 @@ pub struct FieldRule {
 }
 
 // What the table of fields has for a tag.
-#[derive(Drop)]
+#[derive(Clone, Copy)]
 pub enum RuleFound {
     Known(FieldRule),
     Unknown,
 }
 
 // A field of this tag may come after one of tag `last`, 0 at the file's start.
-#[derive(Drop)]
+#[derive(Clone, Copy)]
 pub struct Follow {
     pub tag: u8,
     pub last: u8,
 }
 
 // What a field's head comes to: the rule of the field, or the number of a refusal.
-#[derive(Drop)]
+#[derive(Clone, Copy)]
 pub enum Head {
     Ruled(FieldRule),
     Stops(u8),
 }
 
 // A place in a file, counted from 0.
-#[derive(Drop)]
+#[derive(Clone, Copy)]
 pub struct Cursor {
     pub at: usize,
 }
 
 // What reading a system file answers, with the system: the blank one where the file is refused.
-#[derive(Drop)]
+#[derive(Clone, Copy)]
 pub struct Opened {
     pub answer: Answer,
     pub system: System,

@@ -1,4 +1,6 @@
 // The functions on a system: the tests of its limits, a card's two kinds, and the reader of system files. What they answer is defined in crate `system`.
+#![tactic(auto)]
+
 mod card;
 mod limits;
 mod reader;

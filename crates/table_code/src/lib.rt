@@ -1,4 +1,6 @@
 // The lent table, in two parts (request 2026-10): filling it, and placing a load by it.
+#![tactic(auto)]
+
 ghost use Rattle.std.specs.Prelude.{◌≡◌};
 ghost use Rattle.system.specs.Layout.{read_card};
 ghost use Rattle.system.specs.Card.{card_of};

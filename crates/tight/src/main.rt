@@ -1,4 +1,6 @@
 // Program `tight`: reads a system file from standard input and writes one line to standard output: how many of all assignments are good, or a refusal.
+#![tactic(auto)]
+
 use front::read_front;
 use libc::STDOUT_FILENO;
 

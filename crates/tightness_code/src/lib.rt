@@ -1,6 +1,8 @@
 // Writes the line that program `tight` writes for a system file: how many of all assignments are good, as `good 1050 of 2187`, or a refusal.
 // Crate `tightness` defines it. The line of a refusal, with its word, is crate `listing`'s. No literal here holds one of the words that the listing keeps in
 // its one string.
+#![tactic(auto)]
+
 ghost use Rattle.buffer.specs.Written.{Written};
 ghost use Rattle.tightness.specs.Line.{count_line, answer_line};
 ghost use Rattle.tightness.specs.Meaning.{TightPromises, ReadPromises};

@@ -4,6 +4,8 @@
 // No literal here holds one of the words that the listing keeps in its one string.
 //
 // The functions that put something into the buffer answer the place after it. Each asks for the room that its part can take, and promises to take no more.
+#![tactic(auto)]
+
 mod lines;
 mod ticks;
 

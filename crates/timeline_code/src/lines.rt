@@ -13,7 +13,7 @@ use runs::{JOB_LIMIT, Job, Missed, Report};
 use system::TYPE_LIMIT;
 
 // An instance on the engine: its type and its number there, both from 1.
-#[derive(Drop)]
+#[derive(Clone, Copy)]
 pub struct Name {
     pub kind: usize,
     pub number: usize,

@@ -11,7 +11,7 @@ use system::{Costs, Most, Pace, Second, System, There};
 pub const NOT_GIVEN: usize = 65536;
 
 // What a word says: its letter, the index of the type that it names, and its number.
-#[derive(Drop)]
+#[derive(Clone, Copy)]
 pub struct Change {
     pub what: u8,
     pub index: usize,

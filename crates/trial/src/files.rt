@@ -8,7 +8,7 @@ use std::num::wrapping_add_usize;
 use system::{Most, Pace, Second, System, TYPE_LIMIT, There};
 
 // A file and its length.
-#[derive(Drop)]
+#[derive(Clone, Copy)]
 pub struct File {
     pub bytes: [u8; BUFFER_BYTES],
     pub size: usize,
@@ -169,7 +169,7 @@ fn four_of(file: &[u8], at: usize, past: usize) -> u32
 
 // What was read up to a place: the tag of the field before it, 0 for none, the system so far, and whether a tag 3 gave a d of 0. A
 // refusal ends it, with its number.
-#[derive(Drop)]
+#[derive(Clone, Copy)]
 pub struct Reading {
     pub at: usize,
     pub last: usize,

@@ -2,6 +2,8 @@
 // them, written from documents 01 and 02 and apart from the code under test, whose structs alone they share, with the six places for types in them; tables,
 // buffers, the words of their
 // cases, and lines. It needs nothing of `brute`, so that the two are proved side by side.
+#![tactic(auto)]
+
 pub mod buffers;
 mod bytes;
 pub mod changes;

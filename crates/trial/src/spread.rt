@@ -4,7 +4,7 @@ use std::num::{wrapping_add_usize, wrapping_sub_usize};
 use system::{Costs, Cycle, Most, Pace, System, TYPE_LIMIT, There};
 
 // A number drawn, and the seed that the next one comes from.
-#[derive(Drop)]
+#[derive(Clone, Copy)]
 pub struct Drawn {
     pub seed: u64,
     pub value: usize,
@@ -49,7 +49,7 @@ fn drawn_limit(value: usize, ceiling: u16) -> Most {
 }
 
 // A system drawn, and the seed after it.
-#[derive(Drop)]
+#[derive(Clone, Copy)]
 pub struct DrawnSystem {
     pub seed: u64,
     pub system: System,

@@ -1,5 +1,5 @@
 // Tables to lend, of two parts of 512 entries each: dirty ones, and whether two are the same from some entry on.
-#[derive(Drop)]
+#[derive(Clone, Copy)]
 pub struct Lent {
     pub rows: [u16; 512],
     pub predecessors: [u16; 512],

@@ -7,7 +7,7 @@ use std::num::wrapping_add_usize;
 pub const CASE_BYTES: usize = 512;
 
 // Bytes, and how many of them there are.
-#[derive(Drop)]
+#[derive(Clone, Copy)]
 pub struct Bytes {
     pub bytes: [u8; CASE_BYTES],
     pub size: usize,

@@ -4,6 +4,8 @@
 // 4,097; and of
 // the longest sheet there is, alone and with up to 7,712 bytes behind it.
 // What is expected was computed apart from the code.
+#![tactic(auto)]
+
 use answers_code::{JOINED_BYTES, check_of, check_read, sheet_of, sheet_read};
 use buffer::put_bytes;
 use libc::STDOUT_FILENO;

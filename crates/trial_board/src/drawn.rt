@@ -13,7 +13,7 @@ use trial::{files, say, spread, systems, tables};
 
 // How many calls of each kind were accepted, at 0 to 5, how many refused with each number, how many showed each case of `shown`, and how
 // many were answered wrongly; with the seed that the next one is drawn from.
-#[derive(Drop)]
+#[derive(Clone, Copy)]
 struct Tally {
     answers: [usize; 40],
     cases: [usize; 8],
@@ -22,7 +22,7 @@ struct Tally {
 }
 
 // A call drawn, how many entries of each part it is lent, whether they are made dirty before, and the seed after it.
-#[derive(Drop)]
+#[derive(Clone, Copy)]
 struct DrawnCall {
     call: Call,
     lent: Lengths,

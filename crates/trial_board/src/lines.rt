@@ -23,7 +23,7 @@ use trial::words::{Bytes, after, byte_of, bytes_in, line_end, part, word_end};
 pub const TEXT_BYTES: usize = 32768;
 
 // A list: whether every cell is compared, its file, where its name starts and ends, where its calls end, and where the next list starts.
-#[derive(Drop)]
+#[derive(Clone, Copy)]
 struct Case {
     cells: bool,
     file: Bytes,

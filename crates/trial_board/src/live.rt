@@ -8,14 +8,14 @@ use trial::tables::Lent;
 use trial::{files, say, systems, tables};
 
 // How many entries of each part are lent.
-#[derive(Drop)]
+#[derive(Clone, Copy)]
 pub struct Lengths {
     pub rows: usize,
     pub predecessors: usize,
 }
 
 // The board under test, the ledger beside it, and the table that is lent to the next call.
-#[derive(Drop)]
+#[derive(Clone, Copy)]
 pub struct Live {
     pub board: Board,
     pub ledger: Ledger,
@@ -23,7 +23,7 @@ pub struct Live {
 }
 
 // What one call comes to: its answer as a code, and whether all is as the ledger says.
-#[derive(Drop)]
+#[derive(Clone, Copy)]
 pub struct Step {
     pub live: Live,
     pub code: usize,

@@ -4,6 +4,8 @@
 // tables, the same table again, and tables of which one part is too short, or both. After every call the answer, the board with its marks and the table are
 // compared. Prints the final board of each list that is given, the counts of the drawn ones, and a line for each call that is answered
 // otherwise.
+#![tactic(auto)]
+
 use libc::STDIN_FILENO;
 
 mod drawn;

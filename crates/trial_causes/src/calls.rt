@@ -26,7 +26,7 @@ const CHANGED_PAST: usize = 1000004;
 // What a call told: the cause's number and the type that it names, 0 for none; or a refusal, 100 and more from the input, 200 and more from the state; and
 // the number
 // that stands for the whole table after it.
-#[derive(Drop)]
+#[derive(Clone, Copy)]
 pub struct Told {
     pub cause: usize,
     pub named: usize,
@@ -40,14 +40,14 @@ fn dirt(i: usize) -> u16 {
 }
 
 // Tables to lend, in two parts.
-#[derive(Drop)]
+#[derive(Clone, Copy)]
 struct Lent {
     rows: [u16; LONG],
     predecessors: [u16; LONG],
 }
 
 // How many entries of each part are lent.
-#[derive(Drop)]
+#[derive(Clone, Copy)]
 pub struct Lengths {
     pub rows: usize,
     pub predecessors: usize,

@@ -2,6 +2,8 @@
 // parts, all as text.
 // Prints for each case the cause or the refusal, and what was left in the table; then what a plan of the file answers, or an admit and a seat on the board.
 // What is expected was computed apart from the code, by a model of documents 01 and 02.
+#![tactic(auto)]
+
 use libc::STDIN_FILENO;
 
 mod as_promised;

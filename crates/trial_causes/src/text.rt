@@ -6,7 +6,7 @@ use trial::words::{Bytes, after, byte_of, bytes_in, number_in, word_end};
 pub const TEXT_BYTES: usize = 262144;
 
 // A case: where its name ends, whether it is a board, its bytes, the newcomer's type, how many entries of each part are lent, and where the next case starts.
-#[derive(Drop)]
+#[derive(Clone, Copy)]
 pub struct Case {
     pub named: usize,
     pub board: bool,

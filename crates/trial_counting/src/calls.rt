@@ -11,7 +11,7 @@ use trial::words::Bytes;
 pub const LONG: usize = 8200;
 
 // What a count answered, and the place from which on the whole part is as it was.
-#[derive(Drop)]
+#[derive(Clone, Copy)]
 pub struct Called {
     pub answer: CountAnswer,
     pub kept: usize,

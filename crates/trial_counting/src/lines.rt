@@ -12,7 +12,7 @@ use trial::words::{Bytes, after, bytes_in, number_in, part, word_end};
 pub const TEXT_BYTES: usize = 65536;
 
 // A case: where its name ends, its file, the entries lent, and where the next case starts.
-#[derive(Drop)]
+#[derive(Clone, Copy)]
 struct Case {
     named: usize,
     file: Bytes,

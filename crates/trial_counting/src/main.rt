@@ -2,6 +2,8 @@
 // numbers are lent, all as text. Prints for each case both numbers, or the refusal; and whether every entry past 2 × columns of a part that is dirty, or
 // after a refusal every entry, is as it was lent. Where there are few assignments they are also gone through one by one, and those that are good counted.
 // What is expected was computed apart from the code, by a model of documents 01 and 02.
+#![tactic(auto)]
+
 use libc::STDIN_FILENO;
 
 mod calls;

@@ -8,7 +8,7 @@ use system::{ENGINE_LIMIT, System, TYPE_LIMIT};
 const TURNS: usize = 4096;
 
 // How many assignments there are, how many of them are good, and whether all were gone through.
-#[derive(Drop)]
+#[derive(Clone, Copy)]
 pub struct Gone {
     pub good: usize,
     pub total: usize,

@@ -3,6 +3,8 @@
 // file that is read must give its system, and be the file of it where no tag 3 gives a d of 0; a refused one hands out the system of no types and no engines
 // that crate `trial` has
 // written out. Where one kind of engine is wanted, the same is answered, but 42 and that system of a file with two.
+#![tactic(auto)]
+
 ghost use Rattle.std.specs.Prelude.{◌<◌};
 
 use std::num::wrapping_add_usize;
@@ -12,7 +14,7 @@ use trial::files::{File, Reading};
 use trial::{files, say, systems};
 
 // How many files were read, at 0, and refused with each number, 31 at 11; how many with 41, and with 43; and how many answers were wrong.
-#[derive(Drop)]
+#[derive(Clone, Copy)]
 struct Tally {
     answers: [usize; 12],
     unpaired: usize,

@@ -10,7 +10,7 @@ pub const PLACES: usize = 64;
 pub const NEVER: usize = 4294967296;
 
 // What a run says: the number of its refusal, 0 for none; the idle ticks, and the first missed deadline.
-#[derive(Drop)]
+#[derive(Clone, Copy)]
 pub struct Seen {
     pub refusal: usize,
     pub idle: usize,
@@ -18,7 +18,7 @@ pub struct Seen {
 }
 
 // A job: its type and its instance, both counted from 0, when it is due, and the ticks that it has still to run, at least 1.
-#[derive(Drop)]
+#[derive(Clone, Copy)]
 struct Single {
     kind: usize,
     instance: u32,
@@ -27,7 +27,7 @@ struct Single {
 }
 
 // The jobs that wait stand in the first places.
-#[derive(Drop)]
+#[derive(Clone, Copy)]
 struct Waiting {
     jobs: [Single; PLACES],
     size: usize,

@@ -20,7 +20,7 @@ pub const TEXT_BYTES: usize = 131072;
 const NUMBERS: usize = 7;
 
 // A case: where its name ends, its kind, its file, its numbers, and where the next case starts.
-#[derive(Drop)]
+#[derive(Clone, Copy)]
 struct Case {
     named: usize,
     kind: u8,

@@ -8,6 +8,8 @@
 // over n and q, and more than fits; the order of all refusals; plans of both rules, of which every engine is run; and all runs that were made outside this
 // project from that request (their names start with `vector`). What is expected was computed apart from the code: misses by the work that is due by each
 // instant, idle ticks by the work that has come and not been done, whosever it is, and plans by document 01's recovery.
+#![tactic(auto)]
+
 use libc::STDIN_FILENO;
 
 mod apart;

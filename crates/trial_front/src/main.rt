@@ -3,6 +3,8 @@
 // goes on where the one before it ended. The largest is then run on what is left, 329 bytes, and all three where nothing is left. Prints each time how many
 // bytes were read, those
 // bytes, and whether all past them are 0.
+#![tactic(auto)]
+
 use front::{read_front, read_joined, read_watched};
 use libc::STDOUT_FILENO;
 

@@ -9,7 +9,7 @@ use system::{Answer, System};
 use trial::{files, say, spread};
 
 // How many systems were tried, planned, planned with an engine of the second kind, with engines of both kinds; and how many answers were wrong.
-#[derive(Drop)]
+#[derive(Clone, Copy)]
 struct Tally {
     tried: usize,
     planned: usize,
@@ -19,7 +19,7 @@ struct Tally {
 }
 
 // The calls so far, and the seed of the next one.
-#[derive(Drop)]
+#[derive(Clone, Copy)]
 struct Run {
     seed: u64,
     tally: Tally,

@@ -11,14 +11,14 @@ use trial::systems::wide;
 pub const MOST: usize = 17;
 
 // Time and memory that are taken of an engine.
-#[derive(Drop)]
+#[derive(Clone, Copy)]
 struct Sums {
     time: u64,
     memory: u64,
 }
 
 // What is wrong with a record, and what the records before it hold: the number of the last one, and six counts.
-#[derive(Drop)]
+#[derive(Clone, Copy)]
 struct Seen {
     wrong: usize,
     number: usize,

@@ -8,7 +8,7 @@ use table_code::fill_table;
 pub const LONG: usize = 4200;
 
 // How many entries of each part are lent, and how many records of the list.
-#[derive(Drop)]
+#[derive(Clone, Copy)]
 pub struct Lengths {
     pub rows: usize,
     pub predecessors: usize,
@@ -16,14 +16,14 @@ pub struct Lengths {
 }
 
 // Both parts.
-#[derive(Drop)]
+#[derive(Clone, Copy)]
 pub struct Parts {
     pub rows: [u16; LONG],
     pub predecessors: [u16; LONG],
 }
 
 // What a call answered, the list after it, and the place from which on both parts are as they were.
-#[derive(Drop)]
+#[derive(Clone, Copy)]
 pub struct After {
     pub front: Front,
     pub kept: usize,

@@ -26,7 +26,7 @@ use trial::{say, systems};
 pub const TEXT_BYTES: usize = 262144;
 
 // A case: where its name ends, its kind, its file, what it lends, and where the next case starts.
-#[derive(Drop)]
+#[derive(Clone, Copy)]
 struct Case {
     named: usize,
     kind: u8,

@@ -17,6 +17,8 @@
 // Then cards that have several right plans, each planned over parts that held other things before and into lists of other lengths: the same list each time.
 // Then many drawn systems, each planned over tables of several lengths, and held to the same. What is expected was computed apart from the code, by a model
 // of documents 01 and 02.
+#![tactic(auto)]
+
 use libc::STDIN_FILENO;
 
 mod again;

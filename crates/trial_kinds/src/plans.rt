@@ -8,7 +8,7 @@ use planner_code::plan_into;
 use system::{Answer, TYPE_LIMIT};
 
 // What a plan into a list answers, with the list.
-#[derive(Drop)]
+#[derive(Clone, Copy)]
 pub struct Front {
     pub answer: Answer,
     pub list: [EngineRecord; MOST],

@@ -18,7 +18,7 @@ pub const NONE: usize = 1000;
 pub const UNTRIED: usize = 1001;
 
 // Which sets of instances fit an engine of the first kind, and of the second: a set is a number of eight bits, one for each instance.
-#[derive(Drop)]
+#[derive(Clone, Copy)]
 struct Fits {
     first: [bool; 256],
     second: [bool; 256],

@@ -12,14 +12,14 @@ use trial::systems::wide;
 use trial::words::{after, byte_of, number_in, word_end};
 
 // A record, and where the next line starts.
-#[derive(Drop)]
+#[derive(Clone, Copy)]
 struct Taken {
     record: EngineRecord,
     at: usize,
 }
 
 // How far a text is what it should be, and whether it is so far.
-#[derive(Drop)]
+#[derive(Clone, Copy)]
 struct Match {
     at: usize,
     same: bool,

@@ -14,7 +14,7 @@ use trial::say;
 const OLD: u8 = 170;
 
 // A plan, and the place from which on both parts are as they were.
-#[derive(Drop)]
+#[derive(Clone, Copy)]
 pub struct Whole {
     pub plan: Plan,
     pub kept: usize,

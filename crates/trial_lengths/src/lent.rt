@@ -14,7 +14,7 @@ pub const OLD: u16 = 50000;
 pub const WIDE_BYTES: usize = 66048;
 
 // How many entries of each part are lent, how many of each are printed, and how many may be changed.
-#[derive(Drop)]
+#[derive(Clone, Copy)]
 pub struct Lengths {
     pub rows: usize,
     pub predecessors: usize,
@@ -23,7 +23,7 @@ pub struct Lengths {
 }
 
 // Bytes, and 0s behind them.
-#[derive(Drop)]
+#[derive(Clone, Copy)]
 pub struct Wide {
     pub bytes: [u8; WIDE_BYTES],
 }

@@ -26,7 +26,7 @@ pub const TEXT_BYTES: usize = 262144;
 
 // The numbers of a case: how many bytes are lent of its file, what is lent of the parts, how many entries of each are printed and how many may be changed,
 // and its own number.
-#[derive(Drop)]
+#[derive(Clone, Copy)]
 struct Numbers {
     size: usize,
     lent: Lengths,
@@ -35,7 +35,7 @@ struct Numbers {
 
 // A case: where its name ends, its kind, its file, its numbers, where its sheet or its words start, its sheet, where its line ends, and where the next case
 // starts.
-#[derive(Drop)]
+#[derive(Clone, Copy)]
 struct Case {
     named: usize,
     kind: u8,
@@ -48,7 +48,7 @@ struct Case {
 }
 
 // The numbers that start at a place, and where they end.
-#[derive(Drop)]
+#[derive(Clone, Copy)]
 struct Counted {
     numbers: Numbers,
     end: usize,

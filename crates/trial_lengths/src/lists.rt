@@ -14,7 +14,7 @@ const MOST: usize = 258;
 const SHOWN: usize = 16;
 
 // What a plan into a list answers, with the list.
-#[derive(Drop)]
+#[derive(Clone, Copy)]
 struct Front {
     answer: Answer,
     list: [EngineRecord; MOST],

@@ -20,6 +20,8 @@
 //   last type. A writer that judged the limits for short buffers only would write, and be seen.
 // Printed are the answer, what is handed out, and what the lent things hold after. What is expected was computed apart from the code, by a model of documents
 // 01 and 02.
+#![tactic(auto)]
+
 use libc::STDIN_FILENO;
 
 mod boards;

@@ -9,7 +9,7 @@ use trial::words::{after, word_end};
 const WORDS: usize = 64;
 
 // What the words before a place tell.
-#[derive(Drop)]
+#[derive(Clone, Copy)]
 struct Told {
     system: System,
     at: usize,

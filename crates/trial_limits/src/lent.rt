@@ -9,7 +9,7 @@ pub const LONG: usize = 5100;
 pub const OLD: u16 = 7;
 
 // How many entries of each part are lent.
-#[derive(Drop)]
+#[derive(Clone, Copy)]
 pub struct Lengths {
     pub rows: usize,
     pub predecessors: usize,

@@ -20,7 +20,7 @@ use trial::words::{Bytes, after, byte_of, bytes_in, line_end, number_in, part, w
 pub const TEXT_BYTES: usize = 32768;
 
 // A case: its kind, what it lends, where its text starts and ends, and where the next case starts.
-#[derive(Drop)]
+#[derive(Clone, Copy)]
 struct Case {
     kind: u8,
     file: Bytes,

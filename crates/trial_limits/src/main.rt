@@ -10,6 +10,8 @@
 // the end of each has what both parts hold at the last column, and whether every entry past it, or every entry, is as it was lent. What is
 // expected was computed apart from the code. A board is opened and its calls are made through functions that are proved to promise all that their contracts
 // say, of every input.
+#![tactic(auto)]
+
 use libc::STDIN_FILENO;
 
 mod as_promised;

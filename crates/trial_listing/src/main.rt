@@ -3,6 +3,8 @@
 // past the 384 that
 // program `plan` reads; files with a C and T, which change no plan; and every refusal number through the listing of a refused plan. What is expected was
 // computed apart from the code.
+#![tactic(auto)]
+
 use brute::{recovery, search};
 use listing_code::{listing, listing_of, write_listing};
 use planner::Plan;

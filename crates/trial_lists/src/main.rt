@@ -1,5 +1,7 @@
 // Plans into lists of 0 to 17 records, for 1, 15 and 16 engines: 15 is said exactly where the list is shorter than m, after 31 and 11 and
 // before 12, and the records past the last used engine are as they were lent. What is expected was computed apart from the code.
+#![tactic(auto)]
+
 ghost use Rattle.std.specs.Prelude.{◌≡◌, ◌≤◌, length};
 
 use brute::{recovery, search};
@@ -20,11 +22,11 @@ const LONG: usize = 4096;
 const OLD: u16 = 7;
 
 // How many entries of each part are lent.
-#[derive(Drop)]
+#[derive(Clone, Copy)]
 struct Lengths(usize, usize);
 
 // What a plan into a list answers, with the list.
-#[derive(Drop)]
+#[derive(Clone, Copy)]
 struct Front {
     answer: Answer,
     list: [EngineRecord; MOST],

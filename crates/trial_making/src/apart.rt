@@ -87,7 +87,7 @@ fn from_zero(x: u64, most: u64) -> u16 {
 }
 
 // The types so far, and where the generator stands.
-#[derive(Drop)]
+#[derive(Clone, Copy)]
 struct Drawn {
     value: u64,
     system: System,

@@ -26,7 +26,7 @@ const TOPS: [u64; 8] = [0, 1, 2, 3, 4, 7, 15, 63];
 const NO_TOPS: [u64; 4] = [64, 4095, 65536, 18446744073709551615];
 
 // A number, and the seed after it.
-#[derive(Drop)]
+#[derive(Clone, Copy)]
 struct Number {
     seed: u64,
     value: u64,
@@ -62,7 +62,7 @@ fn drawn_seed(seed: u64) -> Number {
 }
 
 // A recipe and the length of its buffer, and the seed after them.
-#[derive(Drop)]
+#[derive(Clone, Copy)]
 pub struct Drawn {
     pub seed: u64,
     pub recipe: Recipe,

@@ -14,7 +14,7 @@ use trial::{files, say, systems};
 const LONG: usize = 6000;
 
 // What a call answered, the first bytes of the buffer after it, and whether all past these are as they were.
-#[derive(Drop)]
+#[derive(Clone, Copy)]
 pub struct Call {
     pub answer: Answer,
     pub bytes: [u8; BUFFER_BYTES],

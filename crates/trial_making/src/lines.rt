@@ -16,14 +16,14 @@ pub const TEXT_BYTES: usize = 32768;
 const FILL: usize = 33;
 
 // The numbers of a case, in the order of their words: seed, m, rule, U, S, k, g, and the bytes lent. And where the next case starts.
-#[derive(Drop)]
+#[derive(Clone, Copy)]
 struct Numbers {
     row: [usize; 8],
     next: usize,
 }
 
 // A case: its kind, where its name starts and ends, its recipe, the bytes lent, and where the next case starts.
-#[derive(Drop)]
+#[derive(Clone, Copy)]
 struct Case {
     kind: u8,
     start: usize,

@@ -4,6 +4,8 @@
 // drawn at the ends of the limits: a line with how many calls were answered in each way, and a sum over all bytes written. Every call is judged apart from the
 // code: the generator goes bit by bit over arrays of 64 bits, the file is the one that crate `trial` makes, every byte past it is as it was lent, and what is
 // written must read as the system that was made. What is expected was computed apart from the code, by a model of document 02.
+#![tactic(auto)]
+
 use libc::STDIN_FILENO;
 
 mod apart;

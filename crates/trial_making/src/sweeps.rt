@@ -9,7 +9,7 @@ use trial::say;
 
 // How many calls wrote a file, how many were refused 39, 40 and 30, and how many were answered otherwise; a sum over the bytes of the files; and how many
 // were wrong.
-#[derive(Drop)]
+#[derive(Clone, Copy)]
 struct Tally {
     answers: [usize; 12],
     sum: u64,
@@ -110,7 +110,7 @@ fn lengths(w: Recipe) -> Tally {
 }
 
 // The calls so far, and the seed of the next one.
-#[derive(Drop)]
+#[derive(Clone, Copy)]
 struct Run {
     seed: u64,
     tally: Tally,

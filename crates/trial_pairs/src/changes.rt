@@ -6,7 +6,7 @@ use trial::buffers::BUFFER_BYTES;
 use trial::{files, say, systems};
 
 // Where the byte stands, the byte, and the size.
-#[derive(Drop)]
+#[derive(Clone, Copy)]
 struct Change(usize, u8, usize);
 
 // Bytes 0 to 12 are the platform, 13 to 25 type 1, 26 to 30 its q, 31 to 95 types 2 to 6, 96 to 108 a seventh type.

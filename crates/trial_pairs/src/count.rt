@@ -12,21 +12,21 @@ pub const WIDEST: usize = 4096;
 const COUNTS: usize = 24576;
 
 // The loads of the columns: what column c has of the type at index t is at 6 × c + t.
-#[derive(Drop)]
+#[derive(Clone, Copy)]
 struct Loads {
     columns: usize,
     counts: [u16; COUNTS],
 }
 
 // The cell of a column, and the columns tried for it.
-#[derive(Drop)]
+#[derive(Clone, Copy)]
 struct Cell {
     holds: u16,
     tried: usize,
 }
 
 // What both parts hold when some rows are filled, and the pairs tried for these rows.
-#[derive(Drop)]
+#[derive(Clone, Copy)]
 struct Filled {
     rows: [u16; WIDEST],
     predecessors: [u16; WIDEST],
@@ -34,7 +34,7 @@ struct Filled {
 }
 
 // What both parts hold below the columns when all rows are filled, and the pairs tried for them.
-#[derive(Drop)]
+#[derive(Clone, Copy)]
 pub struct Parts {
     pub columns: usize,
     pub rows: [u16; WIDEST],

@@ -13,18 +13,18 @@ use trial::{files, say};
 pub const LONG: usize = 4200;
 
 // Two parts to lend.
-#[derive(Drop)]
+#[derive(Clone, Copy)]
 pub struct Lent {
     rows: [u16; LONG],
     predecessors: [u16; LONG],
 }
 
 // How many entries of each part are lent.
-#[derive(Drop)]
+#[derive(Clone, Copy)]
 pub struct Lengths(pub usize, pub usize);
 
 // What a fill answered, and both parts after it.
-#[derive(Drop)]
+#[derive(Clone, Copy)]
 pub struct Filled {
     pub code: usize,
     parts: Lent,
@@ -32,7 +32,7 @@ pub struct Filled {
 
 // What the fills of a system came to: whether every answer and every entry was right, the number, the bound, whether no type fits, whether the number is
 // the bound but for column 0, which is never tried, and whether it is one for each other column.
-#[derive(Drop)]
+#[derive(Clone, Copy)]
 pub struct Trial {
     pub right: bool,
     pub pairs: usize,

@@ -2,6 +2,8 @@
 // held anything, longer than they need to be, just long enough, and of which one is an entry too short, or both: files that are refused, systems that are
 // given, and drawn ones. The number is never over the bound, and is the bound but for column 0 where no type fits. Prints the answers, the sums, and a line
 // for each system whose number or entries are others. What is expected was computed apart from the code.
+#![tactic(auto)]
+
 mod cases;
 mod changes;
 mod count;

@@ -6,7 +6,7 @@ use trial::{say, spread, systems};
 
 // How many systems were tried; in how many every answer was right, no type fits, the pairs are the bound but for column 0, and they are one for each
 // other column; and the sums of pairs and bounds.
-#[derive(Drop)]
+#[derive(Clone, Copy)]
 struct Tally {
     tried: usize,
     right: usize,

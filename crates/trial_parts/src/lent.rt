@@ -7,14 +7,14 @@ use trial::say;
 pub const LONG: usize = 5000;
 
 // How many entries of each part are lent.
-#[derive(Drop)]
+#[derive(Clone, Copy)]
 pub struct Lengths {
     pub rows: usize,
     pub predecessors: usize,
 }
 
 // Both parts.
-#[derive(Drop)]
+#[derive(Clone, Copy)]
 struct Lent {
     rows: [u16; LONG],
     predecessors: [u16; LONG],

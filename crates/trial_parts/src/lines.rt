@@ -13,7 +13,7 @@ use trial::words::{Bytes, after, byte_of, bytes_in, line_end, number_in, part, w
 pub const TEXT_BYTES: usize = 131072;
 
 // A case: where its name ends, its kind, its file, what it lends, where its text starts and ends, and where the next case starts.
-#[derive(Drop)]
+#[derive(Clone, Copy)]
 struct Case {
     named: usize,
     kind: u8,

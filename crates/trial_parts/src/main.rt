@@ -4,6 +4,8 @@
 // each for itself; systems of 4,096 columns, and one more; systems in which everything fits, nothing does, and a total passes 32 bits. Prints for each case
 // the answers, what is placed, and both parts after it. What is expected was computed apart from the code, by a model of documents 01 and 02 that has
 // document 01's rows, each from the one before it. One of the outside cases, `vector-plan-13`, has a tag 7: refused 2 before request 2026-13, and 8 since.
+#![tactic(auto)]
+
 use libc::STDIN_FILENO;
 
 mod fills;

@@ -12,7 +12,7 @@ use trial::words::{number_in, word_end};
 const MOST: usize = 17;
 
 // What a plan into a list answers, with the list.
-#[derive(Drop)]
+#[derive(Clone, Copy)]
 struct Front {
     answer: Answer,
     list: [EngineRecord; MOST],

@@ -8,7 +8,7 @@ use trial::systems::wide;
 const SHOWN: usize = 60;
 
 // A run: its first and last entry and how many there are, how many runs came before it, and the number of all entries up to it.
-#[derive(Drop)]
+#[derive(Clone, Copy)]
 struct Run {
     first: usize,
     last: usize,

@@ -3,6 +3,8 @@
 // to six types, with
 // data memory and with limits q on one engine. Prints a line for each case, the counts of each spread, and a line for each system that is
 // planned otherwise than the search says.
+#![tactic(auto)]
+
 mod cases;
 mod right;
 mod spreads;

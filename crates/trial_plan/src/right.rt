@@ -10,11 +10,11 @@ use trial::tables::Lent;
 use trial::{files, say, tables};
 
 // How many entries of each part are lent.
-#[derive(Drop)]
+#[derive(Clone, Copy)]
 pub struct Lengths(pub usize, pub usize);
 
 // A plan, and whether the entries of its table from some place on are as they were lent.
-#[derive(Drop)]
+#[derive(Clone, Copy)]
 pub struct Trial {
     pub plan: Plan,
     pub clean: bool,
@@ -242,7 +242,7 @@ fn fill_over(file: &[u8], rows: &mut [u16], predecessors: &mut [u16], n: Lengths
 }
 
 // What filling answers, and leaves in two dirty parts.
-#[derive(Drop)]
+#[derive(Clone, Copy)]
 struct Filled {
     code: usize,
     table: Lent,

@@ -8,7 +8,7 @@ use trial::spread::DrawnSystem;
 use trial::{say, spread, systems};
 
 // How many systems were tried, planned, and answered wrongly.
-#[derive(Drop)]
+#[derive(Clone, Copy)]
 struct Tally {
     tried: usize,
     planned: usize,

@@ -39,7 +39,7 @@ use trial::words::{Bytes, after, bytes_in, part, word_end};
 pub const TEXT_BYTES: usize = 262144;
 
 // A case: where its name ends, the file, and where the next case starts.
-#[derive(Drop)]
+#[derive(Clone, Copy)]
 struct Case {
     named: usize,
     file: Bytes,

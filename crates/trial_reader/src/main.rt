@@ -3,6 +3,8 @@
 // bytes as text, so that a case more costs no proof. Prints for each its name, then `refused` with the number, or `read` with m, k, the columns,
 // the six numbers d, the six limits q, and any C and T. Then the field step at some places of a file, with the bytes that it hands on. What is expected was
 // computed apart from the code.
+#![tactic(auto)]
+
 use libc::STDIN_FILENO;
 
 mod bodies;

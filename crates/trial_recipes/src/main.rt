@@ -2,6 +2,8 @@
 // each case what
 // is written for the whole text, and after it what is written for what the program reads of it: a file as two digits for each byte, a line as it is.
 // What is expected was computed apart from the code, by a model of document 02.
+#![tactic(auto)]
+
 use buffer::put_bytes;
 use libc::STDIN_FILENO;
 use recipes_code::{make_of, make_read};
@@ -14,7 +16,7 @@ use trial::words::{Bytes, CASE_BYTES, after, byte_of, bytes_in, part, word_end};
 const TEXT_BYTES: usize = 65536;
 
 // A case: where its name ends, its text, and where the next case starts.
-#[derive(Drop)]
+#[derive(Clone, Copy)]
 struct Case {
     named: usize,
     text: Bytes,

@@ -15,14 +15,14 @@ pub const FEWER: usize = 1001;
 pub const AS_LENT: usize = 0;
 
 // What a check answered, and the number that stands for the whole table after it.
-#[derive(Drop)]
+#[derive(Clone, Copy)]
 pub struct CheckCall {
     pub answer: usize,
     pub table: usize,
 }
 
 // What a writer answered, the whole buffer after it, and the number of the table.
-#[derive(Drop)]
+#[derive(Clone, Copy)]
 pub struct WriteCall {
     pub answer: Answer,
     pub buffer: [u8; CASE_BYTES],
@@ -39,14 +39,14 @@ fn old_byte(i: usize) -> u8 {
 }
 
 // Tables to lend, in two parts.
-#[derive(Drop)]
+#[derive(Clone, Copy)]
 struct Lent {
     rows: [u16; COLUMN_LIMIT],
     predecessors: [u16; COLUMN_LIMIT],
 }
 
 // How many entries of each part are lent.
-#[derive(Drop)]
+#[derive(Clone, Copy)]
 pub struct Lengths {
     pub rows: usize,
     pub predecessors: usize,

@@ -4,6 +4,8 @@
 // says
 // of that one. For some cases also every cut of the sheet and every byte of it changed in a few ways, a letter for each answer. What is expected was computed
 // apart from the code, by a model of documents 01 and 02.
+#![tactic(auto)]
+
 use libc::STDIN_FILENO;
 
 mod calls;

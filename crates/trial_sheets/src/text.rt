@@ -6,7 +6,7 @@ use trial::words::{Bytes, after, bytes_in, number_in, word_end};
 pub const TEXT_BYTES: usize = 262144;
 
 // A case: where its name ends, what it lends, the sheet, in how many ways every byte of it is changed, and where the next case starts.
-#[derive(Drop)]
+#[derive(Clone, Copy)]
 pub struct Case {
     pub named: usize,
     pub file: Bytes,

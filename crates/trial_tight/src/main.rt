@@ -3,6 +3,8 @@
 // the whole file, and after it the line of what the program reads of that file. What is expected was computed apart from the code: of the cases `given-..` by
 // others,
 // of all more by a model of documents 01 and 02. The files `lent-..` are others' too: there the call was lent too little, and the program lends enough.
+#![tactic(auto)]
+
 use buffer::put_bytes;
 use libc::STDIN_FILENO;
 use system::FILE_BYTES;
@@ -15,7 +17,7 @@ use trial::words::{Bytes, CASE_BYTES, after, bytes_in, part, word_end};
 const TEXT_BYTES: usize = 32768;
 
 // A case: where its name ends, its file, and where the next case starts.
-#[derive(Drop)]
+#[derive(Clone, Copy)]
 struct Case {
     named: usize,
     file: Bytes,

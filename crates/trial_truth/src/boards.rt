@@ -17,7 +17,7 @@ use trial::words::{after, byte_of, word_end};
 use trial::{changes, systems};
 
 // A board, the index of the engine that words are of, and where the next word starts.
-#[derive(Drop)]
+#[derive(Clone, Copy)]
 pub struct Made {
     pub board: Board,
     pub engine: usize,

@@ -21,7 +21,7 @@ use trial::words::{after, byte_of, line_end, part, word_end};
 pub const TEXT_BYTES: usize = 16384;
 
 // A case: whether its board is true, the board, where its name starts and ends, and where the next case starts.
-#[derive(Drop)]
+#[derive(Clone, Copy)]
 struct Case {
     sound: bool,
     board: Board,

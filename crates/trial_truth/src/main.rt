@@ -5,6 +5,8 @@
 // 4,294,967,297, which are 1 in 8, 16 and 32 bits, with the board and the table as they were. Each line has what `true_board` says: `untrue` exactly where
 // the calls are refused 20. A
 // board on each line of standard input, so that a board more costs no proof; a line for each board.
+#![tactic(auto)]
+
 use libc::STDIN_FILENO;
 
 mod boards;

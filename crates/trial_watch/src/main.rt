@@ -7,6 +7,8 @@
 // past those written are as they were, of the buffer of what was read, and then of that of the whole file. What is expected was computed apart from the code,
 // by a model
 // of documents 01 and 02.
+#![tactic(auto)]
+
 ghost use Rattle.timeline.specs.Meaning.{WatchPromises, ReadPromises};
 
 use buffer::{put_byte, put_bytes, put_four};
@@ -26,7 +28,7 @@ const TEXT_BYTES: usize = 65536;
 const OLD: u8 = 170;
 
 // A case: where its name ends, its numbers and its file, whether its input is cut and after how many bytes, and where the next case starts.
-#[derive(Drop)]
+#[derive(Clone, Copy)]
 struct Case {
     named: usize,
     engine: usize,

@@ -2,6 +2,8 @@
 // line of
 // the whole file, and after it the line of what the program reads of that file. What is expected was computed apart from the code, by a model of documents 01
 // and 02.
+#![tactic(auto)]
+
 use buffer::put_bytes;
 use libc::STDIN_FILENO;
 use system::FILE_BYTES;
@@ -14,7 +16,7 @@ use wording_code::{why_of, why_read};
 const TEXT_BYTES: usize = 32768;
 
 // A case: where its name ends, its file, and where the next case starts.
-#[derive(Drop)]
+#[derive(Clone, Copy)]
 struct Case {
     named: usize,
     file: Bytes,

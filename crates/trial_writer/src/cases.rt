@@ -41,7 +41,7 @@ const MOSTS: [usize; 5] = [0, 1, 256, 65535, NOT_GIVEN];
 const TICKS: [usize; 5] = [0, 1, 65535, 65536, 4294967295];
 
 // A case: its kind, the number of the type that it names or of its buffer's bytes, its system, where its name starts and ends, and where the next case starts.
-#[derive(Drop)]
+#[derive(Clone, Copy)]
 struct Case {
     kind: u8,
     number: usize,

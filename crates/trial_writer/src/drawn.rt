@@ -44,7 +44,7 @@ const CEILINGS: [usize; 8] = [0, 0, 0, 1, 1, 3, 63, 4095];
 const NO_CEILINGS: [usize; 4] = [4096, 4351, 65534, 65535];
 
 // A system and the length of its buffer, and the seed after them.
-#[derive(Drop)]
+#[derive(Clone, Copy)]
 pub struct Drawn {
     pub seed: u64,
     pub system: System,

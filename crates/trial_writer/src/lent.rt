@@ -7,7 +7,7 @@ use trial::{files, say};
 use writer_code::write_system;
 
 // What a call answered, and the whole buffer after it.
-#[derive(Drop)]
+#[derive(Clone, Copy)]
 pub struct Call {
     pub answer: Answer,
     pub bytes: [u8; BUFFER_BYTES],

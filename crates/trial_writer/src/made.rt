@@ -11,7 +11,7 @@ use trial::words::{after, byte_of, word_end};
 use trial::{changes, systems};
 
 // A system, and where its next word starts.
-#[derive(Drop)]
+#[derive(Clone, Copy)]
 pub struct Made {
     pub system: System,
     pub at: usize,

@@ -3,6 +3,8 @@
 // drawn: a line with how many calls were answered in each way. Every call is judged apart from the writer, its bytes are those that crate `trial` makes, and a
 // system that is written must read as itself, with 0 and no q past its last type, and be written as the same bytes again; with a tag 3 of d 0 in its file, as
 // the bytes without it. What is expected was computed apart from the code.
+#![tactic(auto)]
+
 use libc::STDIN_FILENO;
 
 mod cases;

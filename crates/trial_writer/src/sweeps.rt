@@ -7,7 +7,7 @@ use trial::buffers::BUFFER_BYTES;
 use trial::{say, spread};
 
 // How many calls wrote the system, at 0, and how many were refused with each number, in the order in which they are asked; and how many were wrong.
-#[derive(Drop)]
+#[derive(Clone, Copy)]
 struct Tally {
     answers: [usize; 12],
     wrong: usize,
@@ -84,7 +84,7 @@ fn lengths(y: System, end: usize) -> Tally {
 }
 
 // The calls so far, and the seed of the next one.
-#[derive(Drop)]
+#[derive(Clone, Copy)]
 struct Run {
     seed: u64,
     tally: Tally,

@@ -1,6 +1,8 @@
 // Program `watch`: reads the number of an engine, a number of ticks, the first tick to show and a system file from standard input, and writes the run of that
 // engine
 // of the file's plan to standard output; or one line, a refusal or `no such number`.
+#![tactic(auto)]
+
 use front::read_watched;
 use libc::STDOUT_FILENO;
 use timeline_code::WATCH_BYTES;

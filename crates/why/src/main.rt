@@ -1,4 +1,6 @@
 // Program `why`: reads a system file from standard input and writes one line to standard output: `placed`, the cause for which it has no plan, or a refusal.
+#![tactic(auto)]
+
 use front::read_front;
 use libc::STDOUT_FILENO;
 

@@ -1,6 +1,8 @@
 // Writes the line that program `why` writes for a system file: `placed`, the cause for which it has no plan, in words and with its number, or a refusal.
 // Crate `wording` defines it. The line of a refusal, with its word, is crate `listing`'s. No literal here holds one of the words that the listing keeps in its
 // one string, so that memory is called storage.
+#![tactic(auto)]
+
 ghost use Rattle.buffer.specs.Written.{Written};
 ghost use Rattle.wording.specs.Line.{type_line, cause_line, answer_line};
 ghost use Rattle.wording.specs.Meaning.{WhyPromises, ReadPromises};

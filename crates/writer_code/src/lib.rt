@@ -2,6 +2,8 @@
 // A system within document 01's limits becomes the bytes that the reader reads as it; what it writes is defined in crate `writer`.
 //
 // The functions that put something into the buffer answer the place after it. Tag and length of a field are asked of the reader's own table of field rules.
+#![tactic(auto)]
+
 ghost use Rattle.std.specs.Prelude.{◌≡◌, ◌+◌, ◌≤◌, length, take};
 ghost use Rattle.buffer.specs.Written.{Puts};
 ghost use Rattle.system.specs.Limits.{engine_limit, type_limit};
