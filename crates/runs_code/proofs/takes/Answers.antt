@@ -1,0 +1,6 @@
+-- The two parts of the test.
+use borrow.Author.Rules.{rules}
+use Rattle.runs_code.proofs.takes.Goals as goal
+
+pub returns : goal.returns
+returns c = rw c.due_before-other.ensures

@@ -1,0 +1,31 @@
+-- `limits::columns_fault` meets its contract: what the code holds of the product passes the limit where the product does.
+use mathlib.Core.Path.{◌≡◌, sym, ap, ◌∙◌}
+use mathlib.Core.Bool.{not}
+use mathlib.Core.List.{map}
+use lib.Dec.{leb}
+use borrow.Author.Rules.{rules}
+use Rattle.system.specs.declared.TaskType.{TaskType}
+use Rattle.system.specs.Limits.{column_limit, columns_of}
+use Rattle.system.proofs.Laws.{within-limit}
+use Rattle.system_code.proofs.limits.columns_fault.Goals.{Else-not-columns_within, Then-not-columns_within}
+use Rattle.system_code.proofs.limits.columns_fault.Goals as goal
+
+-- the test of the product
+over : (c : Then-not-columns_within)
+    → not (leb (columns_of (map (λ (t : TaskType). t.ceiling) c.args.types)) column_limit) ≡ not (leb c.columns_within.result column_limit)
+over c =
+    ap not (sym (within-limit (columns_of (map (λ (t : TaskType). t.ceiling) c.args.types))))
+    ∙ sym (ap (λ n. not (leb n column_limit)) c.columns_within.ensures)
+
+-- the test of the product
+over-2 : (c : Else-not-columns_within)
+    → not (leb (columns_of (map (λ (t : TaskType). t.ceiling) c.args.types)) column_limit) ≡ not (leb c.columns_within.result column_limit)
+over-2 c =
+    ap not (sym (within-limit (columns_of (map (λ (t : TaskType). t.ceiling) c.args.types))))
+    ∙ sym (ap (λ n. not (leb n column_limit)) c.columns_within.ensures)
+
+pub returns-then-not-columns_within : goal.returns-then-not-columns_within
+returns-then-not-columns_within c = rw (over c ∙ c.if-not-columns_within.true)
+
+pub returns : goal.returns
+returns c = rw (over-2 c ∙ c.if-not-columns_within.false)
