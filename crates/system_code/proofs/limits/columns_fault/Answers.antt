@@ -1,9 +1,9 @@
 -- `limits::columns_fault` meets its contract: what the code holds of the product passes the limit where the product does.
 use mathlib.Core.Path.{◌≡◌, sym, ap, ◌∙◌}
-use mathlib.Core.Bool.{not}
+use mathlib.Core.Bool.{true, false, not}
 use mathlib.Core.List.{map}
 use lib.Dec.{leb}
-use borrow.Author.Rules.{rules}
+use borrow.Author.Tests.{le-leb, lt-leb}
 use Rattle.system.specs.declared.TaskType.{TaskType}
 use Rattle.system.specs.Limits.{column_limit, columns_of}
 use Rattle.system.proofs.Laws.{within-limit}
@@ -25,7 +25,11 @@ over-2 c =
     ∙ sym (ap (λ n. not (leb n column_limit)) c.columns_within.ensures)
 
 pub returns-then-not-columns_within : goal.returns-then-not-columns_within
-returns-then-not-columns_within c = rw (over c ∙ c.if-not-columns_within.true)
+returns-then-not-columns_within c =
+    let e : leb c.columns_within.result column_limit ≡ false = lt-leb _ _ c.if-not-columns_within.true in
+    rw (over c ∙ ap not e)
 
 pub returns : goal.returns
-returns c = rw (over-2 c ∙ c.if-not-columns_within.false)
+returns c =
+    let e : leb c.columns_within.result column_limit ≡ true = le-leb _ _ c.if-not-columns_within.false in
+    rw (over-2 c ∙ ap not e)

@@ -1,7 +1,7 @@
 -- `limits::cycle_keeps` meets its contract: where C and T break their bounds the whole test fails, and where they do not the rest of it is left. Both products, of numbers of 32 bits, fit in 64.
 use Prim.Native.Nat.{ℕ, ◌*◌, ◌≤◌, ◌^◌}
 use mathlib.Core.Bool.{Bool, true, false, not, ◌&&◌, false≢true}
-use mathlib.Core.Path.{◌≡◌, refl, sym}
+use mathlib.Core.Path.{◌≡◌, refl, sym, ap}
 use lib.Dec.{leb}
 use mir.Syntax.{w32}
 use mir.Val.{Fits}
@@ -34,7 +34,7 @@ product a b f g = mul-le-mul {n₂ = 4294967295} {m₂ = 2 ^ 32} (omega arith) (
 pub returns-then-not-c : goal.returns-then-not-c
 returns-then-not-c c =
     let a = c.args in
-    broken (bounded a.c) (leb 1 a.timecap) (shared a.timecap a.time a.c) c.if-not-c.true
+    broken (bounded a.c) (leb 1 a.timecap) (shared a.timecap a.time a.c) (ap not c.if-not-c.true)
 
 pub overflow_mul-result : goal.overflow_mul-result
 overflow_mul-result c =
@@ -49,4 +49,4 @@ overflow_mul-result-2 c =
 pub returns : goal.returns
 returns c =
     let a = c.args in
-    kept (bounded a.c) (leb 1 a.timecap) (shared a.timecap a.time a.c) c.if-not-c.false
+    kept (bounded a.c) (leb 1 a.timecap) (shared a.timecap a.time a.c) (ap not c.if-not-c.false)

@@ -19,7 +19,7 @@ agrees-2 c =
     c.kinds_agree.ensures ∙ ap (λ (one : Bool). kinds_agree one y.typecount y.types) c.is_one_kind.ensures
 
 pub returns-then-not-kinds_agree : goal.returns-then-not-kinds_agree
-returns-then-not-kinds_agree c = rw (ap not (sym (agrees c)) ∙ c.if-not-kinds_agree.true)
+returns-then-not-kinds_agree c = rw (ap not (sym (agrees c)) ∙ ap not c.if-not-kinds_agree.true)
 
 pub returns : goal.returns
-returns c = rw (ap not (sym (agrees-2 c)) ∙ c.if-not-kinds_agree.false)
+returns c = rw (ap not (sym (agrees-2 c)) ∙ ap not c.if-not-kinds_agree.false)

@@ -3,7 +3,7 @@ use Prim.Native.Nat.{◌-◌, ◌≤◌, ◌<◌}
 use native.Mathlib.Nat.{sub-zero}
 use native.Mathlib.Omega.{arith}
 use borrow.Author.Rules.{rules}
-use borrow.Author.Tests.{eq-eqb, not-true, not-false}
+use borrow.Author.Tests.{eq-eqb}
 use mathlib.Core.Path.{◌≡◌, sym, ◌∙◌}
 use lib.ListN.{length, drop}
 use Rattle.system.specs.Values.{no_task}
@@ -19,7 +19,7 @@ returns-then-not-task_keeps c =
     let l = c.loop-i in
     let a = c.args in
     let inside : l.i < length a.types = omega (arith, l.invariant.0) in
-    let fails = not-true c.task_keeps.result c.if-not-task_keeps.true in
+    let fails = c.if-not-task_keeps.true in
     rw (eq-eqb (length a.types) type_limit l.invariant.0)
     (types-fail a.k l.i a.types no_task inside (sym c.task_keeps.ensures ∙ fails) l.invariant.2)
 
@@ -28,7 +28,7 @@ loop-i-preserved c =
     let l = c.loop-i in
     let a = c.args in
     let inside : l.i < length a.types = omega (arith, l.invariant.0) in
-    let holds = not-false c.task_keeps.result c.if-not-task_keeps.false in
+    let holds = c.if-not-task_keeps.false in
     (l.invariant.0, search rules, types_more a.k l.i a.types no_task inside (sym c.task_keeps.ensures ∙ holds) l.invariant.2)
 
 pub returns : goal.returns

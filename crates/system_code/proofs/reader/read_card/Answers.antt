@@ -17,12 +17,7 @@ pub field_of-r-requires : goal.field_of-r-requires
 field_of-r-requires c = reached-typed c.loop-c.invariant
 
 pub returns-in_default : goal.returns-in_default
-returns-in_default c =
-    let f = c in
-    reached-refused f.loop-c.invariant f.loop-c-test.true f.field_of-r.ensures
-    (λ e.
-    let z : tag_of the_type f.field_of-r.result.answer ≡ 0 = ap (tag_of the_type) e in
-    ⊎_elim (λ q. omega arith) (λ q. omega arith) c.in_default.keys2)
+returns-in_default c = reached-refused c.loop-c.invariant c.loop-c-test.true c.field_of-r.ensures c.in_default.not-Accepted
 
 pub loop-c-smaller : goal.loop-c-smaller
 loop-c-smaller c =
