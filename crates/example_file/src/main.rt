@@ -2,21 +2,20 @@
 // It is proved like everything here, and needs no proof file: `write_system` has no `requires`, and there is no loop.
 #![tactic(auto)]
 
-use libc::{STDERR_FILENO, STDOUT_FILENO};
 use system::{Answer, Refusal, System, TaskType};
 use system_code::{blank_system, no_task};
 use writer_code::write_system;
 
 // Writes the file of a system to standard output. A system outside the limits gets its refusal, on standard error.
-fn main() {
+fn main(rt: HostRuntime) {
     let y = first_system();
     // A system of six types, each with data memory, a q, C and T, and costs on a second kind of engine, has a file of 307 bytes. A buffer that is too short
     // is refused 30.
     let mut file = [0u8; 307];
     let answer = write_system(y, &mut file);
     match answer {
-        Answer::Number(n) => write_first(&file, n),
-        Answer::Refused(why) => say_refusal(why),
+        Answer::Number(n) => write_first(&rt, &file, n),
+        Answer::Refused(why) => say_refusal(&rt, why),
         Answer::Accepted => {}
     }
 }
@@ -45,22 +44,20 @@ fn task(time: u32, memory: u32, ceiling: u16) -> TaskType {
 }
 
 // The first n bytes of a buffer: the file is as long as the answer says, and what stands past it is no part of it.
-fn write_first(buffer: &[u8], n: usize) {
+fn write_first(rt: &HostRuntime, buffer: &[u8], n: usize) {
     if n <= buffer.len() {
-        io::write_all(STDOUT_FILENO, &buffer[0..n]);
+        let _ = rt.write_all(&buffer[0..n]);
     }
 }
 
 // One line, in words of its own: those of a listing are stored in crate `listing` alone. The writer refuses from the input only.
-fn say_refusal(why: Refusal) {
+fn say_refusal(rt: &HostRuntime, why: Refusal) {
     match why {
-        Refusal::Input(n) => say_number(n as u64),
-        Refusal::State(n) => say_number(n as u64),
+        Refusal::Input(n) => say_number(rt, n as u64),
+        Refusal::State(n) => say_number(rt, n as u64),
     }
 }
 
-fn say_number(n: u64) {
-    io::write_all(STDERR_FILENO, b"not accepted ");
-    io::print_decimal(STDERR_FILENO, n);
-    io::write_all(STDERR_FILENO, b"\n");
+fn say_number(rt: &HostRuntime, n: u64) {
+    let _ = eprintln!(rt; "not accepted {n}");
 }

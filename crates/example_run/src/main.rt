@@ -5,14 +5,13 @@
 
 use deadlines::RunAnswer;
 use deadlines_code::run_engine;
-use libc::STDOUT_FILENO;
 use loads::EngineLoad;
 use planner_code::plan_of;
 use runs::{Missed, Report};
 use system::{Answer, Refusal, TYPE_LIMIT};
 
 // Plans a system, runs each engine of the plan, and then engines with counts of our own.
-fn main() {
+fn main(rt: HostRuntime) {
     // A system file: the platform (m 2, rule 0, U 12, S 8), type 1 (u 4, s 1, n 2) with C 1 and T 3, type 2 (u 6, s 1, n 2) with C 2 and T 4:
     // an instance of type 1 has a job every 3 ticks that runs for 1, one of type 2 a job every 4 ticks that runs for 2, each due when the next one comes.
     let file =
@@ -25,69 +24,69 @@ fn main() {
     let Answer::Number(used) = answer else {
         return;
     };
-    say_named(b"units", used);
-    say(b"\n");
+    say_named(&rt, b"units", used);
+    say(&rt, b"\n");
     // What engine e holds is at index e - 1. No engine of a plan of one kind misses a deadline, whatever number of ticks it runs: that is proved for every
     // file.
     let loads = plan.loads;
-    say_load(b"unit 1", file, loads[0]);
-    say_load(b"unit 2", file, loads[1]);
+    say_load(&rt, b"unit 1", file, loads[0]);
+    say_load(&rt, b"unit 2", file, loads[1]);
     // The counts need not be those of a plan: how many of each type there are, the six types of a system in order.
-    say_run(b"one of each type", file, [1, 1, 0, 0, 0, 0], 12);
+    say_run(&rt, b"one of each type", file, [1, 1, 0, 0, 0, 0], 12);
     // 2 × 4 + 6 is more than U: the run ends with the first deadline that is missed.
-    say_run(b"one too many", file, [2, 1, 0, 0, 0, 0], 12);
+    say_run(&rt, b"one too many", file, [2, 1, 0, 0, 0, 0], 12);
     // There is no type 3, so it has no C and T: refused 44.
-    say_run(b"no type 3", file, [0, 0, 1, 0, 0, 0], 12);
+    say_run(&rt, b"no type 3", file, [0, 0, 1, 0, 0, 0], 12);
     // A run has at most 65,535 ticks, and 64 instances: refused 45.
-    say_run(b"too long", file, [1, 1, 0, 0, 0, 0], 65536);
+    say_run(&rt, b"too long", file, [1, 1, 0, 0, 0, 0], 65536);
 }
 
 // Runs an engine of a plan over 24 ticks.
-fn say_load(name: &[u8], file: &[u8], load: EngineLoad) {
+fn say_load(rt: &HostRuntime, name: &[u8], file: &[u8], load: EngineLoad) {
     let counts = load.counts;
-    say_run(name, file, counts, 24);
+    say_run(rt, name, file, counts, 24);
 }
 
 // Runs an engine that holds these counts over so many ticks, and says what was answered.
-fn say_run(name: &[u8], file: &[u8], counts: [u16; TYPE_LIMIT], ticks: usize) {
+fn say_run(rt: &HostRuntime, name: &[u8], file: &[u8], counts: [u16; TYPE_LIMIT], ticks: usize) {
     let answer = run_engine(file, counts, ticks);
-    say(name);
-    say_named(b": holds", counts[0] as usize);
-    say_named(b"", counts[1] as usize);
-    say_named(b"", counts[2] as usize);
-    say_named(b", ticks", ticks);
+    say(rt, name);
+    say_named(rt, b": holds", counts[0] as usize);
+    say_named(rt, b"", counts[1] as usize);
+    say_named(rt, b"", counts[2] as usize);
+    say_named(rt, b", ticks", ticks);
     match answer {
-        RunAnswer::Ran(report) => say_report(report),
-        RunAnswer::Refused(why) => say_refusal(why),
+        RunAnswer::Ran(report) => say_report(rt, report),
+        RunAnswer::Refused(why) => say_refusal(rt, why),
     }
-    say(b"\n");
+    say(rt, b"\n");
 }
 
 // A report: the ticks in which nobody ran, and the first missed deadline. After a miss only the ticks before it count.
-fn say_report(report: Report) {
-    say_named(b": idle", report.idle as usize);
+fn say_report(rt: &HostRuntime, report: Report) {
+    say_named(rt, b": idle", report.idle as usize);
     let missed = report.missed;
     match missed {
-        Missed::Never => say(b", none missed"),
-        Missed::At(time) => say_named(b", missed at", time as usize),
+        Missed::Never => say(rt, b", none missed"),
+        Missed::At(time) => say_named(rt, b", missed at", time as usize),
     }
 }
 
 // A run is refused from the input only: as the file is read, 42 for two kinds of engine, then 44, then 45.
-fn say_refusal(why: Refusal) {
+fn say_refusal(rt: &HostRuntime, why: Refusal) {
     match why {
-        Refusal::Input(n) => say_named(b": not accepted", n as usize),
-        Refusal::State(n) => say_named(b": not accepted", n as usize),
+        Refusal::Input(n) => say_named(rt, b": not accepted", n as usize),
+        Refusal::State(n) => say_named(rt, b": not accepted", n as usize),
     }
 }
 
 // A name, a space, a number.
-fn say_named(name: &[u8], n: usize) {
-    say(name);
-    say(b" ");
-    io::print_decimal(STDOUT_FILENO, n as u64);
+fn say_named(rt: &HostRuntime, name: &[u8], n: usize) {
+    say(rt, name);
+    say(rt, b" ");
+    let _ = rt.print(n);
 }
 
-fn say(text: &[u8]) {
-    io::write_all(STDOUT_FILENO, text);
+fn say(rt: &HostRuntime, text: &[u8]) {
+    let _ = rt.write_all(text);
 }

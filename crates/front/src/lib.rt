@@ -10,7 +10,7 @@
 ghost use Rattle.std.specs.Prelude.{◌≡◌, length};
 ghost use Rattle.io.specs.Counts.{IsPrefixLen};
 
-use libc::STDIN_FILENO;
+use std::io::Read;
 use system::FILE_BYTES;
 
 // What `watch` reads at most: nine bytes for its numbers, and a file as the others read it.
@@ -39,34 +39,43 @@ pub struct Joined {
     pub read: usize,
 }
 
-// Reads until the buffer is full or the input ends, and answers how many bytes were put at its start.
-fn read_into(bytes: &mut [u8]) -> usize
+// Reads until the buffer is full or the input ends, and answers how many bytes were put at its start. A read that fails is an end of the input.
+fn read_into(rt: &HostRuntime, bytes: &mut [u8]) -> usize
     ensures { IsPrefixLen result bytes.new }
 {
-    io::read_full(STDIN_FILENO, bytes)
+    let mut reader = rt.reader();
+    let mut done = 0;
+    while done < bytes.len() {
+        let n = reader.read(&mut bytes[done..]).unwrap_or(0);
+        if n == 0 {
+            break;
+        }
+        done += n;
+    }
+    done
 }
 
 // At most 384 bytes: `plan` reads as many (02).
-pub fn read_front() -> Front
+pub fn read_front(rt: &HostRuntime) -> Front
     ensures { IsPrefixLen result.read result.bytes × (length result.bytes ≡ 384) }
 {
     let mut bytes = [0u8; FILE_BYTES];
-    let read = read_into(&mut bytes);
+    let read = read_into(rt, &mut bytes);
     Front { bytes, read }
 }
 
-pub fn read_watched() -> Watched
+pub fn read_watched(rt: &HostRuntime) -> Watched
     ensures { IsPrefixLen result.read result.bytes × (length result.bytes ≡ 393) }
 {
     let mut bytes = [0u8; WATCHED_BYTES];
-    let read = read_into(&mut bytes);
+    let read = read_into(rt, &mut bytes);
     Watched { bytes, read }
 }
 
-pub fn read_joined() -> Joined
+pub fn read_joined(rt: &HostRuntime) -> Joined
     ensures { IsPrefixLen result.read result.bytes × (length result.bytes ≡ 8194) }
 {
     let mut bytes = [0u8; JOINED_BYTES];
-    let read = read_into(&mut bytes);
+    let read = read_into(rt, &mut bytes);
     Joined { bytes, read }
 }

@@ -3,13 +3,12 @@
 #![tactic(auto)]
 
 use front::read_front;
-use libc::STDOUT_FILENO;
 
 // What was read is enough: `make_read` promises the answer of every text that is shorter than what is read at most, and that any other is not seven numbers.
-fn main() {
-    let front = read_front();
+fn main(rt: HostRuntime) -> std::io::Result<()> {
+    let front = read_front(&rt);
     let bytes = front.bytes;
     let mut out = io::buffer();
     let written = recipes_code::make_read(bytes, front.read, &mut out);
-    io::write_all(STDOUT_FILENO, &out[..written]);
+    rt.write_all(&out[..written])
 }

@@ -2,13 +2,12 @@
 #![tactic(auto)]
 
 use front::read_front;
-use libc::STDOUT_FILENO;
 
 // What was read is enough: what `sheet_read` promises it promises of every file that begins with what was read.
-fn main() {
-    let front = read_front();
+fn main(rt: HostRuntime) -> std::io::Result<()> {
+    let front = read_front(&rt);
     let bytes = front.bytes;
     let mut out = io::buffer();
     let written = answers_code::sheet_read(bytes, front.read, &mut out);
-    io::write_all(STDOUT_FILENO, &out[..written]);
+    rt.write_all(&out[..written])
 }

@@ -4,14 +4,13 @@
 #![tactic(auto)]
 
 use front::read_joined;
-use libc::STDOUT_FILENO;
 
 // What is read holds all that can be joined. What `check_read` promises it promises of every file and every sheet that begin with these parts, and of any
 // input that begins with what was read.
-fn main() {
-    let joined = read_joined();
+fn main(rt: HostRuntime) -> std::io::Result<()> {
+    let joined = read_joined(&rt);
     let bytes = joined.bytes;
     let mut out = io::buffer();
     let written = answers_code::check_read(bytes, joined.read, &mut out);
-    io::write_all(STDOUT_FILENO, &out[..written]);
+    rt.write_all(&out[..written])
 }

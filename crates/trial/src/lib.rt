@@ -8,6 +8,7 @@ pub mod buffers;
 mod bytes;
 pub mod changes;
 pub mod files;
+pub mod input;
 pub mod say;
 pub mod spread;
 pub mod systems;

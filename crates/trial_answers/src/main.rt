@@ -8,7 +8,6 @@
 
 use answers_code::{JOINED_BYTES, check_of, check_read, sheet_of, sheet_read};
 use buffer::put_bytes;
-use libc::STDOUT_FILENO;
 use system::FILE_BYTES;
 
 // System A.
@@ -45,73 +44,73 @@ const ON_BOTH: [u8; 33] = [
     0, 0, 0, 1,
 ];
 
-fn say(text: &[u8]) {
-    io::write_all(STDOUT_FILENO, text);
+fn say(rt: &HostRuntime, text: &[u8]) {
+    let _ = rt.write_all(text);
 }
 
 // A line that names the case, then what is said of the sheet.
-fn say_check(name: &[u8], file: &[u8], sheet: &[u8]) {
+fn say_check(rt: &HostRuntime, name: &[u8], file: &[u8], sheet: &[u8]) {
     let mut out = io::buffer();
     let written = check_of(file, sheet, &mut out);
-    say(name);
-    say(b": ");
-    say(&out[..written]);
+    say(rt, name);
+    say(rt, b": ");
+    say(rt, &out[..written]);
 }
 
 // Of a sheet as long as that of the plan.
-fn say_alike(name: &[u8], sheet: &[u8; 37]) {
+fn say_alike(rt: &HostRuntime, name: &[u8], sheet: &[u8; 37]) {
     let file = FILE;
-    say_check(name, &file, sheet);
+    say_check(rt, name, &file, sheet);
 }
 
 // The sheet of the plan with another byte at a place.
-fn say_changed(name: &[u8], at: usize, byte: u8) {
+fn say_changed(rt: &HostRuntime, name: &[u8], at: usize, byte: u8) {
     let mut sheet = SHEET;
     if at < 37 {
         sheet[at] = byte;
     }
-    say_alike(name, &sheet);
+    say_alike(rt, name, &sheet);
 }
 
-fn say_sheets() {
+fn say_sheets(rt: &HostRuntime) {
     let file = FILE;
     let sheet = SHEET;
     let three = THREE;
-    say_check(b"the plan's", &file, &sheet);
-    say_check(b"on three", &file, &three);
-    say_check(b"none", &file, &sheet[..0]);
-    say_check(b"its last byte cut", &file, &sheet[..36]);
-    say_check(b"its last record cut", &file, &sheet[..21]);
-    say_check(b"a file that is cut", &file[..38], &sheet);
-    say_check(b"no file", &file[..0], &sheet);
-    say_check(b"a sheet as file", &sheet, &sheet);
-    say_changed(b"used 3", 3, 3);
-    say_changed(b"k 3", 4, 3);
-    say_changed(b"number 2 twice", 8, 2);
-    say_changed(b"number 3 for 2", 24, 3);
-    say_changed(b"number 4 for 2", 24, 4);
-    say_changed(b"time 9 for 8", 12, 9);
-    say_changed(b"size 8 for 7", 32, 8);
-    say_changed(b"a count more", 36, 3);
-    say_changed(b"a count of 256 more", 35, 1);
+    say_check(rt, b"the plan's", &file, &sheet);
+    say_check(rt, b"on three", &file, &three);
+    say_check(rt, b"none", &file, &sheet[..0]);
+    say_check(rt, b"its last byte cut", &file, &sheet[..36]);
+    say_check(rt, b"its last record cut", &file, &sheet[..21]);
+    say_check(rt, b"a file that is cut", &file[..38], &sheet);
+    say_check(rt, b"no file", &file[..0], &sheet);
+    say_check(rt, b"a sheet as file", &sheet, &sheet);
+    say_changed(rt, b"used 3", 3, 3);
+    say_changed(rt, b"k 3", 4, 3);
+    say_changed(rt, b"number 2 twice", 8, 2);
+    say_changed(rt, b"number 3 for 2", 24, 3);
+    say_changed(rt, b"number 4 for 2", 24, 4);
+    say_changed(rt, b"time 9 for 8", 12, 9);
+    say_changed(rt, b"size 8 for 7", 32, 8);
+    say_changed(rt, b"a count more", 36, 3);
+    say_changed(rt, b"a count of 256 more", 35, 1);
 }
 
 // An instance less, and its time and memory with it.
-fn say_less() {
+fn say_less(rt: &HostRuntime) {
     let mut sheet = SHEET;
     sheet[12] = 4;
     sheet[16] = 3;
     sheet[18] = 1;
-    say_alike(b"one instance less", &sheet);
+    say_alike(rt, b"one instance less", &sheet);
 }
 
 // What is said of the first bytes of a joined input.
-fn say_read(name: &[u8], front: [u8; JOINED_BYTES], read: usize) {
+fn say_read(rt: &HostRuntime, name: &[u8], front: [u8; JOINED_BYTES], read: usize) {
     let mut out = io::buffer();
     let written = check_read(front, read, &mut out);
-    say(name);
-    say(b": ");
-    say(&out[..written]);
+    say(rt, name);
+    say(rt, b": ");
+    say(rt, &out[..written]);
 }
 
 // The file and the sheet joined, with these two bytes in front; 0 past them.
@@ -126,62 +125,62 @@ fn joined(high: u8, low: u8) -> [u8; JOINED_BYTES] {
     front
 }
 
-fn say_joined() {
+fn say_joined(rt: &HostRuntime) {
     let front = joined(0, 39);
-    say_read(b"joined", front, 78);
-    say_read(b"a byte less", front, 77);
-    say_read(b"a byte more", front, 79);
-    say_read(b"all that is read", front, JOINED_BYTES);
-    say_read(b"more than can be read", front, 4294967295);
-    say_read(b"the file alone", front, 41);
-    say_read(b"the file cut", front, 40);
-    say_read(b"the length alone", front, 2);
-    say_read(b"half of it", front, 1);
-    say_read(b"nothing", front, 0);
-    say_read(b"a length of 38", joined(0, 38), 78);
-    say_read(b"a length past the end", joined(255, 255), 78);
+    say_read(rt, b"joined", front, 78);
+    say_read(rt, b"a byte less", front, 77);
+    say_read(rt, b"a byte more", front, 79);
+    say_read(rt, b"all that is read", front, JOINED_BYTES);
+    say_read(rt, b"more than can be read", front, 4294967295);
+    say_read(rt, b"the file alone", front, 41);
+    say_read(rt, b"the file cut", front, 40);
+    say_read(rt, b"the length alone", front, 2);
+    say_read(rt, b"half of it", front, 1);
+    say_read(rt, b"nothing", front, 0);
+    say_read(rt, b"a length of 38", joined(0, 38), 78);
+    say_read(rt, b"a length past the end", joined(255, 255), 78);
 }
 
 // How many bytes the sheet of the first bytes of a file has, and its first byte.
-fn say_sheet(name: &[u8], file: &[u8]) {
+fn say_sheet(rt: &HostRuntime, name: &[u8], file: &[u8]) {
     let mut out = io::buffer();
     let written = sheet_of(file, &mut out);
-    say(name);
-    say(b": bytes ");
-    io::print_decimal(STDOUT_FILENO, written as u64);
-    say(b", the first ");
-    io::print_decimal(STDOUT_FILENO, number(out[0]));
-    say(b"\n");
+    say(rt, name);
+    say(rt, b": bytes ");
+    let _ = rt.print(written);
+    say(rt, b", the first ");
+    let _ = rt.print(number(out[0]));
+    say(rt, b"\n");
 }
 
 fn number(b: u8) -> u64 {
     b as u64
 }
 
-fn say_written() {
+fn say_written(rt: &HostRuntime) {
     let file = FILE;
-    say_sheet(b"a sheet", &file);
-    say_sheet(b"no sheet", &file[..0]);
+    say_sheet(rt, b"a sheet", &file);
+    say_sheet(rt, b"no sheet", &file[..0]);
     let front = [0u8; FILE_BYTES];
     let mut out = io::buffer();
     let written = sheet_read(front, 99999, &mut out);
-    say(b"zeros: ");
-    say(&out[..written]);
+    say(rt, b"zeros: ");
+    say(rt, &out[..written]);
 }
 
 // As many columns as there may be, and one more, over the functions' own parts.
-fn say_widest() {
+fn say_widest(rt: &HostRuntime) {
     let file = WIDEST;
     let one = ON_ONE;
     let both = ON_BOTH;
     let mut more = WIDEST;
     more[24] = 16;
     more[25] = 0;
-    say_check(b"4096 columns, on one", &file, &one);
-    say_check(b"4096 columns, on both", &file, &both);
-    say_check(b"4097 columns", &more, &one);
-    say_sheet(b"4096 columns", &file);
-    say_sheet(b"4097 columns", &more);
+    say_check(rt, b"4096 columns, on one", &file, &one);
+    say_check(rt, b"4096 columns, on both", &file, &both);
+    say_check(rt, b"4097 columns", &more, &one);
+    say_sheet(rt, b"4096 columns", &file);
+    say_sheet(rt, b"4097 columns", &more);
 }
 
 // The longest sheet there is: 389 bytes, sixteen engines and six types. Its file has 91: one instance of type 1 fills an engine, n 16, and there are none of
@@ -231,30 +230,30 @@ fn longest(behind: u8) -> [u8; JOINED_BYTES] {
 }
 
 // The sheet alone, and with bytes behind it: then it has surplus bytes, however many, as 3,707, with which it has 4,096, and one more.
-fn say_behind(front: [u8; JOINED_BYTES]) {
-    say_read(b"389 bytes", front, 482);
-    say_read(b"one less", front, 481);
-    say_read(b"one behind", front, 483);
-    say_read(b"3707 behind", front, 4189);
-    say_read(b"3708 behind", front, 4190);
-    say_read(b"7000 behind", front, 7482);
-    say_read(b"all that is read", front, JOINED_BYTES);
+fn say_behind(rt: &HostRuntime, front: [u8; JOINED_BYTES]) {
+    say_read(rt, b"389 bytes", front, 482);
+    say_read(rt, b"one less", front, 481);
+    say_read(rt, b"one behind", front, 483);
+    say_read(rt, b"3707 behind", front, 4189);
+    say_read(rt, b"3708 behind", front, 4190);
+    say_read(rt, b"7000 behind", front, 7482);
+    say_read(rt, b"all that is read", front, JOINED_BYTES);
 }
 
-fn say_longest() {
-    say(b"0 behind it\n");
-    say_behind(longest(0));
-    say(b"17 behind it\n");
-    say_behind(longest(17));
-    say(b"255 behind it\n");
-    say_behind(longest(255));
+fn say_longest(rt: &HostRuntime) {
+    say(rt, b"0 behind it\n");
+    say_behind(rt, longest(0));
+    say(rt, b"17 behind it\n");
+    say_behind(rt, longest(17));
+    say(rt, b"255 behind it\n");
+    say_behind(rt, longest(255));
 }
 
-fn main() {
-    say_sheets();
-    say_less();
-    say_joined();
-    say_written();
-    say_widest();
-    say_longest();
+fn main(rt: HostRuntime) {
+    say_sheets(&rt);
+    say_less(&rt);
+    say_joined(&rt);
+    say_written(&rt);
+    say_widest(&rt);
+    say_longest(&rt);
 }

@@ -170,13 +170,13 @@ fn counted(t: Tally, before: Live, d: DrawnCall, s: Step) -> Tally {
 }
 
 // A drawn call is wrong: its system, then its kind, type, engine and answer.
-fn say_wrong(y: System, c: Call, code: usize) {
-    say::say_system(b"mismatch:", y);
-    say::say_also(c.kind);
-    say::say_also(c.task);
-    say::say_also(c.engine);
-    say::say_also(code);
-    say::say(b"\n");
+fn say_wrong(rt: &HostRuntime, y: System, c: Call, code: usize) {
+    say::say_system(rt, b"mismatch:", y);
+    say::say_also(rt, c.kind);
+    say::say_also(rt, c.task);
+    say::say_also(rt, c.engine);
+    say::say_also(rt, code);
+    say::say(rt, b"\n");
 }
 
 fn soiled(live: Live, dirty: bool) -> Live {
@@ -189,7 +189,7 @@ fn soiled(live: Live, dirty: bool) -> Live {
 }
 
 // A list of calls drawn for one system, of four kinds or of six.
-fn with_list(t: Tally, y: System, six: bool, cells: bool) -> Tally {
+fn with_list(rt: &HostRuntime, t: Tally, y: System, six: bool, cells: bool) -> Tally {
     let f = files::file_of(y);
     let bytes = f.bytes;
     let mut live = live_of(files::first_of(&bytes, f.size));
@@ -200,7 +200,7 @@ fn with_list(t: Tally, y: System, six: bool, cells: bool) -> Tally {
         let lent = d.lent;
         let s = played(soiled(live, d.dirty), c, lent, cells);
         if !s.right {
-            say_wrong(y, c, s.code);
+            say_wrong(rt, y, c, s.code);
         }
         let next = counted(all, live, d, s);
         all = next;
@@ -219,14 +219,14 @@ fn no_tally(seed: u64) -> Tally {
 }
 
 // So many lists, each for a drawn system, with every entry of every filled table in one of 50.
-fn drawn_lists(seed: u64, number: usize, typecount: usize, most: usize, six: bool) -> Tally {
+fn drawn_lists(rt: &HostRuntime, seed: u64, number: usize, typecount: usize, most: usize, six: bool) -> Tally {
     let mut t = no_tally(seed);
     let mut i: usize = 0;
     while i < number {
         let d = spread::drawn_system(t.seed, 3, typecount, most);
         let y = d.system;
         t.seed = d.seed;
-        let next = with_list(t, y, six, i % 50 == 0);
+        let next = with_list(rt, t, y, six, i % 50 == 0);
         t = next;
         i += 1;
     }
@@ -234,11 +234,11 @@ fn drawn_lists(seed: u64, number: usize, typecount: usize, most: usize, six: boo
 }
 
 // So many lists for one system.
-fn lists_of(seed: u64, number: usize, y: System, six: bool) -> Tally {
+fn lists_of(rt: &HostRuntime, seed: u64, number: usize, y: System, six: bool) -> Tally {
     let mut t = no_tally(seed);
     let mut i: usize = 0;
     while i < number {
-        let next = with_list(t, y, six, i % 50 == 0);
+        let next = with_list(rt, t, y, six, i % 50 == 0);
         t = next;
         i += 1;
     }
@@ -288,75 +288,75 @@ fn tight_shared(engines: usize) -> System {
 
 // A line of a spread: the accepted admits, seats, retires and repacks, the calls refused 11, 13, 14, 21, 22, 23 and 24, and those
 // answered wrongly.
-fn say_tally(name: &[u8], t: Tally) {
+fn say_tally(rt: &HostRuntime, name: &[u8], t: Tally) {
     let n = t.answers;
     let row = [
         n[0], n[1], n[2], n[3], n[11], n[13], n[14], n[21], n[22], n[23], n[24], t.wrong,
     ];
-    say::say_row(name, row, 12);
+    say::say_row(rt, name, row, 12);
 }
 
 // Two lines of a spread of all six calls: the same, and then the accepted withdraws and restores, the calls refused 35 and 36, and the eight
 // cases of `shown`.
-fn say_both(name: &[u8], t: Tally) {
+fn say_both(rt: &HostRuntime, name: &[u8], t: Tally) {
     let n = t.answers;
     let cases = t.cases;
     let row = [
         n[4], n[5], n[35], n[36], cases[0], cases[1], cases[2], cases[3], cases[4], cases[5],
         cases[6], cases[7],
     ];
-    say_tally(name, t);
-    say::say_row(b"    marks:", row, 12);
+    say_tally(rt, name, t);
+    say::say_row(rt, b"    marks:", row, 12);
 }
 
-pub fn say_drawn() {
-    say::say(
+pub fn say_drawn(rt: &HostRuntime) {
+    say::say(rt, 
         b"calls: admitted, seated, retired, repacked, refused 11, 13, 14, 21, 22, 23, 24, mismatches\n",
     );
-    say_tally(b"one type:", drawn_lists(11, 200, 1, 5, false));
-    say_tally(b"two types:", drawn_lists(12, 200, 2, 3, false));
-    say_tally(b"three types:", drawn_lists(13, 200, 3, 2, false));
-    say_tally(b"tight time:", lists_of(14, 100, tight_time(2), false));
-    say_tally(b"tight memory:", lists_of(15, 100, tight_memory(2), false));
-    say_tally(
+    say_tally(rt, b"one type:", drawn_lists(rt, 11, 200, 1, 5, false));
+    say_tally(rt, b"two types:", drawn_lists(rt, 12, 200, 2, 3, false));
+    say_tally(rt, b"three types:", drawn_lists(rt, 13, 200, 3, 2, false));
+    say_tally(rt, b"tight time:", lists_of(rt, 14, 100, tight_time(2), false));
+    say_tally(rt, b"tight memory:", lists_of(rt, 15, 100, tight_memory(2), false));
+    say_tally(rt, 
         b"tight data, own:",
-        lists_of(16, 50, tight_data(2, 0, 11), false),
+        lists_of(rt, 16, 50, tight_data(2, 0, 11), false),
     );
-    say_tally(
+    say_tally(rt, 
         b"tight data, shared:",
-        lists_of(17, 50, tight_data(2, 1, 13), false),
+        lists_of(rt, 17, 50, tight_data(2, 1, 13), false),
     );
-    say_tally(b"tight q, own:", lists_of(18, 50, tight_own(2), false));
-    say_tally(
+    say_tally(rt, b"tight q, own:", lists_of(rt, 18, 50, tight_own(2), false));
+    say_tally(rt, 
         b"tight q, shared:",
-        lists_of(19, 50, tight_shared(2), false),
+        lists_of(rt, 19, 50, tight_shared(2), false),
     );
 }
 
 // Lists of all six calls.
-pub fn say_drawn_marks() {
-    say::say(
+pub fn say_drawn_marks(rt: &HostRuntime) {
+    say::say(rt, 
         b"the same with withdraw and restore; in a second line withdrawn, restored, refused 35, 36; with an engine out, admitted past",
     );
-    say::say(
+    say::say(rt, 
         b" it, moved past it, refused 23, refused 24 for want of it; with all out, admits and seats refused 24, repacked, restored\n",
     );
-    say_both(b"one type:", drawn_lists(21, 400, 1, 5, true));
-    say_both(b"two types:", drawn_lists(22, 400, 2, 3, true));
-    say_both(b"three types:", drawn_lists(23, 400, 3, 2, true));
-    say_both(b"tight time:", lists_of(24, 200, tight_time(3), true));
-    say_both(b"tight memory:", lists_of(25, 200, tight_memory(3), true));
-    say_both(
+    say_both(rt, b"one type:", drawn_lists(rt, 21, 400, 1, 5, true));
+    say_both(rt, b"two types:", drawn_lists(rt, 22, 400, 2, 3, true));
+    say_both(rt, b"three types:", drawn_lists(rt, 23, 400, 3, 2, true));
+    say_both(rt, b"tight time:", lists_of(rt, 24, 200, tight_time(3), true));
+    say_both(rt, b"tight memory:", lists_of(rt, 25, 200, tight_memory(3), true));
+    say_both(rt, 
         b"tight data, own:",
-        lists_of(26, 200, tight_data(3, 0, 11), true),
+        lists_of(rt, 26, 200, tight_data(3, 0, 11), true),
     );
-    say_both(
+    say_both(rt, 
         b"tight data, shared:",
-        lists_of(27, 200, tight_data(3, 1, 13), true),
+        lists_of(rt, 27, 200, tight_data(3, 1, 13), true),
     );
-    say_both(b"tight q, own:", lists_of(28, 200, tight_own(3), true));
-    say_both(
+    say_both(rt, b"tight q, own:", lists_of(rt, 28, 200, tight_own(3), true));
+    say_both(rt, 
         b"tight q, shared:",
-        lists_of(29, 200, tight_shared(4), true),
+        lists_of(rt, 29, 200, tight_shared(4), true),
     );
 }

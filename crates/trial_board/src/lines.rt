@@ -49,21 +49,21 @@ fn case_at(text: &[u8], at: usize) -> Case {
     }
 }
 
-fn say_case(text: &[u8], c: Case) {
+fn say_case(rt: &HostRuntime, text: &[u8], c: Case) {
     let given = c.file;
     let bytes = given.bytes;
     let name = part(text, c.start, c.named);
     let calls = part(text, after(c.named), c.ended);
-    say_list(name, first_of(&bytes, given.size), calls, c.cells);
+    say_list(rt, name, first_of(&bytes, given.size), calls, c.cells);
 }
 
 // All lists of the text: there are fewer of them than bytes.
-pub fn say_cases(text: &[u8]) {
+pub fn say_cases(rt: &HostRuntime, text: &[u8]) {
     let mut at: usize = 0;
     for line in 0..text.len() {
         if at < text.len() {
             let c = case_at(text, at);
-            say_case(text, c);
+            say_case(rt, text, c);
             at = c.next;
         }
     }

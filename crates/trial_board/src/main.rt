@@ -6,7 +6,7 @@
 // otherwise.
 #![tactic(auto)]
 
-use libc::STDIN_FILENO;
+use trial::input::read_full;
 
 mod drawn;
 mod lines;
@@ -14,10 +14,10 @@ mod live;
 mod scripts;
 mod shown;
 
-fn main() {
+fn main(rt: HostRuntime) {
     let mut input = [0u8; lines::TEXT_BYTES];
-    let read = io::read_full(STDIN_FILENO, &mut input);
-    lines::say_cases(&input[..read]);
-    drawn::say_drawn();
-    drawn::say_drawn_marks();
+    let read = read_full(&rt, &mut input);
+    lines::say_cases(&rt, &input[..read]);
+    drawn::say_drawn(&rt);
+    drawn::say_drawn_marks(&rt);
 }

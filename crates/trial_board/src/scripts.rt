@@ -66,30 +66,30 @@ fn scripted_code(script: &[u8], start: usize) -> usize {
 }
 
 // A word for an engine that is out of service.
-fn say_mark(out: bool) {
+fn say_mark(rt: &HostRuntime, out: bool) {
     if out {
-        say::say(b" out");
+        say::say(rt, b" out");
     }
 }
 
 // The engines of a board.
-fn say_board(b: Board) {
+fn say_board(rt: &HostRuntime, b: Board) {
     let y = b.system;
     let loads = b.loads;
     let marks = b.marks;
     for e in 0..ENGINE_LIMIT {
         let l = loads[e];
         if e < y.engines {
-            say::say_load(l, y.typecount);
-            say_mark(marks[e]);
+            say::say_load(rt, l, y.typecount);
+            say_mark(rt, marks[e]);
         }
     }
-    say::say(b"\n");
+    say::say(rt, b"\n");
 }
 
 // A line for a list of at most 64 calls that is given: how many calls, how many of them wrong by the script or the ledger, and the final board.
 // With `cells` every entry of a filled table is compared too.
-pub fn say_list(name: &[u8], file: &[u8], script: &[u8], cells: bool) {
+pub fn say_list(rt: &HostRuntime, name: &[u8], file: &[u8], script: &[u8], cells: bool) {
     let mut live = live_of(file);
     let mut wrong: usize = 0;
     for i in 0..64usize {
@@ -106,10 +106,10 @@ pub fn say_list(name: &[u8], file: &[u8], script: &[u8], cells: bool) {
             live = s.live;
         }
     }
-    say::say(name);
-    say::say_also(script.len() / 6);
-    say::say(b" calls, wrong");
-    say::say_also(wrong);
+    say::say(rt, name);
+    say::say_also(rt, script.len() / 6);
+    say::say(rt, b" calls, wrong");
+    say::say_also(rt, wrong);
     let b = live.board;
-    say_board(b);
+    say_board(rt, b);
 }

@@ -41,67 +41,67 @@ fn system_of(f: Bytes) -> System {
 }
 
 // Two numbers, one of the other.
-fn say_of(good: usize, total: usize) {
-    say_also(good);
-    say(b" of");
-    say_also(total);
+fn say_of(rt: &HostRuntime, good: usize, total: usize) {
+    say_also(rt, good);
+    say(rt, b" of");
+    say_also(rt, total);
 }
 
 // Both numbers, what was left past the first 2 × columns entries, and the numbers one by one, where there are few.
-fn say_counts(y: System, c: Counts, kept: usize) {
-    say_of(c.good as usize, c.total as usize);
+fn say_counts(rt: &HostRuntime, y: System, c: Counts, kept: usize) {
+    say_of(rt, c.good as usize, c.total as usize);
     let columns = columns_of(y);
     if kept <= wrapping_add_usize(columns, columns) {
-        say(b" kept");
+        say(rt, b" kept");
     } else {
-        say(b" spoiled");
+        say(rt, b" spoiled");
     }
     let gone = one_by_one::assignments(y);
     if gone.through {
-        say(b", one by one");
-        say_of(gone.good, gone.total);
+        say(rt, b", one by one");
+        say_of(rt, gone.good, gone.total);
     }
 }
 
 // A refusal, and whether the whole part is as it was lent.
-fn say_refused(r: Refusal, kept: usize) {
+fn say_refused(rt: &HostRuntime, r: Refusal, kept: usize) {
     match r {
         Refusal::Input(n) => {
-            say(b" no");
-            say_also(n as usize);
+            say(rt, b" no");
+            say_also(rt, n as usize);
         }
         Refusal::State(n) => {
-            say(b" state");
-            say_also(n as usize);
+            say(rt, b" state");
+            say_also(rt, n as usize);
         }
     }
     if kept == 0 {
-        say(b" lent");
+        say(rt, b" lent");
     } else {
-        say(b" spoiled");
+        say(rt, b" spoiled");
     }
 }
 
-fn say_case(name: &[u8], c: Case) {
+fn say_case(rt: &HostRuntime, name: &[u8], c: Case) {
     let file = c.file;
     let called = calls::counted(file, c.lent);
     let answer = called.answer;
-    say(name);
-    say(b":");
+    say(rt, name);
+    say(rt, b":");
     match answer {
-        CountAnswer::Counted(counts) => say_counts(system_of(file), counts, called.kept),
-        CountAnswer::Refused(r) => say_refused(r, called.kept),
+        CountAnswer::Counted(counts) => say_counts(rt, system_of(file), counts, called.kept),
+        CountAnswer::Refused(r) => say_refused(rt, r, called.kept),
     }
-    say(b"\n");
+    say(rt, b"\n");
 }
 
 // All cases of the text: there are fewer of them than bytes.
-pub fn say_cases(text: &[u8]) {
+pub fn say_cases(rt: &HostRuntime, text: &[u8]) {
     let mut at: usize = 0;
     for line in 0..text.len() {
         if at < text.len() {
             let c = case_at(text, at);
-            say_case(part(text, at, c.named), c);
+            say_case(rt, part(text, at, c.named), c);
             at = c.next;
         }
     }

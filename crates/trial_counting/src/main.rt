@@ -4,14 +4,14 @@
 // What is expected was computed apart from the code, by a model of documents 01 and 02.
 #![tactic(auto)]
 
-use libc::STDIN_FILENO;
+use trial::input::read_full;
 
 mod calls;
 mod lines;
 mod one_by_one;
 
-fn main() {
+fn main(rt: HostRuntime) {
     let mut input = [0u8; lines::TEXT_BYTES];
-    let read = io::read_full(STDIN_FILENO, &mut input);
-    lines::say_cases(&input[..read]);
+    let read = read_full(&rt, &mut input);
+    lines::say_cases(&rt, &input[..read]);
 }

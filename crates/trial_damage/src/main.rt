@@ -119,9 +119,9 @@ fn counted(t: Tally, number: usize) -> Tally {
     next
 }
 
-fn mismatch(t: Tally, got: usize, wanted: usize) -> Tally {
-    say::say_count(b"mismatch: answered", got);
-    say::say_count(b"wanted", wanted);
+fn mismatch(rt: &HostRuntime, t: Tally, got: usize, wanted: usize) -> Tally {
+    say::say_count(rt, b"mismatch: answered", got);
+    say::say_count(rt, b"wanted", wanted);
     let mut next = t;
     next.wrong = wrapping_add_usize(t.wrong, 1);
     next
@@ -141,7 +141,7 @@ fn right_wanted(file: &[u8], wanted: Reading) -> bool {
 }
 
 // One file, read by both.
-fn judged(t: Tally, file: &[u8]) -> Tally {
+fn judged(rt: &HostRuntime, t: Tally, file: &[u8]) -> Tally {
     let o = system_code::read_card(file);
     let y = o.system;
     let a = o.answer;
@@ -151,21 +151,21 @@ fn judged(t: Tally, file: &[u8]) -> Tally {
     if right & right_wanted(file, wanted) {
         return counted(t, got);
     }
-    mismatch(t, got, wanted.refusal)
+    mismatch(rt, t, got, wanted.refusal)
 }
 
 // The first n bytes of a file.
-fn judged_part(t: Tally, bytes: &[u8; BUFFER_BYTES], n: usize) -> Tally {
-    judged(t, files::first_of(bytes, n))
+fn judged_part(rt: &HostRuntime, t: Tally, bytes: &[u8; BUFFER_BYTES], n: usize) -> Tally {
+    judged(rt, t, files::first_of(bytes, n))
 }
 
 // Each part from the front, none and the whole file among them.
-fn cuts(f: File) -> Tally {
+fn cuts(rt: &HostRuntime, f: File) -> Tally {
     let bytes = f.bytes;
     let mut t = no_tally();
     for n in 0..BUFFER_BYTES {
         if n <= f.size {
-            let next = judged_part(t, &bytes, n);
+            let next = judged_part(rt, t, &bytes, n);
             t = next;
         }
     }
@@ -173,7 +173,7 @@ fn cuts(f: File) -> Tally {
 }
 
 // Every value at one place.
-fn changes_at(f: File, at: usize, t: Tally) -> Tally
+fn changes_at(rt: &HostRuntime, f: File, at: usize, t: Tally) -> Tally
     requires { at < 400 }
 {
     let size = f.size;
@@ -181,60 +181,60 @@ fn changes_at(f: File, at: usize, t: Tally) -> Tally
     let mut all = t;
     for v in 0..256usize {
         bytes[at] = v as u8;
-        let next = judged_part(all, &bytes, size);
+        let next = judged_part(rt, all, &bytes, size);
         all = next;
     }
     all
 }
 
-fn changes(f: File) -> Tally {
+fn changes(rt: &HostRuntime, f: File) -> Tally {
     let mut t = no_tally();
     for at in 0..BUFFER_BYTES {
         if at < f.size {
-            let next = changes_at(f, at, t);
+            let next = changes_at(rt, f, at, t);
             t = next;
         }
     }
     t
 }
 
-fn say_tally(name: &[u8], t: Tally) {
+fn say_tally(rt: &HostRuntime, name: &[u8], t: Tally) {
     let row = t.answers;
-    say::say_row(name, row, 12);
+    say::say_row(rt, name, row, 12);
 }
 
 // The lines of a file, with how many answers were wrong.
-fn say_damage(cut: &[u8], changed: &[u8], y: System) -> usize {
+fn say_damage(rt: &HostRuntime, cut: &[u8], changed: &[u8], y: System) -> usize {
     let f = files::file_of(y);
-    let t = cuts(f);
-    let u = changes(f);
-    say_tally(cut, t);
-    say_tally(changed, u);
+    let t = cuts(rt, f);
+    let u = changes(rt, f);
+    say_tally(rt, cut, t);
+    say_tally(rt, changed, u);
     wrapping_add_usize(t.wrong, u.wrong)
 }
 
 // The same of a file with two kinds or a C and T, with how many were refused 41 and 43.
-fn say_mixed(cut: &[u8], changed: &[u8], more: &[u8], y: System) -> usize {
+fn say_mixed(rt: &HostRuntime, cut: &[u8], changed: &[u8], more: &[u8], y: System) -> usize {
     let f = files::file_of(y);
-    let t = cuts(f);
-    let u = changes(f);
-    say_tally(cut, t);
-    say_tally(changed, u);
+    let t = cuts(rt, f);
+    let u = changes(rt, f);
+    say_tally(rt, cut, t);
+    say_tally(rt, changed, u);
     let unpaired = wrapping_add_usize(t.unpaired, u.unpaired);
     let unpaced = wrapping_add_usize(t.unpaced, u.unpaced);
-    say::say_row(more, [unpaired, unpaced, 0, 0, 0, 0, 0, 0, 0, 0, 0, 0], 2);
+    say::say_row(rt, more, [unpaired, unpaced, 0, 0, 0, 0, 0, 0, 0, 0, 0, 0], 2);
     wrapping_add_usize(t.wrong, u.wrong)
 }
 
 // Files with two kinds.
-fn say_kinds() -> usize {
-    let kinds = say_mixed(
+fn say_kinds(rt: &HostRuntime) -> usize {
+    let kinds = say_mixed(rt, 
         b"A with two kinds cut:",
         b"A with two kinds changed:",
         b"A with two kinds, refused 41 and 43:",
         a_with_kinds(),
     );
-    let longest = say_mixed(
+    let longest = say_mixed(rt, 
         b"longest with two kinds cut:",
         b"longest with two kinds changed:",
         b"longest with two kinds, refused 41 and 43:",
@@ -244,26 +244,26 @@ fn say_kinds() -> usize {
 }
 
 // Files with a C and T, of one kind and of two.
-fn say_paces() -> usize {
-    let a = say_mixed(
+fn say_paces(rt: &HostRuntime) -> usize {
+    let a = say_mixed(rt, 
         b"A with C and T cut:",
         b"A with C and T changed:",
         b"A with C and T, refused 41 and 43:",
         with_two_paces(systems::system_a(3)),
     );
-    let kinds = say_mixed(
+    let kinds = say_mixed(rt, 
         b"A with two kinds, C and T cut:",
         b"A with two kinds, C and T changed:",
         b"A with two kinds, C and T, refused 41 and 43:",
         with_two_paces(a_with_kinds()),
     );
-    let longest = say_mixed(
+    let longest = say_mixed(rt, 
         b"longest with C and T cut:",
         b"longest with C and T changed:",
         b"longest with C and T, refused 41 and 43:",
         systems::system_paced(1),
     );
-    let both = say_mixed(
+    let both = say_mixed(rt, 
         b"longest with two kinds, C and T cut:",
         b"longest with two kinds, C and T changed:",
         b"longest with two kinds, C and T, refused 41 and 43:",
@@ -275,20 +275,20 @@ fn say_paces() -> usize {
     )
 }
 
-fn main() {
-    say::say(b"files: read, refused 1 to 10, 31\n");
-    let a = say_damage(b"A cut:", b"A changed:", systems::system_a(3));
-    let data = say_damage(b"A with d cut:", b"A with d changed:", a_with_data());
-    let most = say_damage(b"A with q cut:", b"A with q changed:", a_with_most());
-    let limits = say_damage(b"limits cut:", b"limits changed:", at_limits());
-    let longest = say_damage(
+fn main(rt: HostRuntime) {
+    say::say(&rt, b"files: read, refused 1 to 10, 31\n");
+    let a = say_damage(&rt, b"A cut:", b"A changed:", systems::system_a(3));
+    let data = say_damage(&rt, b"A with d cut:", b"A with d changed:", a_with_data());
+    let most = say_damage(&rt, b"A with q cut:", b"A with q changed:", a_with_most());
+    let limits = say_damage(&rt, b"limits cut:", b"limits changed:", at_limits());
+    let longest = say_damage(&rt, 
         b"longest cut:",
         b"longest changed:",
         systems::system_longest(1),
     );
     let small = wrapping_add_usize(wrapping_add_usize(a, data), most);
     let one = wrapping_add_usize(small, wrapping_add_usize(limits, longest));
-    let two = wrapping_add_usize(one, say_kinds());
-    let wrong = wrapping_add_usize(two, say_paces());
-    say::say_count(b"mismatches", wrong);
+    let two = wrapping_add_usize(one, say_kinds(&rt));
+    let wrong = wrapping_add_usize(two, say_paces(&rt));
+    say::say_count(&rt, b"mismatches", wrong);
 }

@@ -71,107 +71,107 @@ fn same(a: Seen, b: Seen) -> bool {
 }
 
 // What a run answers: its refusal; or its idle ticks, and that all deadlines are kept or when the first is missed.
-fn say_seen(s: Seen) {
+fn say_seen(rt: &HostRuntime, s: Seen) {
     if s.refusal != 0 {
-        say::say(b" no");
-        say::say_also(s.refusal);
+        say::say(rt, b" no");
+        say::say_also(rt, s.refusal);
         return;
     }
-    say::say(b" idle");
-    say::say_also(s.idle);
+    say::say(rt, b" idle");
+    say::say_also(rt, s.idle);
     if s.missed == NEVER {
-        say::say(b" kept");
+        say::say(rt, b" kept");
         return;
     }
-    say::say(b" missed at");
-    say::say_also(s.missed);
+    say::say(rt, b" missed at");
+    say::say_also(rt, s.missed);
 }
 
-fn say_agreed(agreed: bool) {
+fn say_agreed(rt: &HostRuntime, agreed: bool) {
     if agreed {
-        say::say(b" agrees\n");
+        say::say(rt, b" agrees\n");
     } else {
-        say::say(b" DIFFERS\n");
+        say::say(rt, b" DIFFERS\n");
     }
 }
 
 // A run, and whether both ways say the same.
-fn say_run(file: &[u8], counts: [u16; TYPE_LIMIT], ticks: usize) -> bool {
+fn say_run(rt: &HostRuntime, file: &[u8], counts: [u16; TYPE_LIMIT], ticks: usize) -> bool {
     let called = run_called(file, counts, ticks);
-    say_seen(called);
+    say_seen(rt, called);
     same(called, run_apart(file, counts, ticks))
 }
 
 // The runs of one engine over all numbers of ticks.
-fn say_runs(file: &[u8], counts: [u16; TYPE_LIMIT], numbers: [usize; NUMBERS]) {
+fn say_runs(rt: &HostRuntime, file: &[u8], counts: [u16; TYPE_LIMIT], numbers: [usize; NUMBERS]) {
     let mut agreed = true;
     for i in 0..NUMBERS {
-        let here = say_run(file, counts, numbers[i]);
+        let here = say_run(rt, file, counts, numbers[i]);
         agreed = agreed & here;
-        say::say(b",");
+        say::say(rt, b",");
     }
-    say_agreed(agreed);
+    say_agreed(rt, agreed);
 }
 
 // The counts on an engine.
-fn say_counts(counts: [u16; TYPE_LIMIT]) {
+fn say_counts(rt: &HostRuntime, counts: [u16; TYPE_LIMIT]) {
     for t in 0..TYPE_LIMIT {
-        say::say_also(wide(counts[t]));
+        say::say_also(rt, wide(counts[t]));
     }
-    say::say(b":");
+    say::say(rt, b":");
 }
 
 // The engines of a plan.
-fn say_engines(file: &[u8], plan: Plan, numbers: [usize; NUMBERS]) {
+fn say_engines(rt: &HostRuntime, file: &[u8], plan: Plan, numbers: [usize; NUMBERS]) {
     let engines = plan.numbers;
     let loads = plan.loads;
     for e in 0..ENGINE_LIMIT {
         if e < plan.used {
             let load = loads[e];
             let counts = load.counts;
-            say::say(b"  engine");
-            say::say_also(engines[e]);
-            say::say(b" holds");
-            say_counts(counts);
-            say_runs(file, counts, numbers);
+            say::say(rt, b"  engine");
+            say::say_also(rt, engines[e]);
+            say::say(rt, b" holds");
+            say_counts(rt, counts);
+            say_runs(rt, file, counts, numbers);
         }
     }
 }
 
-fn say_plan(file: &[u8], numbers: [usize; NUMBERS]) {
+fn say_plan(rt: &HostRuntime, file: &[u8], numbers: [usize; NUMBERS]) {
     let plan = planned(file);
     let answer = plan.answer;
-    say::say_answer(answer);
-    say::say(b"\n");
-    say_engines(file, plan, numbers);
+    say::say_answer(rt, answer);
+    say::say(rt, b"\n");
+    say_engines(rt, file, plan, numbers);
 }
 
 // What follows the name.
-fn say_kind(kind: u8, file: &[u8], numbers: [usize; NUMBERS]) {
+fn say_kind(rt: &HostRuntime, kind: u8, file: &[u8], numbers: [usize; NUMBERS]) {
     if kind == b'p' {
-        say_plan(file, numbers);
+        say_plan(rt, file, numbers);
         return;
     }
-    let agreed = say_run(file, counts_in(numbers), numbers[6]);
-    say_agreed(agreed);
+    let agreed = say_run(rt, file, counts_in(numbers), numbers[6]);
+    say_agreed(rt, agreed);
 }
 
-fn say_case(name: &[u8], c: Case) {
+fn say_case(rt: &HostRuntime, name: &[u8], c: Case) {
     let given = c.file;
     let bytes = given.bytes;
     let numbers = c.numbers;
-    say::say(name);
-    say::say(b":");
-    say_kind(c.kind, first_of(&bytes, given.size), numbers);
+    say::say(rt, name);
+    say::say(rt, b":");
+    say_kind(rt, c.kind, first_of(&bytes, given.size), numbers);
 }
 
 // All cases of the text: there are fewer of them than bytes.
-pub fn say_cases(text: &[u8]) {
+pub fn say_cases(rt: &HostRuntime, text: &[u8]) {
     let mut at: usize = 0;
     for line in 0..text.len() {
         if at < text.len() {
             let c = case_at(text, at);
-            say_case(part(text, at, c.named), c);
+            say_case(rt, part(text, at, c.named), c);
             at = c.next;
         }
     }

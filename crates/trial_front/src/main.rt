@@ -6,7 +6,6 @@
 #![tactic(auto)]
 
 use front::{read_front, read_joined, read_watched};
-use libc::STDOUT_FILENO;
 
 // The first n bytes, all of them where there are fewer.
 fn first_of(bytes: &[u8], n: usize) -> &[u8] {
@@ -28,41 +27,49 @@ fn zero_from(bytes: &[u8], start: usize) -> bool {
     zero
 }
 
-fn say_read(bytes: &[u8], read: usize) {
-    io::print_decimal(STDOUT_FILENO, read as u64);
-    io::write_all(STDOUT_FILENO, b" read\n");
-    io::write_all(STDOUT_FILENO, first_of(bytes, read));
+fn say(rt: &HostRuntime, text: &[u8]) {
+    let _ = rt.write_all(text);
+}
+
+fn say_number(rt: &HostRuntime, n: usize) {
+    let _ = rt.print(n);
+}
+
+fn say_read(rt: &HostRuntime, bytes: &[u8], read: usize) {
+    say_number(rt, read);
+    say(rt, b" read\n");
+    say(rt, first_of(bytes, read));
     if zero_from(bytes, read) {
-        io::write_all(STDOUT_FILENO, b"|0 past them\n");
+        say(rt, b"|0 past them\n");
     } else {
-        io::write_all(STDOUT_FILENO, b"|not 0 past them\n");
+        say(rt, b"|not 0 past them\n");
     }
 }
 
-fn say_front() {
-    let front = read_front();
+fn say_front(rt: &HostRuntime) {
+    let front = read_front(rt);
     let bytes = front.bytes;
-    say_read(&bytes, front.read);
+    say_read(rt, &bytes, front.read);
 }
 
-fn say_watched() {
-    let front = read_watched();
+fn say_watched(rt: &HostRuntime) {
+    let front = read_watched(rt);
     let bytes = front.bytes;
-    say_read(&bytes, front.read);
+    say_read(rt, &bytes, front.read);
 }
 
-fn say_joined() {
-    let joined = read_joined();
+fn say_joined(rt: &HostRuntime) {
+    let joined = read_joined(rt);
     let bytes = joined.bytes;
-    say_read(&bytes, joined.read);
+    say_read(rt, &bytes, joined.read);
 }
 
-fn main() {
-    say_front();
-    say_watched();
-    say_joined();
-    say_joined();
-    say_joined();
-    say_watched();
-    say_front();
+fn main(rt: HostRuntime) {
+    say_front(&rt);
+    say_watched(&rt);
+    say_joined(&rt);
+    say_joined(&rt);
+    say_joined(&rt);
+    say_watched(&rt);
+    say_front(&rt);
 }

@@ -57,14 +57,14 @@ fn same_front(a: Front, b: Front) -> bool {
 }
 
 // Whether every other plan of a file is the one given.
-pub fn say_same(file: &[u8], n: Lengths, given: Front) {
+pub fn say_same(rt: &HostRuntime, file: &[u8], n: Lengths, given: Front) {
     let same = same_front(given, planned_over(file, n, n.records, 1))
         & same_front(given, planned_over(file, n, 16, 0))
         & same_front(given, planned_over(file, n, 17, 65535))
         & same_front(given, planned_again(file, n));
     if same {
-        say::say(b" same");
+        say::say(rt, b" same");
     } else {
-        say::say(b" OTHER PLAN");
+        say::say(rt, b" OTHER PLAN");
     }
 }

@@ -84,7 +84,7 @@ fn right_all(y: System, file: &[u8], best: usize) -> bool {
 }
 
 // One system more.
-fn tried(t: Tally, y: System) -> Tally {
+fn tried(rt: &HostRuntime, t: Tally, y: System) -> Tally {
     let f = files::file_of(y);
     let bytes = f.bytes;
     let best = search::best_of(y);
@@ -92,7 +92,7 @@ fn tried(t: Tally, y: System) -> Tally {
     let planned = best < search::NONE;
     let second = planned & (best % 32 != 0);
     if !right {
-        say::say_system(b"mismatch:", y);
+        say::say_system(rt, b"mismatch:", y);
     }
     Tally {
         tried: wrapping_add_usize(t.tried, 1),
@@ -103,18 +103,18 @@ fn tried(t: Tally, y: System) -> Tally {
     }
 }
 
-fn next_drawn(r: Run, engines: usize, k: usize, most: usize) -> Run {
+fn next_drawn(rt: &HostRuntime, r: Run, engines: usize, k: usize, most: usize) -> Run {
     let d = spread::drawn_mixed(r.seed, engines, k, most);
     let y = d.system;
     let tally = r.tally;
     Run {
         seed: d.seed,
-        tally: tried(tally, y),
+        tally: tried(rt, tally, y),
     }
 }
 
 // So many systems of k types.
-fn spread_of(seed: u64, engines: usize, k: usize, most: usize) -> Tally {
+fn spread_of(rt: &HostRuntime, seed: u64, engines: usize, k: usize, most: usize) -> Tally {
     let mut r = Run {
         seed,
         tally: Tally {
@@ -126,27 +126,27 @@ fn spread_of(seed: u64, engines: usize, k: usize, most: usize) -> Tally {
         },
     };
     for i in 0..1000usize {
-        let next = next_drawn(r, engines, k, most);
+        let next = next_drawn(rt, r, engines, k, most);
         r = next;
     }
     r.tally
 }
 
 // A line of a spread: the systems tried, planned, planned with an engine of the second kind, with engines of both, and answered wrongly.
-fn say_spread(name: &[u8], t: Tally) {
+fn say_spread(rt: &HostRuntime, name: &[u8], t: Tally) {
     let row = [
         t.tried, t.planned, t.second, t.both, t.wrong, 0, 0, 0, 0, 0, 0, 0,
     ];
-    say::say_row(name, row, 5);
+    say::say_row(rt, name, row, 5);
 }
 
-pub fn say_spreads() {
-    say::say(
+pub fn say_spreads(rt: &HostRuntime) {
+    say::say(rt, 
         b"drawn: tried, planned, with an engine of the second kind, with engines of both, wrong\n",
     );
-    say_spread(b"one type, up to 4 engines:", spread_of(1, 4, 1, 6));
-    say_spread(b"two types, up to 4 engines:", spread_of(2, 4, 2, 3));
-    say_spread(b"three types, up to 4 engines:", spread_of(3, 4, 3, 2));
-    say_spread(b"six types, up to 3 engines:", spread_of(4, 3, 6, 1));
-    say_spread(b"two types, up to 8 engines:", spread_of(5, 8, 2, 2));
+    say_spread(rt, b"one type, up to 4 engines:", spread_of(rt, 1, 4, 1, 6));
+    say_spread(rt, b"two types, up to 4 engines:", spread_of(rt, 2, 4, 2, 3));
+    say_spread(rt, b"three types, up to 4 engines:", spread_of(rt, 3, 4, 3, 2));
+    say_spread(rt, b"six types, up to 3 engines:", spread_of(rt, 4, 3, 6, 1));
+    say_spread(rt, b"two types, up to 8 engines:", spread_of(rt, 5, 8, 2, 2));
 }

@@ -74,157 +74,157 @@ fn used_by(answer: Answer) -> usize {
 }
 
 // What may not be changed is as it was. Filling leaves the list.
-fn say_kept(y: System, c: After, used: usize) {
+fn say_kept(rt: &HostRuntime, y: System, c: After, used: usize) {
     let front = c.front;
     let answer = front.answer;
     let list = front.list;
     if free_to(y, say::code_of(answer)) < c.kept {
-        say::say(b" CHANGED PARTS");
+        say::say(rt, b" CHANGED PARTS");
     } else if later_kept(list, used) {
-        say::say(b" kept");
+        say::say(rt, b" kept");
     } else {
-        say::say(b" CHANGED LIST");
+        say::say(rt, b" CHANGED LIST");
     }
 }
 
 // What is wrong with a plan.
-fn say_fault(fault: usize) {
+fn say_fault(rt: &HostRuntime, fault: usize) {
     match fault {
-        0 => say::say(b" right"),
-        1 => say::say(b" WRONG NUMBER"),
-        2 => say::say(b" HOLDS NOTHING"),
-        3 => say::say(b" WRONG SUMS"),
-        4 => say::say(b" DOES NOT FIT"),
-        _ => say::say(b" NOT ALL"),
+        0 => say::say(rt, b" right"),
+        1 => say::say(rt, b" WRONG NUMBER"),
+        2 => say::say(rt, b" HOLDS NOTHING"),
+        3 => say::say(rt, b" WRONG SUMS"),
+        4 => say::say(rt, b" DOES NOT FIT"),
+        _ => say::say(rt, b" NOT ALL"),
     }
 }
 
 // The fewest engines over all assignments.
-fn say_best(y: System) {
+fn say_best(rt: &HostRuntime, y: System) {
     let best = search::best_of(y);
-    say::say(b" fewest");
+    say::say(rt, b" fewest");
     if best == search::UNTRIED {
-        say::say(b" untried");
+        say::say(rt, b" untried");
         return;
     }
     if search::NONE <= best {
-        say::say(b" none");
+        say::say(rt, b" none");
         return;
     }
-    say::say_also(best / 32);
-    say::say_also(best % 32);
+    say::say_also(rt, best / 32);
+    say::say_also(rt, best % 32);
 }
 
 // A plan, where the file was read by crate `trial`.
-fn say_planned(y: System, front: Front) {
+fn say_planned(rt: &HostRuntime, y: System, front: Front) {
     let answer = front.answer;
     let list = front.list;
     if let Answer::Number(used) = answer {
-        say::say(b" second");
-        say::say_also(judge::second_in(y, list, used));
-        say_fault(judge::plan_fault(y, list, used));
+        say::say(rt, b" second");
+        say::say_also(rt, judge::second_in(y, list, used));
+        say_fault(rt, judge::plan_fault(y, list, used));
     }
     let code = say::code_of(answer);
     if (code == 112) | (999 < code) {
-        say_best(y);
+        say_best(rt, y);
     }
 }
 
 // A plan or a fill, and what it left.
-fn say_call(kind: u8, file: &[u8], n: Lengths) {
+fn say_call(rt: &HostRuntime, kind: u8, file: &[u8], n: Lengths) {
     let c = called(kind, file, n);
     let read = reading_of(file);
     let y = read.system;
     let front = c.front;
     let answer = front.answer;
-    say::say_answer(answer);
+    say::say_answer(rt, answer);
     if kind == b'f' {
-        say_kept(y, c, 0);
+        say_kept(rt, y, c, 0);
     } else {
-        say_planned(y, front);
-        say_kept(y, c, used_by(answer));
+        say_planned(rt, y, front);
+        say_kept(rt, y, c, used_by(answer));
     }
     if kind == b's' {
-        again::say_same(file, n, front);
+        again::say_same(rt, file, n, front);
     }
-    say::say(b"\n");
+    say::say(rt, b"\n");
 }
 
 // A plan by value, whole.
-fn say_whole(file: &[u8], n: Lengths) {
+fn say_whole(rt: &HostRuntime, file: &[u8], n: Lengths) {
     let w = whole::planned(file, n);
     let read = reading_of(file);
     let y = read.system;
     let plan = w.plan;
     let answer = plan.answer;
-    say::say_answer(answer);
-    say::say(b" used");
-    say::say_also(plan.used);
-    say::say(b" types");
-    say::say_also(plan.typecount);
+    say::say_answer(rt, answer);
+    say::say(rt, b" used");
+    say::say_also(rt, plan.used);
+    say::say(rt, b" types");
+    say::say_also(rt, plan.typecount);
     if free_to(y, say::code_of(answer)) < w.kept {
-        say::say(b" CHANGED PARTS");
+        say::say(rt, b" CHANGED PARTS");
     } else {
-        say::say(b" kept");
+        say::say(rt, b" kept");
     }
-    say::say(b"\n");
-    whole::say_places(plan);
-    whole::say_lines(plan);
+    say::say(rt, b"\n");
+    whole::say_places(rt, plan);
+    whole::say_lines(rt, plan);
 }
 
-fn say_columns(file: &[u8]) {
+fn say_columns(rt: &HostRuntime, file: &[u8]) {
     let answer = columns_needed(file);
-    say::say_answer(answer);
-    say::say(b"\n");
+    say::say_answer(rt, answer);
+    say::say(rt, b"\n");
 }
 
 // A listing: whole, or judged where it is of two kinds.
-fn say_text(y: System, judged: bool, out: &[u8; 4096], written: usize) {
+fn say_text(rt: &HostRuntime, y: System, judged: bool, out: &[u8; 4096], written: usize) {
     if judged {
-        text::say_judged(y, part(out, 0, written));
-        say::say(b"\n");
+        text::say_judged(rt, y, part(out, 0, written));
+        say::say(rt, b"\n");
     } else {
-        say::say(b"\n");
-        say::say(part(out, 0, written));
+        say::say(rt, b"\n");
+        say::say(rt, part(out, 0, written));
     }
 }
 
-fn say_listing(file: &[u8]) {
+fn say_listing(rt: &HostRuntime, file: &[u8]) {
     let read = reading_of(file);
     let y = read.system;
     let second = y.second;
     let judged = (read.refusal == 0) & systems::two_kinds(second);
     let mut out = io::buffer();
     let written = listing_code::listing_of(file, &mut out);
-    say_text(y, judged, &out, written);
+    say_text(rt, y, judged, &out, written);
 }
 
 // What follows the name.
-fn say_kind(kind: u8, file: &[u8], n: Lengths) {
+fn say_kind(rt: &HostRuntime, kind: u8, file: &[u8], n: Lengths) {
     match kind {
-        b'c' => say_columns(file),
-        b'l' => say_listing(file),
-        b'w' => say_whole(file, n),
-        _ => say_call(kind, file, n),
+        b'c' => say_columns(rt, file),
+        b'l' => say_listing(rt, file),
+        b'w' => say_whole(rt, file, n),
+        _ => say_call(rt, kind, file, n),
     }
 }
 
-fn say_case(name: &[u8], c: Case) {
+fn say_case(rt: &HostRuntime, name: &[u8], c: Case) {
     let given = c.file;
     let bytes = given.bytes;
     let lent = c.lent;
-    say::say(name);
-    say::say(b":");
-    say_kind(c.kind, first_of(&bytes, given.size), lent);
+    say::say(rt, name);
+    say::say(rt, b":");
+    say_kind(rt, c.kind, first_of(&bytes, given.size), lent);
 }
 
 // All cases of the text: there are fewer of them than bytes.
-pub fn say_cases(text: &[u8]) {
+pub fn say_cases(rt: &HostRuntime, text: &[u8]) {
     let mut at: usize = 0;
     for line in 0..text.len() {
         if at < text.len() {
             let c = case_at(text, at);
-            say_case(part(text, at, c.named), c);
+            say_case(rt, part(text, at, c.named), c);
             at = c.next;
         }
     }

@@ -19,7 +19,7 @@
 // of documents 01 and 02.
 #![tactic(auto)]
 
-use libc::STDIN_FILENO;
+use trial::input::read_full;
 
 mod again;
 mod drawn;
@@ -31,9 +31,9 @@ mod search;
 mod text;
 mod whole;
 
-fn main() {
+fn main(rt: HostRuntime) {
     let mut input = [0u8; lines::TEXT_BYTES];
-    let read = io::read_full(STDIN_FILENO, &mut input);
-    lines::say_cases(&input[..read]);
-    drawn::say_spreads();
+    let read = read_full(&rt, &mut input);
+    lines::say_cases(&rt, &input[..read]);
+    drawn::say_spreads(&rt);
 }

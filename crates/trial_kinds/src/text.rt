@@ -152,22 +152,22 @@ fn is_listing(text: &[u8], list: [EngineRecord; MOST], k: usize, used: usize) ->
 }
 
 // A listing judged: the refusal that it says, or how many engines and how many of the second kind, and what is wrong with it.
-pub fn say_judged(y: System, text: &[u8]) {
+pub fn say_judged(rt: &HostRuntime, y: System, text: &[u8]) {
     if byte_of(text, 0) == b'r' {
-        say::say(b" refused");
-        say::say_also(number_at(text, 8));
+        say::say(rt, b" refused");
+        say::say_also(rt, number_at(text, 8));
         return;
     }
     let used = number_at(text, 8);
     let list = records_in(text, y.typecount, used);
-    say::say(b" engines");
-    say::say_also(used);
-    say::say(b" second");
-    say::say_also(judge::second_in(y, list, used));
+    say::say(rt, b" engines");
+    say::say_also(rt, used);
+    say::say(rt, b" second");
+    say::say_also(rt, judge::second_in(y, list, used));
     let right = judge::plan_fault(y, list, used) == 0;
     if right & is_listing(text, list, y.typecount, used) {
-        say::say(b" right");
+        say::say(rt, b" right");
     } else {
-        say::say(b" WRONG");
+        say::say(rt, b" WRONG");
     }
 }

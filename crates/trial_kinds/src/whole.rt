@@ -50,14 +50,14 @@ pub fn planned(file: &[u8], n: Lengths) -> Whole {
 }
 
 // A line for each place: the engine's number, its time and memory, and six counts.
-pub fn say_places(plan: Plan) {
+pub fn say_places(rt: &HostRuntime, plan: Plan) {
     let numbers = plan.numbers;
     let loads = plan.loads;
     for i in 0..ENGINE_LIMIT {
         let load = loads[i];
-        say::say_also(numbers[i]);
-        say::say_load(load, TYPE_LIMIT);
-        say::say(b"\n");
+        say::say_also(rt, numbers[i]);
+        say::say_load(rt, load, TYPE_LIMIT);
+        say::say(rt, b"\n");
     }
 }
 
@@ -71,13 +71,13 @@ fn text_kept(out: &[u8; 4096], start: usize) -> bool {
 }
 
 // The listing of a plan, on lines of its own.
-pub fn say_lines(plan: Plan) {
+pub fn say_lines(rt: &HostRuntime, plan: Plan) {
     let mut out: [u8; 4096] = [OLD; 4096];
     let written = write_listing(&mut out, plan);
     if text_kept(&out, written) {
-        say::say(b" listing kept\n");
+        say::say(rt, b" listing kept\n");
     } else {
-        say::say(b" listing CHANGED\n");
+        say::say(rt, b" listing CHANGED\n");
     }
-    say::say(&out[..written]);
+    say::say(rt, &out[..written]);
 }

@@ -7,13 +7,13 @@ use system::ENGINE_LIMIT;
 use trial::say;
 
 // The loads of the engines of a board.
-fn say_engines(b: Board) {
+fn say_engines(rt: &HostRuntime, b: Board) {
     let y = b.system;
     let loads = b.loads;
     for e in 0..ENGINE_LIMIT {
         let load = loads[e];
         if e < y.engines {
-            say::say_load(load, y.typecount);
+            say::say_load(rt, load, y.typecount);
         }
     }
 }
@@ -41,25 +41,25 @@ fn called(kind: u8, b: Board, t: usize, rows: &mut [u16], predecessors: &mut [u1
     }
 }
 
-fn say_turn(turn: Turn) {
+fn say_turn(rt: &HostRuntime, turn: Turn) {
     let answer = turn.answer;
     let board = turn.board;
-    say::say_answer(answer);
-    say_engines(board);
-    say::say(b"\n");
+    say::say_answer(rt, answer);
+    say_engines(rt, board);
+    say::say(rt, b"\n");
 }
 
 // A call on the fresh board of a file.
-pub fn say_board(kind: u8, file: &[u8], rows: &mut [u16], predecessors: &mut [u16], t: usize) {
+pub fn say_board(rt: &HostRuntime, kind: u8, file: &[u8], rows: &mut [u16], predecessors: &mut [u16], t: usize) {
     let opened = open_board(file);
     let answer = opened.answer;
     let board = opened.board;
-    say::say(b" open");
-    say::say_answer(answer);
-    say::say(b",");
+    say::say(rt, b" open");
+    say::say_answer(rt, answer);
+    say::say(rt, b",");
     if kind == b'x' {
-        say_cause_answer(why_no_room(board, t, rows, predecessors));
+        say_cause_answer(rt, why_no_room(board, t, rows, predecessors));
         return;
     }
-    say_turn(called(kind, board, t, rows, predecessors));
+    say_turn(rt, called(kind, board, t, rows, predecessors));
 }

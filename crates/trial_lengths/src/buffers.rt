@@ -24,16 +24,16 @@ fn kept_from(buffer: &[u8; LONG], start: usize) -> bool {
     kept
 }
 
-fn say_byte(b: u8) {
-    io::print_hex(1, b as u64, 2);
+fn say_byte(rt: &HostRuntime, b: u8) {
+    say::say_hex(rt, b);
 }
 
 // The bytes written, at most 512: more than the 307 of the longest file.
-fn say_bytes(buffer: &[u8; LONG], size: usize) {
-    say::say(b" ");
+fn say_bytes(rt: &HostRuntime, buffer: &[u8; LONG], size: usize) {
+    say::say(rt, b" ");
     for i in 0..512 {
         if i < size {
-            say_byte(buffer[i]);
+            say_byte(rt, buffer[i]);
         }
     }
 }
@@ -46,14 +46,14 @@ fn written_by(answer: Answer) -> usize {
     }
 }
 
-fn say_written(answer: Answer, buffer: &[u8; LONG]) {
+fn say_written(rt: &HostRuntime, answer: Answer, buffer: &[u8; LONG]) {
     let written = written_by(answer);
-    say::say_answer(answer);
-    say_bytes(buffer, written);
+    say::say_answer(rt, answer);
+    say_bytes(rt, buffer, written);
     if kept_from(buffer, written) {
-        say::say(b" kept\n");
+        say::say(rt, b" kept\n");
     } else {
-        say::say(b" CHANGED\n");
+        say::say(rt, b" CHANGED\n");
     }
 }
 
@@ -71,10 +71,10 @@ fn sheet_in(
     write_sheet(file, rows, predecessors, buffer)
 }
 
-pub fn say_sheet(file: &[u8], rows: &mut [u16], predecessors: &mut [u16], room: usize) {
+pub fn say_sheet(rt: &HostRuntime, file: &[u8], rows: &mut [u16], predecessors: &mut [u16], room: usize) {
     let mut buffer: [u8; LONG] = [OLD; LONG];
     let answer = sheet_in(file, rows, predecessors, &mut buffer, room);
-    say_written(answer, &buffer);
+    say_written(rt, answer, &buffer);
 }
 
 // A system into the first bytes of a buffer, or all where it has fewer.
@@ -85,17 +85,17 @@ fn system_in(y: System, buffer: &mut [u8], room: usize) -> Answer {
     write_system(y, buffer)
 }
 
-pub fn say_told(y: System, room: usize) {
+pub fn say_told(rt: &HostRuntime, y: System, room: usize) {
     let mut buffer: [u8; LONG] = [OLD; LONG];
     let answer = system_in(y, &mut buffer, room);
-    say_written(answer, &buffer);
+    say_written(rt, answer, &buffer);
 }
 
 // The system of a file, as crate `trial` reads it.
-pub fn say_system(file: &[u8], room: usize) {
+pub fn say_system(rt: &HostRuntime, file: &[u8], room: usize) {
     let read = reading_of(file);
     let y = read.system;
-    say_told(y, room);
+    say_told(rt, y, room);
 }
 
 // A file made from seed 1, of system A's platform, two types and top count 3.
@@ -115,8 +115,8 @@ fn made_in(buffer: &mut [u8], room: usize) -> Answer {
     make_file(w, buffer)
 }
 
-pub fn say_made(room: usize) {
+pub fn say_made(rt: &HostRuntime, room: usize) {
     let mut buffer: [u8; LONG] = [OLD; LONG];
     let answer = made_in(&mut buffer, room);
-    say_written(answer, &buffer);
+    say_written(rt, answer, &buffer);
 }

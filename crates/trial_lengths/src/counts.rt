@@ -17,15 +17,15 @@ fn kept_from(part: &[u64; LONG], start: usize) -> bool {
     kept
 }
 
-fn say_counted(a: CountAnswer) {
+fn say_counted(rt: &HostRuntime, a: CountAnswer) {
     match a {
         CountAnswer::Counted(c) => {
-            say::say(b" good");
-            say::say_also(c.good as usize);
-            say::say(b" of");
-            say::say_also(c.total as usize);
+            say::say(rt, b" good");
+            say::say_also(rt, c.good as usize);
+            say::say(rt, b" of");
+            say::say_also(rt, c.total as usize);
         }
-        CountAnswer::Refused(r) => say::say_answer(Answer::Refused(r)),
+        CountAnswer::Refused(r) => say::say_answer(rt, Answer::Refused(r)),
     }
 }
 
@@ -37,13 +37,13 @@ fn counted(file: &[u8], part: &mut [u64], lent: usize) -> CountAnswer {
     count_assignments(file, part)
 }
 
-pub fn say_counts(file: &[u8], n: Lengths) {
+pub fn say_counts(rt: &HostRuntime, file: &[u8], n: Lengths) {
     let mut part: [u64; LONG] = [OLD; LONG];
     let answer = counted(file, &mut part, n.rows);
-    say_counted(answer);
+    say_counted(rt, answer);
     if kept_from(&part, n.free) {
-        say::say(b" kept\n");
+        say::say(rt, b" kept\n");
     } else {
-        say::say(b" CHANGED\n");
+        say::say(rt, b" CHANGED\n");
     }
 }

@@ -47,27 +47,27 @@ fn kept_from(part: &[u16; LONG], start: usize) -> bool {
 }
 
 // The first entries of a part, at most 16.
-fn say_entries(name: &[u8], part: &[u16; LONG], shown: usize) {
-    say::say(name);
+fn say_entries(rt: &HostRuntime, name: &[u8], part: &[u16; LONG], shown: usize) {
+    say::say(rt, name);
     for i in 0..16 {
         if i < shown {
-            say::say_also(wide(part[i]));
+            say::say_also(rt, wide(part[i]));
         }
     }
 }
 
-fn say_parts(rows: &[u16; LONG], predecessors: &[u16; LONG], n: Lengths) {
-    say_entries(b"  rows", rows, n.shown);
-    say_entries(b"  predecessors", predecessors, n.shown);
+fn say_parts(rt: &HostRuntime, rows: &[u16; LONG], predecessors: &[u16; LONG], n: Lengths) {
+    say_entries(rt, b"  rows", rows, n.shown);
+    say_entries(rt, b"  predecessors", predecessors, n.shown);
     if kept_from(rows, n.free) & kept_from(predecessors, n.free) {
-        say::say(b"  kept\n");
+        say::say(rt, b"  kept\n");
     } else {
-        say::say(b"  CHANGED\n");
+        say::say(rt, b"  CHANGED\n");
     }
 }
 
 // A call over two parts.
-fn say_by(
+fn say_by(rt: &HostRuntime, 
     kind: u8,
     file: &[u8],
     sheet: Wide,
@@ -76,20 +76,20 @@ fn say_by(
     number: usize,
 ) {
     match kind {
-        b'p' | b'P' => plans::say_plan(kind, file, rows, predecessors),
-        b'f' => plans::say_fill(file, rows, predecessors),
-        b'l' => plans::say_list(file, rows, predecessors),
-        b'i' => plans::say_listing(file, rows, predecessors),
-        b'w' => plans::say_cause(file, rows, predecessors),
-        b'q' => lists::say_into(file, rows, predecessors, number),
-        b't' => buffers::say_sheet(file, rows, predecessors, number),
-        b'c' => sheets_of::say_check(file, sheet, rows, predecessors, number),
-        _ => boards::say_board(kind, file, rows, predecessors, number),
+        b'p' | b'P' => plans::say_plan(rt, kind, file, rows, predecessors),
+        b'f' => plans::say_fill(rt, file, rows, predecessors),
+        b'l' => plans::say_list(rt, file, rows, predecessors),
+        b'i' => plans::say_listing(rt, file, rows, predecessors),
+        b'w' => plans::say_cause(rt, file, rows, predecessors),
+        b'q' => lists::say_into(rt, file, rows, predecessors, number),
+        b't' => buffers::say_sheet(rt, file, rows, predecessors, number),
+        b'c' => sheets_of::say_check(rt, file, sheet, rows, predecessors, number),
+        _ => boards::say_board(rt, kind, file, rows, predecessors, number),
     }
 }
 
 // The same over the first entries of the predecessor part, or all where it has fewer.
-fn say_front(
+fn say_front(rt: &HostRuntime, 
     kind: u8,
     file: &[u8],
     sheet: Wide,
@@ -99,20 +99,20 @@ fn say_front(
     number: usize,
 ) {
     if lent < predecessors.len() {
-        say_by(kind, file, sheet, rows, &mut predecessors[0..lent], number);
+        say_by(rt, kind, file, sheet, rows, &mut predecessors[0..lent], number);
     } else {
-        say_by(kind, file, sheet, rows, predecessors, number);
+        say_by(rt, kind, file, sheet, rows, predecessors, number);
     }
 }
 
 // The same over the first entries of both parts, and what they hold after it.
-pub fn say_over(kind: u8, file: &[u8], sheet: Wide, n: Lengths, number: usize) {
+pub fn say_over(rt: &HostRuntime, kind: u8, file: &[u8], sheet: Wide, n: Lengths, number: usize) {
     let mut rows: [u16; LONG] = [OLD; LONG];
     let mut predecessors: [u16; LONG] = [OLD; LONG];
     let first = n.rows;
     let second = n.predecessors;
     if first < LONG {
-        say_front(
+        say_front(rt, 
             kind,
             file,
             sheet,
@@ -122,7 +122,7 @@ pub fn say_over(kind: u8, file: &[u8], sheet: Wide, n: Lengths, number: usize) {
             number,
         );
     } else {
-        say_front(
+        say_front(rt, 
             kind,
             file,
             sheet,
@@ -132,5 +132,5 @@ pub fn say_over(kind: u8, file: &[u8], sheet: Wide, n: Lengths, number: usize) {
             number,
         );
     }
-    say_parts(&rows, &predecessors, n);
+    say_parts(rt, &rows, &predecessors, n);
 }

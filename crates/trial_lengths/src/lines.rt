@@ -99,31 +99,31 @@ fn case_at(text: &[u8], at: usize) -> Case {
 }
 
 // The call of a case, and what it leaves.
-fn say_call(kind: u8, file: &[u8], sheet: Wide, n: Numbers) {
+fn say_call(rt: &HostRuntime, kind: u8, file: &[u8], sheet: Wide, n: Numbers) {
     let lent = n.lent;
     match kind {
-        b'k' => plans::say_columns(file),
-        b'h' => opened::say_opened(file),
-        b'd' => opened::say_run(file, n.number),
-        b'g' | b'e' | b'u' | b'z' | b'j' => texts::say_text_of(kind, file),
-        b'v' | b'b' | b'U' | b'Z' | b'J' => texts::say_text_read(kind, file, n.number),
-        b'y' => buffers::say_system(file, n.number),
-        b'm' => buffers::say_made(n.number),
-        b'n' => counts::say_counts(file, lent),
-        b'o' => sheets_of::say_check_of(file, sheet, n.number),
-        b'O' => sheets_of::say_check_read(file, n.number),
-        _ => say_over(kind, file, sheet, lent, n.number),
+        b'k' => plans::say_columns(rt, file),
+        b'h' => opened::say_opened(rt, file),
+        b'd' => opened::say_run(rt, file, n.number),
+        b'g' | b'e' | b'u' | b'z' | b'j' => texts::say_text_of(rt, kind, file),
+        b'v' | b'b' | b'U' | b'Z' | b'J' => texts::say_text_read(rt, kind, file, n.number),
+        b'y' => buffers::say_system(rt, file, n.number),
+        b'm' => buffers::say_made(rt, n.number),
+        b'n' => counts::say_counts(rt, file, lent),
+        b'o' => sheets_of::say_check_of(rt, file, sheet, n.number),
+        b'O' => sheets_of::say_check_read(rt, file, n.number),
+        _ => say_over(rt, kind, file, sheet, lent, n.number),
     }
 }
 
 // A case that has a file.
-fn say_filed(c: Case) {
+fn say_filed(rt: &HostRuntime, c: Case) {
     let given = c.file;
     let stated = c.sheet;
     let numbers = c.numbers;
     let file = wide_of(given);
     let bytes = file.bytes;
-    say_call(
+    say_call(rt, 
         c.kind,
         first_of(&bytes, numbers.size),
         wide_of(stated),
@@ -132,24 +132,24 @@ fn say_filed(c: Case) {
 }
 
 // A case by its name, and the words that stand where another has its sheet.
-fn say_case(name: &[u8], words: &[u8], c: Case) {
+fn say_case(rt: &HostRuntime, name: &[u8], words: &[u8], c: Case) {
     let numbers = c.numbers;
-    say::say(name);
-    say::say(b":");
+    say::say(rt, name);
+    say::say(rt, b":");
     if c.kind == b'Y' {
-        buffers::say_told(system_told(words), numbers.number);
+        buffers::say_told(rt, system_told(words), numbers.number);
     } else {
-        say_filed(c);
+        say_filed(rt, c);
     }
 }
 
 // All cases of the text: there are fewer of them than bytes.
-pub fn say_cases(text: &[u8]) {
+pub fn say_cases(rt: &HostRuntime, text: &[u8]) {
     let mut at: usize = 0;
     for line in 0..text.len() {
         if at < text.len() {
             let c = case_at(text, at);
-            say_case(part(text, at, c.named), part(text, c.stated, c.ended), c);
+            say_case(rt, part(text, at, c.named), part(text, c.stated, c.ended), c);
             at = c.next;
         }
     }

@@ -39,29 +39,29 @@ fn plan_front(
     }
 }
 
-fn say_records(front: Front) {
+fn say_records(rt: &HostRuntime, front: Front) {
     let mut kept = true;
     for i in 0..MOST {
         let record = front.list[i];
         if i < SHOWN {
-            say_record(record);
+            say_record(rt, record);
         } else {
             kept = kept & is_old(record);
         }
     }
     if kept {
-        say::say(b" kept\n");
+        say::say(rt, b" kept\n");
     } else {
-        say::say(b" CHANGED\n");
+        say::say(rt, b" CHANGED\n");
     }
 }
 
-pub fn say_into(file: &[u8], rows: &mut [u16], predecessors: &mut [u16], room: usize) {
+pub fn say_into(rt: &HostRuntime, file: &[u8], rows: &mut [u16], predecessors: &mut [u16], room: usize) {
     if MOST < room {
         return;
     }
     let planned = plan_front(file, rows, predecessors, [old_record(); MOST], room);
     let answer = planned.answer;
-    say::say_answer(answer);
-    say_records(planned);
+    say::say_answer(rt, answer);
+    say_records(rt, planned);
 }

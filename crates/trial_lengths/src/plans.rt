@@ -11,15 +11,15 @@ use table_code::{columns_needed, fill_table};
 use trial::say;
 
 // The loads of the used engines, with their numbers.
-fn say_loads(numbers: [usize; ENGINE_LIMIT], loads: [EngineLoad; ENGINE_LIMIT], used: usize) {
+fn say_loads(rt: &HostRuntime, numbers: [usize; ENGINE_LIMIT], loads: [EngineLoad; ENGINE_LIMIT], used: usize) {
     for i in 0..ENGINE_LIMIT {
         let load = loads[i];
         if i < used {
-            say::say_also(numbers[i]);
-            say::say_load(load, TYPE_LIMIT);
+            say::say_also(rt, numbers[i]);
+            say::say_load(rt, load, TYPE_LIMIT);
         }
     }
-    say::say(b"\n");
+    say::say(rt, b"\n");
 }
 
 // A plan by value: P where one kind of engine is wanted.
@@ -30,25 +30,25 @@ fn planned(kind: u8, file: &[u8], rows: &mut [u16], predecessors: &mut [u16]) ->
     plan_of(file, rows, predecessors)
 }
 
-pub fn say_plan(kind: u8, file: &[u8], rows: &mut [u16], predecessors: &mut [u16]) {
+pub fn say_plan(rt: &HostRuntime, kind: u8, file: &[u8], rows: &mut [u16], predecessors: &mut [u16]) {
     let plan = planned(kind, file, rows, predecessors);
     let answer = plan.answer;
     let numbers = plan.numbers;
     let loads = plan.loads;
-    say::say_answer(answer);
-    say_loads(numbers, loads, plan.used);
+    say::say_answer(rt, answer);
+    say_loads(rt, numbers, loads, plan.used);
 }
 
-pub fn say_fill(file: &[u8], rows: &mut [u16], predecessors: &mut [u16]) {
+pub fn say_fill(rt: &HostRuntime, file: &[u8], rows: &mut [u16], predecessors: &mut [u16]) {
     let answer = fill_table(file, rows, predecessors);
-    say::say_answer(answer);
-    say::say(b"\n");
+    say::say_answer(rt, answer);
+    say::say(rt, b"\n");
 }
 
-pub fn say_columns(file: &[u8]) {
+pub fn say_columns(rt: &HostRuntime, file: &[u8]) {
     let answer = columns_needed(file);
-    say::say_answer(answer);
-    say::say(b"\n");
+    say::say_answer(rt, answer);
+    say::say(rt, b"\n");
 }
 
 // A record before a plan.
@@ -71,39 +71,39 @@ pub fn is_old(r: EngineRecord) -> bool {
 }
 
 // A record: its number, time, memory and six counts, or `=` where it is as it was.
-pub fn say_record(r: EngineRecord) {
+pub fn say_record(rt: &HostRuntime, r: EngineRecord) {
     let load = r.load;
     if is_old(r) {
-        say::say(b" =");
+        say::say(rt, b" =");
         return;
     }
-    say::say_also(r.number);
-    say::say_load(load, TYPE_LIMIT);
+    say::say_also(rt, r.number);
+    say::say_load(rt, load, TYPE_LIMIT);
 }
 
-fn say_records(list: [EngineRecord; ENGINE_LIMIT]) {
+fn say_records(rt: &HostRuntime, list: [EngineRecord; ENGINE_LIMIT]) {
     for i in 0..ENGINE_LIMIT {
         let record = list[i];
-        say_record(record);
+        say_record(rt, record);
     }
-    say::say(b"\n");
+    say::say(rt, b"\n");
 }
 
-pub fn say_list(file: &[u8], rows: &mut [u16], predecessors: &mut [u16]) {
+pub fn say_list(rt: &HostRuntime, file: &[u8], rows: &mut [u16], predecessors: &mut [u16]) {
     let planned = plan_list(file, rows, predecessors, [old_record(); ENGINE_LIMIT]);
     let answer = planned.answer;
     let list = planned.list;
-    say::say_answer(answer);
-    say_records(list);
+    say::say_answer(rt, answer);
+    say_records(rt, list);
 }
 
 // A listing stands on lines of its own.
-pub fn say_listing(file: &[u8], rows: &mut [u16], predecessors: &mut [u16]) {
+pub fn say_listing(rt: &HostRuntime, file: &[u8], rows: &mut [u16], predecessors: &mut [u16]) {
     let mut out: [u8; 4096] = [OLD; 4096];
     let written = listing(file, rows, predecessors, &mut out);
-    say_rest(&out, written);
-    say::say(b"\n");
-    say::say(&out[..written]);
+    say_rest(rt, &out, written);
+    say::say(rt, b"\n");
+    say::say(rt, &out[..written]);
 }
 
 // The type that a cause names, 0 for none.
@@ -115,18 +115,18 @@ fn named_by(cause: Cause) -> usize {
 }
 
 // A cause by its number and the type that it names, or a refusal.
-pub fn say_cause_answer(a: CauseAnswer) {
+pub fn say_cause_answer(rt: &HostRuntime, a: CauseAnswer) {
     match a {
         CauseAnswer::Because(cause) => {
-            say::say(b" cause");
-            say::say_also(cause_number(cause) as usize);
-            say::say_also(named_by(cause));
+            say::say(rt, b" cause");
+            say::say_also(rt, cause_number(cause) as usize);
+            say::say_also(rt, named_by(cause));
         }
-        CauseAnswer::Refused(r) => say::say_answer(Answer::Refused(r)),
+        CauseAnswer::Refused(r) => say::say_answer(rt, Answer::Refused(r)),
     }
-    say::say(b"\n");
+    say::say(rt, b"\n");
 }
 
-pub fn say_cause(file: &[u8], rows: &mut [u16], predecessors: &mut [u16]) {
-    say_cause_answer(why_no_plan(file, rows, predecessors));
+pub fn say_cause(rt: &HostRuntime, file: &[u8], rows: &mut [u16], predecessors: &mut [u16]) {
+    say_cause_answer(rt, why_no_plan(file, rows, predecessors));
 }

@@ -13,17 +13,17 @@ pub fn front_of(file: &[u8]) -> [u8; FILE_BYTES] {
     front
 }
 
-fn say_byte(b: u8) {
-    io::print_hex(1, b as u64, 2);
+fn say_byte(rt: &HostRuntime, b: u8) {
+    say::say_hex(rt, b);
 }
 
 // The bytes of a sheet or a made file, or of the line of a refusal, at most 512.
-pub fn say_bytes(bytes: &[u8]) {
-    say::say(b" ");
+pub fn say_bytes(rt: &HostRuntime, bytes: &[u8]) {
+    say::say(rt, b" ");
     for i in 0..512 {
         if i < bytes.len() {
-            say_byte(bytes[i]);
+            say_byte(rt, bytes[i]);
         }
     }
-    say::say(b"\n");
+    say::say(rt, b"\n");
 }

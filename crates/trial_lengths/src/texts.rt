@@ -24,22 +24,22 @@ fn kept_from(out: &[u8; 4096], start: usize) -> bool {
 }
 
 // Whether all bytes past those written are as they were.
-pub fn say_rest(out: &[u8; 4096], written: usize) {
+pub fn say_rest(rt: &HostRuntime, out: &[u8; 4096], written: usize) {
     if kept_from(out, written) {
-        say::say(b" kept");
+        say::say(rt, b" kept");
     } else {
-        say::say(b" CHANGED");
+        say::say(rt, b" CHANGED");
     }
 }
 
 // What was written: a sheet and a made file, or the line of a refusal in their place, byte by byte; a text on lines of its own.
-fn say_written(kind: u8, out: &[u8; 4096], written: usize) {
-    say_rest(out, written);
+fn say_written(rt: &HostRuntime, kind: u8, out: &[u8; 4096], written: usize) {
+    say_rest(rt, out, written);
     match kind {
-        b'e' | b'b' | b'j' | b'J' => say_bytes(part(out, 0, written)),
+        b'e' | b'b' | b'j' | b'J' => say_bytes(rt, part(out, 0, written)),
         _ => {
-            say::say(b"\n");
-            say::say(part(out, 0, written));
+            say::say(rt, b"\n");
+            say::say(rt, part(out, 0, written));
         }
     }
 }
@@ -55,10 +55,10 @@ fn text_of(kind: u8, file: &[u8], out: &mut [u8; 4096]) -> usize {
     }
 }
 
-pub fn say_text_of(kind: u8, file: &[u8]) {
+pub fn say_text_of(rt: &HostRuntime, kind: u8, file: &[u8]) {
     let mut out: [u8; 4096] = [OLD; 4096];
     let written = text_of(kind, file, &mut out);
-    say_written(kind, &out, written);
+    say_written(rt, kind, &out, written);
 }
 
 // The same of what was read.
@@ -72,8 +72,8 @@ fn text_read(kind: u8, front: [u8; FILE_BYTES], read: usize, out: &mut [u8; 4096
     }
 }
 
-pub fn say_text_read(kind: u8, file: &[u8], read: usize) {
+pub fn say_text_read(rt: &HostRuntime, kind: u8, file: &[u8], read: usize) {
     let mut out: [u8; 4096] = [OLD; 4096];
     let written = text_read(kind, front_of(file), read, &mut out);
-    say_written(kind, &out, written);
+    say_written(rt, kind, &out, written);
 }

@@ -70,7 +70,7 @@ fn number_of(b: u8) -> usize {
 }
 
 // What an engine of a board holds, and whether it is out of service; nothing where there is no such engine.
-fn say_engine(b: Board, e: usize) {
+fn say_engine(rt: &HostRuntime, b: Board, e: usize) {
     let loads = b.loads;
     let marks = b.marks;
     if e == 0 {
@@ -80,27 +80,27 @@ fn say_engine(b: Board, e: usize) {
         return;
     }
     let load = loads[e - 1];
-    say::say_load(load, TYPE_LIMIT);
+    say::say_load(rt, load, TYPE_LIMIT);
     if marks[e - 1] {
-        say::say(b" out");
+        say::say(rt, b" out");
     }
 }
 
-fn say_kind(kind: u8) {
+fn say_kind(rt: &HostRuntime, kind: u8) {
     match kind {
-        b'a' => say::say(b"admit"),
-        b'm' => say::say(b"admit often"),
-        b'n' => say::say(b"admit most"),
-        b's' => say::say(b"seat"),
-        b'r' => say::say(b"retire"),
-        b'p' => say::say(b"repack"),
-        b'w' => say::say(b"withdraw"),
-        _ => say::say(b"restore"),
+        b'a' => say::say(rt, b"admit"),
+        b'm' => say::say(rt, b"admit often"),
+        b'n' => say::say(rt, b"admit most"),
+        b's' => say::say(rt, b"seat"),
+        b'r' => say::say(rt, b"retire"),
+        b'p' => say::say(rt, b"repack"),
+        b'w' => say::say(rt, b"withdraw"),
+        _ => say::say(rt, b"restore"),
     }
 }
 
 // The call of a script at a place, where it has one: its kind, its type, and the engine that it leaves or that is shown after it.
-fn say_call(
+fn say_call(rt: &HostRuntime, 
     b: Board,
     script: &[u8],
     at: usize,
@@ -116,48 +116,48 @@ fn say_call(
     let turn = called(b, kind, t, e, rows, predecessors);
     let answer = turn.answer;
     let after = turn.board;
-    say_kind(kind);
-    say::say_also(t);
-    say::say_also(e);
-    say::say_answer(answer);
-    say_engine(after, e);
-    say::say(b"\n");
+    say_kind(rt, kind);
+    say::say_also(rt, t);
+    say::say_also(rt, e);
+    say::say_answer(rt, answer);
+    say_engine(rt, after, e);
+    say::say(rt, b"\n");
     after
 }
 
 // The calls of a script of at most 64, four bytes each, of which the last is a space, or the end.
-fn say_calls(b: Board, script: &[u8], rows: &mut [u16], predecessors: &mut [u16]) {
+fn say_calls(rt: &HostRuntime, b: Board, script: &[u8], rows: &mut [u16], predecessors: &mut [u16]) {
     let mut board = b;
     for i in 0..64usize {
-        let next = say_call(board, script, i * 4, rows, predecessors);
+        let next = say_call(rt, board, script, i * 4, rows, predecessors);
         board = next;
     }
 }
 
 // The same over the first entries of the predecessor part, or all where it has fewer.
-fn say_front(b: Board, script: &[u8], rows: &mut [u16], predecessors: &mut [u16], lent: usize) {
+fn say_front(rt: &HostRuntime, b: Board, script: &[u8], rows: &mut [u16], predecessors: &mut [u16], lent: usize) {
     if lent < predecessors.len() {
-        say_calls(b, script, rows, &mut predecessors[0..lent]);
+        say_calls(rt, b, script, rows, &mut predecessors[0..lent]);
     } else {
-        say_calls(b, script, rows, predecessors);
+        say_calls(rt, b, script, rows, predecessors);
     }
 }
 
 // A list of calls from the fresh board of a file, over the first entries of two parts, which each call is lent as the one before it left them.
-pub fn say_script(file: &[u8], lent: Lengths, script: &[u8]) {
+pub fn say_script(rt: &HostRuntime, file: &[u8], lent: Lengths, script: &[u8]) {
     let mut rows: [u16; LONG] = [OLD; LONG];
     let mut predecessors: [u16; LONG] = [OLD; LONG];
     let turn = open_board(file);
     let answer = turn.answer;
     let board = turn.board;
-    say::say(b"open, lent");
-    say::say_also(lent.rows);
-    say::say_also(lent.predecessors);
-    say::say_answer(answer);
-    say::say(b"\n");
+    say::say(rt, b"open, lent");
+    say::say_also(rt, lent.rows);
+    say::say_also(rt, lent.predecessors);
+    say::say_answer(rt, answer);
+    say::say(rt, b"\n");
     let first = lent.rows;
     if first < LONG {
-        say_front(
+        say_front(rt, 
             board,
             script,
             &mut rows[0..first],
@@ -165,7 +165,7 @@ pub fn say_script(file: &[u8], lent: Lengths, script: &[u8]) {
             lent.predecessors,
         );
     } else {
-        say_front(
+        say_front(rt, 
             board,
             script,
             &mut rows,
@@ -173,5 +173,5 @@ pub fn say_script(file: &[u8], lent: Lengths, script: &[u8]) {
             lent.predecessors,
         );
     }
-    say_table(&rows, &predecessors, file);
+    say_table(rt, &rows, &predecessors, file);
 }

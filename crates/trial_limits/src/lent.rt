@@ -38,18 +38,18 @@ fn entry_before(part: &[u16; LONG], end: usize) -> usize {
 }
 
 // A line for both parts: what they hold at the last column of a file's system, and whether the entries past it, or all of them, are as they were.
-pub fn say_table(rows: &[u16; LONG], predecessors: &[u16; LONG], file: &[u8]) {
+pub fn say_table(rt: &HostRuntime, rows: &[u16; LONG], predecessors: &[u16; LONG], file: &[u8]) {
     let r = files::reading_of(file);
     let y = r.system;
     let end = recovery::columns_of(y);
-    say::say(b"table");
-    say::say_also(entry_before(rows, end));
-    say::say_also(entry_before(predecessors, end));
+    say::say(rt, b"table");
+    say::say_also(rt, entry_before(rows, end));
+    say::say_also(rt, entry_before(predecessors, end));
     if kept_from(rows, 0) & kept_from(predecessors, 0) {
-        say::say(b", all kept\n");
+        say::say(rt, b", all kept\n");
     } else if kept_from(rows, end) & kept_from(predecessors, end) {
-        say::say(b", kept past it\n");
+        say::say(rt, b", kept past it\n");
     } else {
-        say::say(b", changed past it\n");
+        say::say(rt, b", changed past it\n");
     }
 }

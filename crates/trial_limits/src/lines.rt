@@ -50,26 +50,26 @@ fn case_at(text: &[u8], at: usize) -> Case {
     }
 }
 
-fn say_case(text: &[u8], c: Case) {
+fn say_case(rt: &HostRuntime, text: &[u8], c: Case) {
     let given = c.file;
     let bytes = given.bytes;
     let file = first_of(&bytes, given.size);
     let kind = c.kind;
     let lent = c.lent;
     match kind {
-        b'o' => openings::say_opening(text, file),
-        b'p' => plans::say_ways(file, lent),
-        _ => calls::say_script(file, lent, text),
+        b'o' => openings::say_opening(rt, text, file),
+        b'p' => plans::say_ways(rt, file, lent),
+        _ => calls::say_script(rt, file, lent, text),
     }
 }
 
 // All cases of the text: there are fewer of them than bytes.
-pub fn say_cases(text: &[u8]) {
+pub fn say_cases(rt: &HostRuntime, text: &[u8]) {
     let mut at: usize = 0;
     for line in 0..text.len() {
         if at < text.len() {
             let c = case_at(text, at);
-            say_case(part(text, c.start, c.end), c);
+            say_case(rt, part(text, c.start, c.end), c);
             at = c.next;
         }
     }

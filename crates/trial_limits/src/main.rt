@@ -12,7 +12,7 @@
 // say, of every input.
 #![tactic(auto)]
 
-use libc::STDIN_FILENO;
+use trial::input::read_full;
 
 mod as_promised;
 mod calls;
@@ -21,8 +21,8 @@ mod lines;
 mod openings;
 mod plans;
 
-fn main() {
+fn main(rt: HostRuntime) {
     let mut input = [0u8; lines::TEXT_BYTES];
-    let read = io::read_full(STDIN_FILENO, &mut input);
-    lines::say_cases(&input[..read]);
+    let read = read_full(&rt, &mut input);
+    lines::say_cases(&rt, &input[..read]);
 }

@@ -5,7 +5,7 @@ use planner_code::plan_of;
 use table_code::{columns_needed, fill_table};
 use trial::say;
 
-pub fn say_opening(name: &[u8], file: &[u8]) {
+pub fn say_opening(rt: &HostRuntime, name: &[u8], file: &[u8]) {
     let mut rows: [u16; LONG] = [OLD; LONG];
     let mut predecessors: [u16; LONG] = [OLD; LONG];
     let turn = open_board(file);
@@ -14,10 +14,10 @@ pub fn say_opening(name: &[u8], file: &[u8]) {
     let planned = plan.answer;
     let filled = fill_table(file, &mut rows, &mut predecessors);
     let needed = columns_needed(file);
-    say::say(name);
-    say::say_answer(opened);
-    say::say_answer(planned);
-    say::say_answer(filled);
-    say::say_answer(needed);
-    say::say(b"\n");
+    say::say(rt, name);
+    say::say_answer(rt, opened);
+    say::say_answer(rt, planned);
+    say::say_answer(rt, filled);
+    say::say_answer(rt, needed);
+    say::say(rt, b"\n");
 }

@@ -62,33 +62,33 @@ fn old_list() -> [EngineRecord; MOST] {
 }
 
 // The records of a list.
-fn say_records(list: [EngineRecord; MOST]) {
+fn say_records(rt: &HostRuntime, list: [EngineRecord; MOST]) {
     for i in 0..MOST {
         let record = list[i];
         let load = record.load;
-        say::say_also(record.number);
-        say::say_load(load, TYPE_LIMIT);
+        say::say_also(rt, record.number);
+        say::say_load(rt, load, TYPE_LIMIT);
     }
 }
 
 // A plan into the first `room` records: its answer, and all records of the list after it.
-fn say_planned(file: &[u8], rows: &mut [u16], predecessors: &mut [u16], room: usize) {
+fn say_planned(rt: &HostRuntime, file: &[u8], rows: &mut [u16], predecessors: &mut [u16], room: usize) {
     if MOST < room {
         return;
     }
     let planned = plan_front(file, rows, predecessors, old_list(), room);
     let answer = planned.answer;
     let list = planned.list;
-    say::say_answer(answer);
-    say_records(list);
+    say::say_answer(rt, answer);
+    say_records(rt, list);
 }
 
 // The same over the first entries of the predecessor part.
-fn say_front(file: &[u8], rows: &mut [u16], predecessors: &mut [u16], lent: usize, room: usize) {
+fn say_front(rt: &HostRuntime, file: &[u8], rows: &mut [u16], predecessors: &mut [u16], lent: usize, room: usize) {
     if lent < predecessors.len() {
-        say_planned(file, rows, &mut predecessors[0..lent], room);
+        say_planned(rt, file, rows, &mut predecessors[0..lent], room);
     } else {
-        say_planned(file, rows, predecessors, room);
+        say_planned(rt, file, rows, predecessors, room);
     }
 }
 
@@ -104,58 +104,58 @@ fn kept_from(part: &[u16; LONG], start: usize) -> bool {
 }
 
 // What entry 0 of each part holds, 0 and 65,535 where they are filled, and whether the entries past the columns, or all of them, are as they were.
-fn say_table(y: System, rows: &[u16; LONG], predecessors: &[u16; LONG]) {
+fn say_table(rt: &HostRuntime, y: System, rows: &[u16; LONG], predecessors: &[u16; LONG]) {
     let columns = recovery::columns_of(y);
-    say::say(b", table");
-    say::say_also(search::wide(rows[0]));
-    say::say_also(search::wide(predecessors[0]));
+    say::say(rt, b", table");
+    say::say_also(rt, search::wide(rows[0]));
+    say::say_also(rt, search::wide(predecessors[0]));
     if kept_from(rows, 0) & kept_from(predecessors, 0) {
-        say::say(b", all kept\n");
+        say::say(rt, b", all kept\n");
     } else if kept_from(rows, columns) & kept_from(predecessors, columns) {
-        say::say(b", kept past it\n");
+        say::say(rt, b", kept past it\n");
     } else {
-        say::say(b", changed past it\n");
+        say::say(rt, b", changed past it\n");
     }
 }
 
 // A line for a plan over the first entries of two parts: the records that are lent, the answer, all records after it, and the table.
-fn say_list(y: System, lent: Lengths, room: usize) {
+fn say_list(rt: &HostRuntime, y: System, lent: Lengths, room: usize) {
     let f = files::file_of(y);
     let bytes = f.bytes;
     let file = files::first_of(&bytes, f.size);
     let mut rows: [u16; LONG] = [OLD; LONG];
     let mut predecessors: [u16; LONG] = [OLD; LONG];
-    say::say_number(room);
+    say::say_number(rt, room);
     let first = lent.0;
     if first < LONG {
-        say_front(file, &mut rows[0..first], &mut predecessors, lent.1, room);
+        say_front(rt, file, &mut rows[0..first], &mut predecessors, lent.1, room);
     } else {
-        say_front(file, &mut rows, &mut predecessors, lent.1, room);
+        say_front(rt, file, &mut rows, &mut predecessors, lent.1, room);
     }
-    say_table(y, &rows, &predecessors);
+    say_table(rt, y, &rows, &predecessors);
 }
 
 // Every length.
-fn say_lengths(y: System) {
-    say::say_system(b"system", y);
+fn say_lengths(rt: &HostRuntime, y: System) {
+    say::say_system(rt, b"system", y);
     for room in 0..18 {
-        say_list(y, Lengths(LONG, LONG), room);
+        say_list(rt, y, Lengths(LONG, LONG), room);
     }
 }
 
 // Parts that are just long enough for so many columns.
-fn say_just(y: System, columns: usize, room: usize) {
-    say_list(y, Lengths(columns, columns), room);
+fn say_just(rt: &HostRuntime, y: System, columns: usize, room: usize) {
+    say_list(rt, y, Lengths(columns, columns), room);
 }
 
 // Parts of which either has an entry less, or both.
-fn say_short(y: System, less: usize, room: usize) {
+fn say_short(rt: &HostRuntime, y: System, less: usize, room: usize) {
     let columns = wrapping_add_usize(less, 1);
-    say_list(y, Lengths(less, columns), room);
-    say_list(y, Lengths(columns, less), room);
-    say_list(y, Lengths(less, less), room);
-    say_list(y, Lengths(less, LONG), room);
-    say_list(y, Lengths(LONG, less), room);
+    say_list(rt, y, Lengths(less, columns), room);
+    say_list(rt, y, Lengths(columns, less), room);
+    say_list(rt, y, Lengths(less, less), room);
+    say_list(rt, y, Lengths(less, LONG), room);
+    say_list(rt, y, Lengths(LONG, less), room);
 }
 
 // One type of which an engine takes one.
@@ -169,29 +169,29 @@ fn apart(engines: usize, n: u16, q: u16) -> System {
 }
 
 // What the file is refused with comes before 11, 15 and 12, and what q leaves no room for is 12.
-fn say_apart() {
-    say_just(apart(16, 17, 0), 0, 0);
-    say_short(apart(16, 17, 1), 17, 15);
-    say_just(apart(16, 17, 1), 18, 15);
-    say_just(apart(16, 17, 1), 18, 16);
-    say_just(apart(16, 16, 1), 17, 15);
-    say_just(apart(16, 16, 1), 17, 16);
-    say_just(apart(16, 17, 2), 18, 16);
-    say_just(apart(16, 17, 65535), 18, 16);
+fn say_apart(rt: &HostRuntime) {
+    say_just(rt, apart(16, 17, 0), 0, 0);
+    say_short(rt, apart(16, 17, 1), 17, 15);
+    say_just(rt, apart(16, 17, 1), 18, 15);
+    say_just(rt, apart(16, 17, 1), 18, 16);
+    say_just(rt, apart(16, 16, 1), 17, 15);
+    say_just(rt, apart(16, 16, 1), 17, 16);
+    say_just(rt, apart(16, 17, 2), 18, 16);
+    say_just(rt, apart(16, 17, 65535), 18, 16);
 }
 
-fn main() {
-    say_lengths(one_each(1, 1));
-    say_lengths(one_each(15, 15));
-    say_lengths(systems::system_a(16));
-    say_lengths(systems::system_longest(1));
-    say::say(b"the order of 5, 31, 11, 15 and 12\n");
-    say_just(one_each(17, 17), 0, 0);
-    say_short(one_each(16, 17), 17, 15);
-    say_just(one_each(16, 17), 18, 15);
-    say_just(one_each(16, 17), 18, 16);
-    say_short(one_each(16, 16), 16, 15);
-    say_just(one_each(16, 16), 17, 15);
-    say_just(one_each(16, 16), 17, 16);
-    say_apart();
+fn main(rt: HostRuntime) {
+    say_lengths(&rt, one_each(1, 1));
+    say_lengths(&rt, one_each(15, 15));
+    say_lengths(&rt, systems::system_a(16));
+    say_lengths(&rt, systems::system_longest(1));
+    say::say(&rt, b"the order of 5, 31, 11, 15 and 12\n");
+    say_just(&rt, one_each(17, 17), 0, 0);
+    say_short(&rt, one_each(16, 17), 17, 15);
+    say_just(&rt, one_each(16, 17), 18, 15);
+    say_just(&rt, one_each(16, 17), 18, 16);
+    say_short(&rt, one_each(16, 16), 16, 15);
+    say_just(&rt, one_each(16, 16), 17, 15);
+    say_just(&rt, one_each(16, 16), 17, 16);
+    say_apart(&rt);
 }

@@ -91,55 +91,55 @@ fn text_of(bytes: [u8; BUFFER_BYTES]) -> [u8; TEXT_DIGITS] {
     text
 }
 
-fn say_bytes(bytes: [u8; BUFFER_BYTES], n: usize) {
+fn say_bytes(rt: &HostRuntime, bytes: [u8; BUFFER_BYTES], n: usize) {
     let text = text_of(bytes);
-    say(b" ");
-    say(first_of(&text, wrapping_add_usize(n, n)));
+    say(rt, b" ");
+    say(rt, first_of(&text, wrapping_add_usize(n, n)));
 }
 
 // An answer, and the bytes that it says were written.
-fn say_made(a: Answer, bytes: [u8; BUFFER_BYTES]) {
-    say_answer(a);
+fn say_made(rt: &HostRuntime, a: Answer, bytes: [u8; BUFFER_BYTES]) {
+    say_answer(rt, a);
     if let Answer::Number(n) = a {
-        say_bytes(bytes, n);
+        say_bytes(rt, bytes, n);
     }
 }
 
 // One call: what was answered, and that it is wrong where it is. Answers 1 for a wrong one.
-fn say_call(name: &[u8], c: Call, w: Recipe, room: usize) -> usize {
+fn say_call(rt: &HostRuntime, name: &[u8], c: Call, w: Recipe, room: usize) -> usize {
     let answer = c.answer;
     let bytes = c.bytes;
-    say(name);
-    say(b":");
-    say_made(answer, bytes);
+    say(rt, name);
+    say(rt, b":");
+    say_made(rt, answer, bytes);
     if lent::right_call(c, w, room, FILL) {
-        say(b"\n");
+        say(rt, b"\n");
         return 0;
     }
-    say(b" wrong\n");
+    say(rt, b" wrong\n");
     1
 }
 
 // A case; answers how many calls were wrong.
-fn say_case(name: &[u8], c: Case) -> usize {
+fn say_case(rt: &HostRuntime, name: &[u8], c: Case) -> usize {
     let w = c.recipe;
     if c.kind == b'l' {
-        return sweeps::say_lengths(name, w);
+        return sweeps::say_lengths(rt, name, w);
     }
     if c.kind == b'b' {
-        return say_call(name, lent::called_long(w, c.room, FILL), w, c.room);
+        return say_call(rt, name, lent::called_long(w, c.room, FILL), w, c.room);
     }
-    say_call(name, lent::called(w, c.room, FILL), w, c.room)
+    say_call(rt, name, lent::called(w, c.room, FILL), w, c.room)
 }
 
 // All cases of the text: there are fewer of them than bytes.
-pub fn say_cases(text: &[u8]) -> usize {
+pub fn say_cases(rt: &HostRuntime, text: &[u8]) -> usize {
     let mut at: usize = 0;
     let mut wrong: usize = 0;
     for line in 0..text.len() {
         if at < text.len() {
             let c = case_at(text, at);
-            wrong = wrapping_add_usize(wrong, say_case(part(text, c.start, c.end), c));
+            wrong = wrapping_add_usize(wrong, say_case(rt, part(text, c.start, c.end), c));
             at = c.next;
         }
     }

@@ -6,7 +6,7 @@
 // written must read as the system that was made. What is expected was computed apart from the code, by a model of document 02.
 #![tactic(auto)]
 
-use libc::STDIN_FILENO;
+use trial::input::read_full;
 
 mod apart;
 mod drawn;
@@ -15,9 +15,9 @@ mod lent;
 mod lines;
 mod sweeps;
 
-fn main() {
+fn main(rt: HostRuntime) {
     let mut input = [0u8; lines::TEXT_BYTES];
-    let read = io::read_full(STDIN_FILENO, &mut input);
-    let wrong = lines::say_cases(&input[..read]);
-    sweeps::say_drawn(wrong);
+    let read = read_full(&rt, &mut input);
+    let wrong = lines::say_cases(&rt, &input[..read]);
+    sweeps::say_drawn(&rt, wrong);
 }

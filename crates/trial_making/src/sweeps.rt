@@ -72,23 +72,23 @@ fn counted(t: Tally, a: Answer, bytes: [u8; BUFFER_BYTES]) -> Tally {
     next
 }
 
-fn mismatch(t: Tally, w: Recipe, room: usize) -> Tally {
-    say::say(b"mismatch: recipe");
-    say::say_also(w.seed as usize);
-    say::say_also(w.engines);
-    say::say_also(w.rule as usize);
-    say::say_also(w.timecap as usize);
-    say::say_also(w.memorycap as usize);
-    say::say_also(w.typecount);
-    say::say_also(w.top as usize);
-    say::say_count(b" buffer", room);
+fn mismatch(rt: &HostRuntime, t: Tally, w: Recipe, room: usize) -> Tally {
+    say::say(rt, b"mismatch: recipe");
+    say::say_also(rt, w.seed as usize);
+    say::say_also(rt, w.engines);
+    say::say_also(rt, w.rule as usize);
+    say::say_also(rt, w.timecap as usize);
+    say::say_also(rt, w.memorycap as usize);
+    say::say_also(rt, w.typecount);
+    say::say_also(rt, w.top as usize);
+    say::say_count(rt, b" buffer", room);
     let mut next = t;
     next.wrong = wrapping_add_usize(t.wrong, 1);
     next
 }
 
 // One call.
-fn judged(t: Tally, w: Recipe, room: usize) -> Tally {
+fn judged(rt: &HostRuntime, t: Tally, w: Recipe, room: usize) -> Tally {
     let c = lent::called(w, room, 61);
     let answer = c.answer;
     let bytes = c.bytes;
@@ -96,14 +96,14 @@ fn judged(t: Tally, w: Recipe, room: usize) -> Tally {
     if lent::right_call(c, w, room, 61) {
         return next;
     }
-    mismatch(next, w, room)
+    mismatch(rt, next, w, room)
 }
 
 // Buffers of every length from 0 to one more than the longest file.
-fn lengths(w: Recipe) -> Tally {
+fn lengths(rt: &HostRuntime, w: Recipe) -> Tally {
     let mut all = no_tally();
     for room in 0..93usize {
-        let next = judged(all, w, room);
+        let next = judged(rt, all, w, room);
         all = next;
     }
     all
@@ -116,44 +116,44 @@ struct Run {
     tally: Tally,
 }
 
-fn next_drawn(r: Run) -> Run {
+fn next_drawn(rt: &HostRuntime, r: Run) -> Run {
     let d = drawn_recipe(r.seed);
     let w = d.recipe;
     let tally = r.tally;
     Run {
         seed: d.seed,
-        tally: judged(tally, w, d.room),
+        tally: judged(rt, tally, w, d.room),
     }
 }
 
 // Recipes drawn at the ends of the limits.
-fn ends() -> Tally {
+fn ends(rt: &HostRuntime) -> Tally {
     let mut r = Run {
         seed: 1,
         tally: no_tally(),
     };
     for i in 0..20000usize {
-        let next = next_drawn(r);
+        let next = next_drawn(rt, r);
         r = next;
     }
     r.tally
 }
 
 // A line for some calls; answers how many of them were wrong.
-fn say_tally(name: &[u8], t: Tally) -> usize {
+fn say_tally(rt: &HostRuntime, name: &[u8], t: Tally) -> usize {
     let row = t.answers;
-    say::say_row(name, row, 5);
-    say::say_count(b"sum of the bytes", t.sum as usize);
+    say::say_row(rt, name, row, 5);
+    say::say_count(rt, b"sum of the bytes", t.sum as usize);
     t.wrong
 }
 
-pub fn say_lengths(name: &[u8], w: Recipe) -> usize {
-    say::say(name);
-    say_tally(b":", lengths(w))
+pub fn say_lengths(rt: &HostRuntime, name: &[u8], w: Recipe) -> usize {
+    say::say(rt, name);
+    say_tally(rt, b":", lengths(rt, w))
 }
 
 // The drawn recipes, and how many calls were wrong, among them and before them.
-pub fn say_drawn(wrong: usize) {
-    let all = wrapping_add_usize(wrong, say_tally(b"drawn:", ends()));
-    say::say_count(b"mismatches", all);
+pub fn say_drawn(rt: &HostRuntime, wrong: usize) {
+    let all = wrapping_add_usize(wrong, say_tally(rt, b"drawn:", ends(rt)));
+    say::say_count(rt, b"mismatches", all);
 }

@@ -5,10 +5,10 @@ use trial::changes::with_number;
 use trial::{say, systems};
 
 // A line for a system: 1 where every answer was right, the pairs, and the bound.
-fn say_case(name: &[u8], y: System) {
+fn say_case(rt: &HostRuntime, name: &[u8], y: System) {
     let r = fills::trial_of(y, systems::system_full(0));
     let right = if r.right { 1 } else { 0 };
-    say::say_row(
+    say::say_row(rt, 
         name,
         [right, r.pairs, r.bound, 0, 0, 0, 0, 0, 0, 0, 0, 0],
         3,
@@ -50,55 +50,55 @@ fn six_types() -> System {
 
 // 4,096 columns, mostly of few engines: the count goes over all of them for each row. The memory of 3,277 instances of s and d passes 32 bits, and what
 // is then left of it would fit.
-fn say_widest() {
-    say_case(b"n 4095, u over U, m 1:", widest_of(1, 9, 10));
-    say_case(
+fn say_widest(rt: &HostRuntime) {
+    say_case(rt, b"n 4095, u over U, m 1:", widest_of(1, 9, 10));
+    say_case(rt, 
         b"n 4095, s and d over S, m 1:",
         stored_of(1, 1000000, 1000000, 310720),
     );
-    say_case(b"n 4095, u at U, m 2:", widest_of(2, 9, 9));
-    say_case(b"n 4095, 2047 on an engine, m 2:", widest_of(2, 20479, 10));
-    say_case(b"n 4095, 2048 on an engine, m 2:", widest_of(2, 20480, 10));
-    say_case(b"n 4095, 256 on an engine:", widest_of(16, 2560, 10));
-    say_case(b"n 4095, costs nothing:", widest_of(16, 0, 0));
-    say_case(b"n 63 twice, U 30, m 2:", square(2, 0, 30, 63));
-    say_case(b"n 63 twice, shared, U 90, m 3:", square(3, 1, 90, 63));
-    say_case(b"six types, n 127, m 2:", six_types());
-    say_case(b"n 3 six times:", systems::six_of(16, [3; 6]));
+    say_case(rt, b"n 4095, u at U, m 2:", widest_of(2, 9, 9));
+    say_case(rt, b"n 4095, 2047 on an engine, m 2:", widest_of(2, 20479, 10));
+    say_case(rt, b"n 4095, 2048 on an engine, m 2:", widest_of(2, 20480, 10));
+    say_case(rt, b"n 4095, 256 on an engine:", widest_of(16, 2560, 10));
+    say_case(rt, b"n 4095, costs nothing:", widest_of(16, 0, 0));
+    say_case(rt, b"n 63 twice, U 30, m 2:", square(2, 0, 30, 63));
+    say_case(rt, b"n 63 twice, shared, U 90, m 3:", square(3, 1, 90, 63));
+    say_case(rt, b"six types, n 127, m 2:", six_types());
+    say_case(rt, b"n 3 six times:", systems::six_of(16, [3; 6]));
 }
 
 // 1,024 columns and 16 engines.
-fn say_wide() {
-    say_case(b"n 1023, u over U:", most_of(0, 9, 9, 10, 0, 0));
-    say_case(b"n 1023, s over S, shared:", most_of(1, 9, 9, 0, 10, 0));
-    say_case(b"n 1023, s and d over S:", most_of(1, 9, 9, 0, 5, 5));
-    say_case(b"n 1023, u at U:", most_of(0, 9, 9, 9, 0, 0));
-    say_case(b"n 1023, s and d at S:", most_of(1, 9, 9, 0, 5, 4));
-    say_case(b"n 1023, 60 on an engine:", most_of(0, 600, 9, 10, 0, 0));
-    say_case(b"n 1023, 64 on an engine:", most_of(0, 640, 9, 10, 0, 0));
-    say_case(
+fn say_wide(rt: &HostRuntime) {
+    say_case(rt, b"n 1023, u over U:", most_of(0, 9, 9, 10, 0, 0));
+    say_case(rt, b"n 1023, s over S, shared:", most_of(1, 9, 9, 0, 10, 0));
+    say_case(rt, b"n 1023, s and d over S:", most_of(1, 9, 9, 0, 5, 5));
+    say_case(rt, b"n 1023, u at U:", most_of(0, 9, 9, 9, 0, 0));
+    say_case(rt, b"n 1023, s and d at S:", most_of(1, 9, 9, 0, 5, 4));
+    say_case(rt, b"n 1023, 60 on an engine:", most_of(0, 600, 9, 10, 0, 0));
+    say_case(rt, b"n 1023, 64 on an engine:", most_of(0, 640, 9, 10, 0, 0));
+    say_case(rt, 
         b"n 1023, q 50:",
         systems::with_most(most_of(1, 9, 9, 0, 9, 0), 50),
     );
-    say_case(b"n 1023, costs nothing:", most_of(0, 0, 0, 0, 0, 0));
-    say_case(b"n 31 twice, U 30:", square(16, 0, 30, 31));
-    say_case(b"n 31 twice, shared, U 90:", square(16, 1, 90, 31));
-    say_case(b"n 31 twice, U 6:", square(16, 0, 6, 31));
-    say_case(b"six types, rule 0:", systems::system_full(0));
-    say_case(b"six types, longest:", systems::system_longest(1));
+    say_case(rt, b"n 1023, costs nothing:", most_of(0, 0, 0, 0, 0, 0));
+    say_case(rt, b"n 31 twice, U 30:", square(16, 0, 30, 31));
+    say_case(rt, b"n 31 twice, shared, U 90:", square(16, 1, 90, 31));
+    say_case(rt, b"n 31 twice, U 6:", square(16, 0, 6, 31));
+    say_case(rt, b"six types, rule 0:", systems::system_full(0));
+    say_case(rt, b"six types, longest:", systems::system_longest(1));
 }
 
-pub fn say_cases() {
-    say::say(b"system: right, pairs, bound\n");
-    say_case(b"A:", systems::system_a(3));
-    say_case(b"B, m 3:", systems::system_b(3, 0));
-    say_case(b"B, shared:", systems::system_b(4, 1));
-    say_case(
+pub fn say_cases(rt: &HostRuntime) {
+    say::say(rt, b"system: right, pairs, bound\n");
+    say_case(rt, b"A:", systems::system_a(3));
+    say_case(rt, b"B, m 3:", systems::system_b(3, 0));
+    say_case(rt, b"B, shared:", systems::system_b(4, 1));
+    say_case(rt, 
         b"B, shared, q 1:",
         systems::with_most(systems::system_b(4, 1), 1),
     );
-    say_case(b"all n 0, m 1:", systems::six_of(1, [0; 6]));
-    say_case(b"all n 0, m 16:", systems::six_of(16, [0; 6]));
-    say_wide();
-    say_widest();
+    say_case(rt, b"all n 0, m 1:", systems::six_of(1, [0; 6]));
+    say_case(rt, b"all n 0, m 16:", systems::six_of(16, [0; 6]));
+    say_wide(rt);
+    say_widest(rt);
 }

@@ -42,36 +42,36 @@ fn seven_types() -> [u8; BUFFER_BYTES] {
     bytes
 }
 
-fn say_answer(file: &[u8], rows: usize, predecessors: usize) {
+fn say_answer(rt: &HostRuntime, file: &[u8], rows: usize, predecessors: usize) {
     let f = filled_over(file, parts_after(b"", 7), Lengths(rows, predecessors));
-    say::say_also(f.code);
+    say::say_also(rt, f.code);
 }
 
 // The answers over two long parts, over one of them and none of the other, and over none.
-fn say_answers(bytes: &[u8; BUFFER_BYTES], size: usize) {
+fn say_answers(rt: &HostRuntime, bytes: &[u8; BUFFER_BYTES], size: usize) {
     let file = files::first_of(bytes, size);
-    say_answer(file, LONG, LONG);
-    say_answer(file, 0, LONG);
-    say_answer(file, LONG, 0);
-    say_answer(file, 0, 0);
+    say_answer(rt, file, LONG, LONG);
+    say_answer(rt, file, 0, LONG);
+    say_answer(rt, file, LONG, 0);
+    say_answer(rt, file, 0, 0);
 }
 
-fn say_change(c: Change) {
+fn say_change(rt: &HostRuntime, c: Change) {
     let mut bytes = seven_types();
     let at = c.0;
     if at < BUFFER_BYTES {
         bytes[at] = c.1;
     }
-    say_answers(&bytes, c.2);
+    say_answers(rt, &bytes, c.2);
 }
 
 // A line of all answers for each change.
-pub fn say_changes() {
-    say::say(b"changed:");
+pub fn say_changes(rt: &HostRuntime) {
+    say::say(rt, b"changed:");
     let changes = CHANGES;
     for i in 0..19 {
         let c = changes[i];
-        say_change(c);
+        say_change(rt, c);
     }
-    say::say(b"\n");
+    say::say(rt, b"\n");
 }

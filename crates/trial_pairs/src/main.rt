@@ -10,8 +10,8 @@ mod count;
 mod fills;
 mod spreads;
 
-fn main() {
-    changes::say_changes();
-    cases::say_cases();
-    spreads::say_spreads();
+fn main(rt: HostRuntime) {
+    changes::say_changes(&rt);
+    cases::say_cases(&rt);
+    spreads::say_spreads(&rt);
 }

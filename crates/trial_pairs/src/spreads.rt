@@ -21,10 +21,10 @@ fn plus_if(n: usize, b: bool) -> usize {
     if b { wrapping_add_usize(n, 1) } else { n }
 }
 
-fn with_trial(t: Tally, y: System, other: System) -> Tally {
+fn with_trial(rt: &HostRuntime, t: Tally, y: System, other: System) -> Tally {
     let r = fills::trial_of(y, other);
     if !r.right {
-        say::say_system(b"mismatch:", y);
+        say::say_system(rt, b"mismatch:", y);
     }
     Tally {
         tried: wrapping_add_usize(t.tried, 1),
@@ -38,7 +38,7 @@ fn with_trial(t: Tally, y: System, other: System) -> Tally {
 }
 
 // A line for so many systems of up to 16 engines, drawn one after another.
-fn say_drawn(name: &[u8], number: usize, typecount: usize, most: usize) {
+fn say_drawn(rt: &HostRuntime, name: &[u8], number: usize, typecount: usize, most: usize) {
     let mut t = Tally {
         tried: 0,
         right: 0,
@@ -53,7 +53,7 @@ fn say_drawn(name: &[u8], number: usize, typecount: usize, most: usize) {
     for i in 0..number {
         let d = spread::drawn_system(seed, 16, typecount, most);
         let y = d.system;
-        let next = with_trial(t, y, other);
+        let next = with_trial(rt, t, y, other);
         t = next;
         other = y;
         seed = d.seed;
@@ -61,17 +61,17 @@ fn say_drawn(name: &[u8], number: usize, typecount: usize, most: usize) {
     let row = [
         t.tried, t.right, t.none, t.met, t.least, t.pairs, t.bound, 0, 0, 0, 0, 0,
     ];
-    say::say_row(name, row, 7);
+    say::say_row(rt, name, row, 7);
 }
 
-pub fn say_spreads() {
-    say::say(
+pub fn say_spreads(rt: &HostRuntime) {
+    say::say(rt, 
         b"systems: tried, right, no type fits, at the bound but for column 0, one for a column, pairs, bound\n",
     );
-    say_drawn(b"one type:", 400, 1, 63);
-    say_drawn(b"two types:", 400, 2, 12);
-    say_drawn(b"three types:", 400, 3, 5);
-    say_drawn(b"four types:", 400, 4, 3);
-    say_drawn(b"five types:", 300, 5, 2);
-    say_drawn(b"six types:", 300, 6, 2);
+    say_drawn(rt, b"one type:", 400, 1, 63);
+    say_drawn(rt, b"two types:", 400, 2, 12);
+    say_drawn(rt, b"three types:", 400, 3, 5);
+    say_drawn(rt, b"four types:", 400, 4, 3);
+    say_drawn(rt, b"five types:", 300, 5, 2);
+    say_drawn(rt, b"six types:", 300, 6, 2);
 }

@@ -2,7 +2,7 @@
 use table_code::fill_table;
 use trial::say;
 
-pub fn say_fill(file: &[u8], rows: &mut [u16], predecessors: &mut [u16]) {
+pub fn say_fill(rt: &HostRuntime, file: &[u8], rows: &mut [u16], predecessors: &mut [u16]) {
     let answer = fill_table(file, rows, predecessors);
-    say::say_answer(answer);
+    say::say_answer(rt, answer);
 }

@@ -37,16 +37,16 @@ fn dirt(i: usize, first: u16) -> u16 {
 }
 
 // The call of a case: f for filling, p for a plan, l for a list of calls.
-fn say_call(kind: u8, file: &[u8], text: &[u8], rows: &mut [u16], predecessors: &mut [u16]) {
+fn say_call(rt: &HostRuntime, kind: u8, file: &[u8], text: &[u8], rows: &mut [u16], predecessors: &mut [u16]) {
     match kind {
-        b'f' => fills::say_fill(file, rows, predecessors),
-        b'p' => plans::say_plan(file, text, rows, predecessors),
-        _ => lists::say_list(file, text, rows, predecessors),
+        b'f' => fills::say_fill(rt, file, rows, predecessors),
+        b'p' => plans::say_plan(rt, file, text, rows, predecessors),
+        _ => lists::say_list(rt, file, text, rows, predecessors),
     }
 }
 
 // The same over the first n entries of the predecessor part, or all where it has fewer.
-fn say_front(
+fn say_front(rt: &HostRuntime, 
     kind: u8,
     file: &[u8],
     text: &[u8],
@@ -55,14 +55,14 @@ fn say_front(
     n: usize,
 ) {
     if n < predecessors.len() {
-        say_call(kind, file, text, rows, &mut predecessors[0..n]);
+        say_call(rt, kind, file, text, rows, &mut predecessors[0..n]);
     } else {
-        say_call(kind, file, text, rows, predecessors);
+        say_call(rt, kind, file, text, rows, predecessors);
     }
 }
 
 // The same over the first entries of both parts, or all where they have fewer.
-fn say_fronts(
+fn say_fronts(rt: &HostRuntime, 
     kind: u8,
     file: &[u8],
     text: &[u8],
@@ -72,7 +72,7 @@ fn say_fronts(
 ) {
     let first = n.rows;
     if first < rows.len() {
-        say_front(
+        say_front(rt, 
             kind,
             file,
             text,
@@ -81,17 +81,17 @@ fn say_fronts(
             n.predecessors,
         );
     } else {
-        say_front(kind, file, text, rows, predecessors, n.predecessors);
+        say_front(rt, kind, file, text, rows, predecessors, n.predecessors);
     }
 }
 
 // A case over the first entries of both parts: what its call answers, and then all of both parts, also those entries that were not lent.
-pub fn say_over(kind: u8, file: &[u8], text: &[u8], n: Lengths) {
+pub fn say_over(rt: &HostRuntime, kind: u8, file: &[u8], text: &[u8], n: Lengths) {
     let parts = dirty_parts();
     let mut rows = parts.rows;
     let mut predecessors = parts.predecessors;
-    say_fronts(kind, file, text, &mut rows, &mut predecessors, n);
-    say::say(b"\n");
-    say_part(b"  rows", &rows);
-    say_part(b"  predecessors", &predecessors);
+    say_fronts(rt, kind, file, text, &mut rows, &mut predecessors, n);
+    say::say(rt, b"\n");
+    say_part(rt, b"  rows", &rows);
+    say_part(rt, b"  predecessors", &predecessors);
 }

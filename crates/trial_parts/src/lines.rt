@@ -46,22 +46,22 @@ fn case_at(text: &[u8], at: usize) -> Case {
     }
 }
 
-fn say_case(name: &[u8], text: &[u8], c: Case) {
+fn say_case(rt: &HostRuntime, name: &[u8], text: &[u8], c: Case) {
     let given = c.file;
     let bytes = given.bytes;
     let lent = c.lent;
-    say::say(name);
-    say::say(b":");
-    say_over(c.kind, first_of(&bytes, given.size), text, lent);
+    say::say(rt, name);
+    say::say(rt, b":");
+    say_over(rt, c.kind, first_of(&bytes, given.size), text, lent);
 }
 
 // All cases of the text: there are fewer of them than bytes.
-pub fn say_cases(text: &[u8]) {
+pub fn say_cases(rt: &HostRuntime, text: &[u8]) {
     let mut at: usize = 0;
     for line in 0..text.len() {
         if at < text.len() {
             let c = case_at(text, at);
-            say_case(part(text, at, c.named), part(text, c.start, c.end), c);
+            say_case(rt, part(text, at, c.named), part(text, c.start, c.end), c);
             at = c.next;
         }
     }

@@ -50,7 +50,7 @@ fn called(
 }
 
 // The call of a list at a place, where it has one; the board after it.
-fn say_call(b: Board, list: &[u8], at: usize, rows: &mut [u16], predecessors: &mut [u16]) -> Board {
+fn say_call(rt: &HostRuntime, b: Board, list: &[u8], at: usize, rows: &mut [u16], predecessors: &mut [u16]) -> Board {
     if list.len() <= at {
         return b;
     }
@@ -58,46 +58,46 @@ fn say_call(b: Board, list: &[u8], at: usize, rows: &mut [u16], predecessors: &m
     let e = number_of(byte_of(list, wrapping_add_usize(at, 2)));
     let turn = called(b, byte_of(list, at), t, e, rows, predecessors);
     let answer = turn.answer;
-    say::say_also(code_of(answer));
+    say::say_also(rt, code_of(answer));
     turn.board
 }
 
 // All calls of a list; the board after them.
-fn say_calls(b: Board, list: &[u8], rows: &mut [u16], predecessors: &mut [u16]) -> Board {
+fn say_calls(rt: &HostRuntime, b: Board, list: &[u8], rows: &mut [u16], predecessors: &mut [u16]) -> Board {
     let mut board = b;
     for i in 0..CALLS {
-        let next = say_call(board, list, i * 4, rows, predecessors);
+        let next = say_call(rt, board, list, i * 4, rows, predecessors);
         board = next;
     }
     board
 }
 
 // A word for an engine that is out of service.
-fn say_mark(out: bool) {
+fn say_mark(rt: &HostRuntime, out: bool) {
     if out {
-        say::say(b" out");
+        say::say(rt, b" out");
     }
 }
 
 // The engines of a board.
-fn say_engines(b: Board) {
+fn say_engines(rt: &HostRuntime, b: Board) {
     let y = b.system;
     let loads = b.loads;
     let marks = b.marks;
     for e in 0..ENGINE_LIMIT {
         let l = loads[e];
         if e < y.engines {
-            say::say_load(l, y.typecount);
-            say_mark(marks[e]);
+            say::say_load(rt, l, y.typecount);
+            say_mark(rt, marks[e]);
         }
     }
 }
 
 // The text is the list.
-pub fn say_list(file: &[u8], text: &[u8], rows: &mut [u16], predecessors: &mut [u16]) {
+pub fn say_list(rt: &HostRuntime, file: &[u8], text: &[u8], rows: &mut [u16], predecessors: &mut [u16]) {
     let turn = open_board(file);
     let answer = turn.answer;
-    say::say_also(code_of(answer));
-    let board = say_calls(turn.board, text, rows, predecessors);
-    say_engines(board);
+    say::say_also(rt, code_of(answer));
+    let board = say_calls(rt, turn.board, text, rows, predecessors);
+    say_engines(rt, board);
 }

@@ -6,7 +6,7 @@
 // document 01's rows, each from the one before it. One of the outside cases, `vector-plan-13`, has a tag 7: refused 2 before request 2026-13, and 8 since.
 #![tactic(auto)]
 
-use libc::STDIN_FILENO;
+use trial::input::read_full;
 
 mod fills;
 mod lent;
@@ -15,8 +15,8 @@ mod lists;
 mod plans;
 mod runs;
 
-fn main() {
+fn main(rt: HostRuntime) {
     let mut input = [0u8; lines::TEXT_BYTES];
-    let read = io::read_full(STDIN_FILENO, &mut input);
-    lines::say_cases(&input[..read]);
+    let read = read_full(&rt, &mut input);
+    lines::say_cases(&rt, &input[..read]);
 }

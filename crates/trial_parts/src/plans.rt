@@ -56,25 +56,25 @@ fn old_load(l: EngineLoad) -> bool {
 }
 
 // A record: its number, time, memory and six counts, or `=` where it is as it was.
-fn say_record(r: EngineRecord) {
+fn say_record(rt: &HostRuntime, r: EngineRecord) {
     let load = r.load;
     if (r.number == 77) & old_load(load) {
-        say::say(b" =");
+        say::say(rt, b" =");
         return;
     }
-    say::say_also(r.number);
-    say::say_load(load, TYPE_LIMIT);
+    say::say_also(rt, r.number);
+    say::say_load(rt, load, TYPE_LIMIT);
 }
 
-fn say_records(list: [EngineRecord; MOST]) {
+fn say_records(rt: &HostRuntime, list: [EngineRecord; MOST]) {
     for i in 0..MOST {
         let record = list[i];
-        say_record(record);
+        say_record(rt, record);
     }
 }
 
 // The text is how many records are lent.
-pub fn say_plan(file: &[u8], text: &[u8], rows: &mut [u16], predecessors: &mut [u16]) {
+pub fn say_plan(rt: &HostRuntime, file: &[u8], text: &[u8], rows: &mut [u16], predecessors: &mut [u16]) {
     let room = number_in(text, 0, word_end(text, 0));
     if MOST < room {
         return;
@@ -82,6 +82,6 @@ pub fn say_plan(file: &[u8], text: &[u8], rows: &mut [u16], predecessors: &mut [
     let planned = plan_front(file, rows, predecessors, old_list(), room);
     let answer = planned.answer;
     let list = planned.list;
-    say::say_answer(answer);
-    say_records(list);
+    say::say_answer(rt, answer);
+    say_records(rt, list);
 }

@@ -29,25 +29,25 @@ fn goes_on(r: Run, value: usize) -> bool {
     (level & (value == r.last)) | (rises & (value == wrapping_add_usize(r.last, 1)))
 }
 
-fn say_run(r: Run) {
+fn say_run(rt: &HostRuntime, r: Run) {
     if SHOWN <= r.before {
         return;
     }
-    say::say_also(r.first);
+    say::say_also(rt, r.first);
     if r.length == 1 {
         return;
     }
     if r.first == r.last {
-        say::say(b"x");
-        say::say_number(r.length);
+        say::say(rt, b"x");
+        say::say_number(rt, r.length);
     } else {
-        say::say(b"..");
-        say::say_number(r.last);
+        say::say(rt, b"..");
+        say::say_number(rt, r.last);
     }
 }
 
 // The run with an entry more, or a new one where it does not go on; the old one is then printed.
-fn with_entry(r: Run, entry: u16) -> Run {
+fn with_entry(rt: &HostRuntime, r: Run, entry: u16) -> Run {
     let value = wide(entry);
     let mut next = r;
     next.number = mixed(r.number, entry);
@@ -56,7 +56,7 @@ fn with_entry(r: Run, entry: u16) -> Run {
         next.length = wrapping_add_usize(r.length, 1);
         return next;
     }
-    say_run(r);
+    say_run(rt, r);
     next.first = value;
     next.length = 1;
     next.before = wrapping_add_usize(r.before, 1);
@@ -76,16 +76,16 @@ fn run_of(entry: u16) -> Run {
 }
 
 // A line for a part: its first runs, how many there are, and the number of all its entries.
-pub fn say_part(name: &[u8], part: &[u16; LONG]) {
-    say::say(name);
+pub fn say_part(rt: &HostRuntime, name: &[u8], part: &[u16; LONG]) {
+    say::say(rt, name);
     let mut run = run_of(part[0]);
     for i in 1..LONG {
-        let next = with_entry(run, part[i]);
+        let next = with_entry(rt, run, part[i]);
         run = next;
     }
-    say_run(run);
-    say::say(b" |");
-    say::say_also(wrapping_add_usize(run.before, 1));
-    say::say_also(run.number);
-    say::say(b"\n");
+    say_run(rt, run);
+    say::say(rt, b" |");
+    say::say_also(rt, wrapping_add_usize(run.before, 1));
+    say::say_also(rt, run.number);
+    say::say(rt, b"\n");
 }

@@ -9,7 +9,7 @@ mod cases;
 mod right;
 mod spreads;
 
-fn main() {
-    cases::say_cases();
-    spreads::say_spreads();
+fn main(rt: HostRuntime) {
+    cases::say_cases(&rt);
+    spreads::say_spreads(&rt);
 }

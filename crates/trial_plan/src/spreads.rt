@@ -20,14 +20,14 @@ fn one_if(b: bool) -> usize {
 }
 
 // One system more.
-fn tried(t: Tally, y: System, cells: bool) -> Tally {
+fn tried(rt: &HostRuntime, t: Tally, y: System, cells: bool) -> Tally {
     let want = recovery::recovered(y, recovery::ceilings_of(y));
     let columns = recovery::columns_of(y);
     let fills = !cells || right_fill(y, columns);
     let plans = right_long(y, want, columns, cells) & right_short(y, columns, cells);
     let right = fills & plans & right_list(y, want);
     if !right {
-        say::say_system(b"mismatch:", y);
+        say::say_system(rt, b"mismatch:", y);
     }
     Tally {
         tried: wrapping_add_usize(t.tried, 1),
@@ -45,9 +45,9 @@ fn no_tally() -> Tally {
 }
 
 // A line of a spread: the systems tried, planned, refused 12 and answered wrongly.
-fn say_tally(name: &[u8], t: Tally) {
+fn say_tally(rt: &HostRuntime, name: &[u8], t: Tally) {
     let refused = wrapping_sub_usize(t.tried, t.planned);
-    say::say_row(
+    say::say_row(rt, 
         name,
         [t.tried, t.planned, refused, t.wrong, 0, 0, 0, 0, 0, 0, 0, 0],
         4,
@@ -73,24 +73,24 @@ fn one_type(code: usize) -> System {
 }
 
 // All of them, with every cell of one in 64.
-fn one_types() -> Tally {
+fn one_types(rt: &HostRuntime) -> Tally {
     let mut t = no_tally();
     for code in 0..72030 {
-        let next = tried(t, one_type(code), code % 64 == 0);
+        let next = tried(rt, t, one_type(code), code % 64 == 0);
         t = next;
     }
     t
 }
 
 // So many systems drawn one after another, with every cell of one in 16.
-fn drawn(seed: u64, number: usize, engines: usize, typecount: usize, most: usize) -> Tally {
+fn drawn(rt: &HostRuntime, seed: u64, number: usize, engines: usize, typecount: usize, most: usize) -> Tally {
     let mut t = no_tally();
     let mut at = seed;
     let mut i: usize = 0;
     while i < number {
         let d = spread::drawn_system(at, engines, typecount, most);
         let y = d.system;
-        let next = tried(t, y, i % 16 == 0);
+        let next = tried(rt, t, y, i % 16 == 0);
         t = next;
         at = d.seed;
         i += 1;
@@ -98,11 +98,11 @@ fn drawn(seed: u64, number: usize, engines: usize, typecount: usize, most: usize
     t
 }
 
-pub fn say_spreads() {
-    say::say(b"systems: tried, planned, refused 12, mismatches\n");
-    say_tally(b"one type:", one_types());
-    say_tally(b"two types:", drawn(1, 1500, 3, 2, 3));
-    say_tally(b"three types:", drawn(2, 1500, 3, 3, 2));
-    say_tally(b"four types:", drawn(3, 300, 4, 4, 2));
-    say_tally(b"six types:", drawn(4, 500, 3, 6, 1));
+pub fn say_spreads(rt: &HostRuntime) {
+    say::say(rt, b"systems: tried, planned, refused 12, mismatches\n");
+    say_tally(rt, b"one type:", one_types(rt));
+    say_tally(rt, b"two types:", drawn(rt, 1, 1500, 3, 2, 3));
+    say_tally(rt, b"three types:", drawn(rt, 2, 1500, 3, 3, 2));
+    say_tally(rt, b"four types:", drawn(rt, 3, 300, 4, 4, 2));
+    say_tally(rt, b"six types:", drawn(rt, 4, 500, 3, 6, 1));
 }

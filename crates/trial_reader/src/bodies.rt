@@ -7,20 +7,20 @@ use trial::words::{after, byte_of, part};
 // The bytes of the longest body that is written out.
 const SHOWN_BYTES: usize = 64;
 
-fn say_digit(n: usize) {
-    say(part(b"0123456789abcdef", n, after(n)));
+fn say_digit(rt: &HostRuntime, n: usize) {
+    say(rt, part(b"0123456789abcdef", n, after(n)));
 }
 
-fn say_byte(byte: u8) {
+fn say_byte(rt: &HostRuntime, byte: u8) {
     let n = byte as usize;
-    say_digit(n / 16);
-    say_digit(n % 16);
+    say_digit(rt, n / 16);
+    say_digit(rt, n % 16);
 }
 
 // All bytes, two digits for each.
-fn say_bytes(bytes: &[u8]) {
+fn say_bytes(rt: &HostRuntime, bytes: &[u8]) {
     for i in 0..bytes.len() {
-        say_byte(byte_of(bytes, i));
+        say_byte(rt, byte_of(bytes, i));
     }
 }
 
@@ -42,19 +42,19 @@ fn sum_by_place(bytes: &[u8]) -> usize {
 }
 
 // A body's bytes, nothing where it has none.
-pub fn say_body(body: &[u8]) {
+pub fn say_body(rt: &HostRuntime, body: &[u8]) {
     let size = body.len();
     if size == 0 {
         return;
     }
-    say(b" bytes ");
+    say(rt, b" bytes ");
     if size <= SHOWN_BYTES {
-        say_bytes(body);
+        say_bytes(rt, body);
         return;
     }
-    say_bytes(part(body, 0, 4));
-    say(b"..");
-    say_bytes(part(body, size - 4, size));
-    say(b" sum");
-    say_also(sum_by_place(body));
+    say_bytes(rt, part(body, 0, 4));
+    say(rt, b"..");
+    say_bytes(rt, part(body, size - 4, size));
+    say(rt, b" sum");
+    say_also(rt, sum_by_place(body));
 }

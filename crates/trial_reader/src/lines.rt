@@ -58,13 +58,13 @@ fn case_at(text: &[u8], start: usize) -> Case {
 }
 
 // All cases of the text: there are fewer of them than bytes.
-pub fn say_cases(text: &[u8]) {
+pub fn say_cases(rt: &HostRuntime, text: &[u8]) {
     let mut at: usize = 0;
     for line in 0..text.len() {
         if at < text.len() {
             let c = case_at(text, at);
             let file = c.file;
-            show(part(text, at, c.named), file);
+            show(rt, part(text, at, c.named), file);
             at = c.next;
         }
     }

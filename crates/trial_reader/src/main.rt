@@ -5,18 +5,18 @@
 // computed apart from the code.
 #![tactic(auto)]
 
-use libc::STDIN_FILENO;
+use trial::input::read_full;
 
 mod bodies;
 mod lines;
 mod show;
 mod steps;
 
-fn main() {
+fn main(rt: HostRuntime) {
     let mut input = [0u8; lines::TEXT_BYTES];
-    let read = io::read_full(STDIN_FILENO, &mut input);
-    lines::say_cases(&input[..read]);
-    steps::steps();
-    steps::long_steps();
-    steps::longest_steps();
+    let read = read_full(&rt, &mut input);
+    lines::say_cases(&rt, &input[..read]);
+    steps::steps(&rt);
+    steps::long_steps(&rt);
+    steps::longest_steps(&rt);
 }

@@ -10,40 +10,40 @@ use trial::say::{say, say_also};
 const FILE_BYTES: usize = 65543;
 
 // A word and a number.
-fn say_named(word: &[u8], n: usize) {
-    say(word);
-    say_also(n);
+fn say_named(rt: &HostRuntime, word: &[u8], n: usize) {
+    say(rt, word);
+    say_also(rt, n);
 }
 
 // The field step at a place: the tag, the length, the next place, and the part of the file that is handed on.
-fn step(name: &[u8], file: &[u8], at: usize) {
+fn step(rt: &HostRuntime, name: &[u8], file: &[u8], at: usize) {
     let c = Cursor { at };
     let next = system_code::next_at(file, c);
     let body = system_code::body_at(file, c);
-    say(name);
-    say_named(b" tag", system_code::tag_at(file, c) as usize);
-    say_named(b" length", system_code::length_at(file, c) as usize);
-    say_named(b" next", next.at);
-    say_named(b" body", body.len());
-    say_body(body);
-    say(b"\n");
+    say(rt, name);
+    say_named(rt, b" tag", system_code::tag_at(file, c) as usize);
+    say_named(rt, b" length", system_code::length_at(file, c) as usize);
+    say_named(rt, b" next", next.at);
+    say_named(rt, b" body", body.len());
+    say_body(rt, body);
+    say(rt, b"\n");
 }
 
 // Two fields, of 40 bytes, more than any field of a system file has, and of none, then the start of one; and places between them, where other bytes
 // are taken for a head.
-pub fn steps() {
+pub fn steps(rt: &HostRuntime) {
     let file = b"\x01\x00\x28a field whose body has just forty bytes.\x09\x00\x00\x02\x00\x05\xCC";
-    step(b"step-at-0", file, 0);
-    step(b"step-at-1", file, 1);
-    step(b"step-at-43", file, 43);
-    step(b"step-at-44", file, 44);
-    step(b"step-at-46", file, 46);
-    step(b"step-at-47", file, 47);
-    step(b"step-at-48", file, 48);
-    step(b"step-at-49", file, 49);
-    step(b"step-at-the-end", file, 50);
-    step(b"step-after-the-end", file, 51);
-    step(b"step-past-the-end", file, 18446744073709551615);
+    step(rt, b"step-at-0", file, 0);
+    step(rt, b"step-at-1", file, 1);
+    step(rt, b"step-at-43", file, 43);
+    step(rt, b"step-at-44", file, 44);
+    step(rt, b"step-at-46", file, 46);
+    step(rt, b"step-at-47", file, 47);
+    step(rt, b"step-at-48", file, 48);
+    step(rt, b"step-at-49", file, 49);
+    step(rt, b"step-at-the-end", file, 50);
+    step(rt, b"step-after-the-end", file, 51);
+    step(rt, b"step-past-the-end", file, 18446744073709551615);
 }
 
 // A file whose bytes differ from place to place: each is 7 more than the one before it, at every 256th place 8 more, from 255 on to 0 again. So no
@@ -59,7 +59,7 @@ fn varied() -> [u8; FILE_BYTES] {
 
 // A field of 300 bytes, whose length takes both of its bytes, 1 and 44, and one of 2 after it; then the long field alone, the same one byte short,
 // and with 44 bytes of its body.
-pub fn long_steps() {
+pub fn long_steps(rt: &HostRuntime) {
     let mut all = varied();
     all[0] = 6;
     all[1] = 1;
@@ -68,17 +68,17 @@ pub fn long_steps() {
     all[304] = 0;
     all[305] = 2;
     let file = first_of(&all, 308);
-    step(b"long-at-0", file, 0);
-    step(b"long-at-303", file, 303);
-    step(b"long-alone", first_of(file, 303), 0);
-    step(b"long-cut-by-one", first_of(file, 302), 0);
-    step(b"long-cut-after-44", first_of(file, 47), 0);
+    step(rt, b"long-at-0", file, 0);
+    step(rt, b"long-at-303", file, 303);
+    step(rt, b"long-alone", first_of(file, 303), 0);
+    step(rt, b"long-cut-by-one", first_of(file, 302), 0);
+    step(rt, b"long-cut-after-44", first_of(file, 47), 0);
 }
 
 // A field of 65,535 bytes and one of 2 after it; the long field alone, and one byte short; and at place 5, within it, the head of another of 65,535,
 // which ends where the
 // file does, and one byte short.
-pub fn longest_steps() {
+pub fn longest_steps(rt: &HostRuntime) {
     let mut file = varied();
     file[0] = 7;
     file[1] = 255;
@@ -89,10 +89,10 @@ pub fn longest_steps() {
     file[65538] = 9;
     file[65539] = 0;
     file[65540] = 2;
-    step(b"longest-at-0", &file, 0);
-    step(b"longest-at-65538", &file, 65538);
-    step(b"longest-alone", first_of(&file, 65538), 0);
-    step(b"longest-cut-by-one", first_of(&file, 65537), 0);
-    step(b"longest-at-5", &file, 5);
-    step(b"longest-at-5-cut-by-one", first_of(&file, 65542), 5);
+    step(rt, b"longest-at-0", &file, 0);
+    step(rt, b"longest-at-65538", &file, 65538);
+    step(rt, b"longest-alone", first_of(&file, 65538), 0);
+    step(rt, b"longest-cut-by-one", first_of(&file, 65537), 0);
+    step(rt, b"longest-at-5", &file, 5);
+    step(rt, b"longest-at-5-cut-by-one", first_of(&file, 65542), 5);
 }

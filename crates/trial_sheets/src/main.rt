@@ -6,14 +6,14 @@
 // apart from the code, by a model of documents 01 and 02.
 #![tactic(auto)]
 
-use libc::STDIN_FILENO;
+use trial::input::read_full;
 
 mod calls;
 mod lines;
 mod text;
 
-fn main() {
+fn main(rt: HostRuntime) {
     let mut input = [0u8; text::TEXT_BYTES];
-    let read = io::read_full(STDIN_FILENO, &mut input);
-    lines::say_cases(&input[..read]);
+    let read = read_full(&rt, &mut input);
+    lines::say_cases(&rt, &input[..read]);
 }

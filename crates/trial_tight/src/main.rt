@@ -6,7 +6,7 @@
 #![tactic(auto)]
 
 use buffer::put_bytes;
-use libc::STDIN_FILENO;
+use trial::input::read_full;
 use system::FILE_BYTES;
 use tightness_code::{tight_of, tight_read};
 use trial::files::first_of;
@@ -36,46 +36,46 @@ fn case_at(text: &[u8], start: usize) -> Case {
 }
 
 // The line of a whole file.
-fn say_whole(file: Bytes) {
+fn say_whole(rt: &HostRuntime, file: Bytes) {
     let bytes = file.bytes;
     let mut out = io::buffer();
     let written = tight_of(first_of(&bytes, file.size), &mut out);
-    say(&out[..written]);
+    say(rt, &out[..written]);
 }
 
 // The line of what the program reads of it.
-fn say_read(bytes: [u8; CASE_BYTES], size: usize) {
+fn say_read(rt: &HostRuntime, bytes: [u8; CASE_BYTES], size: usize) {
     let mut front = [0u8; FILE_BYTES];
     put_bytes(&mut front, 0, &bytes[..FILE_BYTES]);
     let mut out = io::buffer();
     let written = tight_read(front, size, &mut out);
-    say(&out[..written]);
+    say(rt, &out[..written]);
 }
 
-fn say_case(name: &[u8], file: Bytes) {
-    say(name);
-    say(b": ");
-    say_whole(file);
-    say(b" read: ");
+fn say_case(rt: &HostRuntime, name: &[u8], file: Bytes) {
+    say(rt, name);
+    say(rt, b": ");
+    say_whole(rt, file);
+    say(rt, b" read: ");
     let bytes = file.bytes;
-    say_read(bytes, file.size);
+    say_read(rt, bytes, file.size);
 }
 
 // All cases of the text: there are fewer of them than bytes.
-fn say_cases(text: &[u8]) {
+fn say_cases(rt: &HostRuntime, text: &[u8]) {
     let mut at: usize = 0;
     for line in 0..text.len() {
         if at < text.len() {
             let c = case_at(text, at);
             let file = c.file;
-            say_case(part(text, at, c.named), file);
+            say_case(rt, part(text, at, c.named), file);
             at = c.next;
         }
     }
 }
 
-fn main() {
+fn main(rt: HostRuntime) {
     let mut input = [0u8; TEXT_BYTES];
-    let read = io::read_full(STDIN_FILENO, &mut input);
-    say_cases(&input[..read]);
+    let read = read_full(&rt, &mut input);
+    say_cases(&rt, &input[..read]);
 }

@@ -65,22 +65,22 @@ fn all_refuse(b: Board) -> bool {
 }
 
 // Whether the board is called true.
-fn say_truth(b: Board) {
+fn say_truth(rt: &HostRuntime, b: Board) {
     if board_code::true_board(b) {
-        say::say(b" true");
+        say::say(rt, b" true");
     } else {
-        say::say(b" untrue");
+        say::say(rt, b" untrue");
     }
 }
 
-pub fn say_board(name: &[u8], b: Board) {
-    say::say(name);
-    say::say(b":");
-    say_truth(b);
+pub fn say_board(rt: &HostRuntime, name: &[u8], b: Board) {
+    say::say(rt, name);
+    say::say(rt, b":");
+    say_truth(rt, b);
     if all_refuse(b) {
-        say::say(b" refused 20\n");
+        say::say(rt, b" refused 20\n");
     } else {
-        say::say(b" NOT REFUSED 20\n");
+        say::say(rt, b" NOT REFUSED 20\n");
     }
 }
 
@@ -100,26 +100,26 @@ fn none_numbered(b: Board, n: usize) -> bool {
 }
 
 // Numbers that are 1 in 8, in 16 and in 32 bits.
-fn say_wide(b: Board) {
+fn say_wide(rt: &HostRuntime, b: Board) {
     if none_numbered(b, 257) & none_numbered(b, 65537) & none_numbered(b, 4294967297) {
-        say::say(b" wide 13 14");
+        say::say(rt, b" wide 13 14");
     } else {
-        say::say(b" WIDE NUMBER TAKEN");
+        say::say(rt, b" WIDE NUMBER TAKEN");
     }
 }
 
 // What withdraw and restore answer for engine 1.
-fn say_moves(b: Board) {
+fn say_moves(rt: &HostRuntime, b: Board) {
     let withdrawn = board_code::withdraw(b, 1);
     let restored = board_code::restore(b, 1);
     let first = withdrawn.answer;
     let second = restored.answer;
-    say::say_answer(first);
-    say::say_answer(second);
+    say::say_answer(rt, first);
+    say::say_answer(rt, second);
 }
 
 // The six answers on a board that is true, and to numbers far past its types and engines.
-pub fn say_true(name: &[u8], b: Board) {
+pub fn say_true(rt: &HostRuntime, name: &[u8], b: Board) {
     let mut rows: [u16; COLUMN_LIMIT] = [9; COLUMN_LIMIT];
     let mut predecessors: [u16; COLUMN_LIMIT] = [8; COLUMN_LIMIT];
     let admitted = board_code::admit(b, 1, &mut rows, &mut predecessors);
@@ -130,13 +130,13 @@ pub fn say_true(name: &[u8], b: Board) {
     let second = seated.answer;
     let third = repacked.answer;
     let fourth = retired.answer;
-    say::say(name);
-    say_truth(b);
-    say::say_answer(first);
-    say::say_answer(second);
-    say::say_answer(third);
-    say::say_answer(fourth);
-    say_moves(b);
-    say_wide(b);
-    say::say(b"\n");
+    say::say(rt, name);
+    say_truth(rt, b);
+    say::say_answer(rt, first);
+    say::say_answer(rt, second);
+    say::say_answer(rt, third);
+    say::say_answer(rt, fourth);
+    say_moves(rt, b);
+    say_wide(rt, b);
+    say::say(rt, b"\n");
 }

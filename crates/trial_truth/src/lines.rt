@@ -44,22 +44,22 @@ fn case_at(text: &[u8], at: usize) -> Case {
     }
 }
 
-fn say_case(name: &[u8], c: Case) {
+fn say_case(rt: &HostRuntime, name: &[u8], c: Case) {
     let b = c.board;
     if c.sound {
-        calls::say_true(name, b);
+        calls::say_true(rt, name, b);
     } else {
-        calls::say_board(name, b);
+        calls::say_board(rt, name, b);
     }
 }
 
 // All cases of the text: there are fewer of them than bytes.
-pub fn say_cases(text: &[u8]) {
+pub fn say_cases(rt: &HostRuntime, text: &[u8]) {
     let mut at: usize = 0;
     for line in 0..text.len() {
         if at < text.len() {
             let c = case_at(text, at);
-            say_case(part(text, c.start, c.end), c);
+            say_case(rt, part(text, c.start, c.end), c);
             at = c.next;
         }
     }

@@ -7,14 +7,14 @@
 // board on each line of standard input, so that a board more costs no proof; a line for each board.
 #![tactic(auto)]
 
-use libc::STDIN_FILENO;
+use trial::input::read_full;
 
 mod boards;
 mod calls;
 mod lines;
 
-fn main() {
+fn main(rt: HostRuntime) {
     let mut input = [0u8; lines::TEXT_BYTES];
-    let read = io::read_full(STDIN_FILENO, &mut input);
-    lines::say_cases(&input[..read]);
+    let read = read_full(&rt, &mut input);
+    lines::say_cases(&rt, &input[..read]);
 }

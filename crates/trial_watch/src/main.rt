@@ -12,7 +12,7 @@
 ghost use Rattle.timeline.specs.Meaning.{WatchPromises, ReadPromises};
 
 use buffer::{put_byte, put_bytes, put_four};
-use libc::STDIN_FILENO;
+use trial::input::read_full;
 use system::FILE_BYTES;
 use timeline_code::{WATCH_BYTES, WATCH_FRONT, watch_of, watch_read};
 use trial::files::first_of;
@@ -118,44 +118,44 @@ fn kept_from(out: &[u8; WATCH_BYTES], start: usize) -> bool {
 }
 
 // Whether all bytes past those written are as they were.
-fn say_rest(out: &[u8; WATCH_BYTES], written: usize) {
+fn say_rest(rt: &HostRuntime, out: &[u8; WATCH_BYTES], written: usize) {
     if kept_from(out, written) {
-        say(b" kept");
+        say(rt, b" kept");
     } else {
-        say(b" CHANGED");
+        say(rt, b" CHANGED");
     }
 }
 
 // Whether what the program reads has this text.
-fn say_read(front: [u8; WATCH_FRONT], size: usize, text: &[u8]) {
+fn say_read(rt: &HostRuntime, front: [u8; WATCH_FRONT], size: usize, text: &[u8]) {
     let mut out: [u8; WATCH_BYTES] = [OLD; WATCH_BYTES];
     let written = read_promised(front, size, &mut out);
     if same(text, &out[..written]) {
-        say(b" read: same");
+        say(rt, b" read: same");
     } else {
-        say(b" read: other");
+        say(rt, b" read: other");
     }
-    say_rest(&out, written);
+    say_rest(rt, &out, written);
 }
 
 // The text of the first bytes of an input.
-fn say_cut(front: [u8; WATCH_FRONT], size: usize) {
+fn say_cut(rt: &HostRuntime, front: [u8; WATCH_FRONT], size: usize) {
     let mut out: [u8; WATCH_BYTES] = [OLD; WATCH_BYTES];
     let written = read_promised(front, size, &mut out);
-    say(&out[..written]);
-    say(b" read: cut");
-    say_rest(&out, written);
-    say(b"\n");
+    say(rt, &out[..written]);
+    say(rt, b" read: cut");
+    say_rest(rt, &out, written);
+    say(rt, b"\n");
 }
 
-fn say_case(name: &[u8], c: Case) {
-    say(name);
-    say(b":\n");
+fn say_case(rt: &HostRuntime, name: &[u8], c: Case) {
+    say(rt, name);
+    say(rt, b":\n");
     let file = c.file;
     let bytes = file.bytes;
     let front = front_of(c.engine, c.ticks, c.from, bytes);
     if c.cut {
-        say_cut(front, c.size);
+        say_cut(rt, front, c.size);
         return;
     }
     let mut out: [u8; WATCH_BYTES] = [OLD; WATCH_BYTES];
@@ -167,26 +167,26 @@ fn say_case(name: &[u8], c: Case) {
         &mut out,
     );
     let text = &out[..written];
-    say(text);
-    say_read(front, file.size % 4096 + 9, text);
-    say_rest(&out, written);
-    say(b"\n");
+    say(rt, text);
+    say_read(rt, front, file.size % 4096 + 9, text);
+    say_rest(rt, &out, written);
+    say(rt, b"\n");
 }
 
 // All cases of the text: there are fewer of them than bytes.
-fn say_cases(text: &[u8]) {
+fn say_cases(rt: &HostRuntime, text: &[u8]) {
     let mut at: usize = 0;
     for line in 0..text.len() {
         if at < text.len() {
             let c = case_at(text, at);
-            say_case(part(text, at, c.named), c);
+            say_case(rt, part(text, at, c.named), c);
             at = c.next;
         }
     }
 }
 
-fn main() {
+fn main(rt: HostRuntime) {
     let mut input = [0u8; TEXT_BYTES];
-    let read = io::read_full(STDIN_FILENO, &mut input);
-    say_cases(&input[..read]);
+    let read = read_full(&rt, &mut input);
+    say_cases(&rt, &input[..read]);
 }

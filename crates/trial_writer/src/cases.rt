@@ -69,51 +69,51 @@ fn case_at(text: &[u8], at: usize) -> Case {
 }
 
 // What follows the name.
-fn say_kind(kind: u8, y: System, number: usize) {
+fn say_kind(rt: &HostRuntime, kind: u8, y: System, number: usize) {
     let t = wrapping_sub_usize(number, 1);
     match kind {
-        b't' => say::say(b"\n"),
-        b'c' => lines::say_call(y, BUFFER_BYTES),
-        b's' => lines::say_call(y, 12),
-        b'd' => lines::say_five(y, b'd', t, DATA),
-        b'q' => lines::say_five(y, b'q', t, MOSTS),
-        b'C' => lines::say_five(y, b'R', t, TICKS),
-        b'T' => lines::say_five(y, b'P', t, TICKS),
-        b'f' => lines::say_file(y),
-        b'z' => lines::say_zero(zeros::with_zero(files::file_of(y), y, t)),
-        b'e' => lines::say_zero(zeros::with_zeros(y)),
-        b'b' => lines::say_whole(zeros::with_zeros(y)),
-        b'r' => lines::say_room(y, number),
-        _ => lines::say_again(zeros::with_zeros(y)),
+        b't' => say::say(rt, b"\n"),
+        b'c' => lines::say_call(rt, y, BUFFER_BYTES),
+        b's' => lines::say_call(rt, y, 12),
+        b'd' => lines::say_five(rt, y, b'd', t, DATA),
+        b'q' => lines::say_five(rt, y, b'q', t, MOSTS),
+        b'C' => lines::say_five(rt, y, b'R', t, TICKS),
+        b'T' => lines::say_five(rt, y, b'P', t, TICKS),
+        b'f' => lines::say_file(rt, y),
+        b'z' => lines::say_zero(rt, zeros::with_zero(files::file_of(y), y, t)),
+        b'e' => lines::say_zero(rt, zeros::with_zeros(y)),
+        b'b' => lines::say_whole(rt, zeros::with_zeros(y)),
+        b'r' => lines::say_room(rt, y, number),
+        _ => lines::say_again(rt, zeros::with_zeros(y)),
     }
 }
 
 // A case; answers how many calls were wrong, of those that are counted.
-fn say_case(name: &[u8], c: Case) -> usize {
+fn say_case(rt: &HostRuntime, name: &[u8], c: Case) -> usize {
     let kind = c.kind;
     let y = c.system;
     if kind == b'l' {
-        return sweeps::say_lengths(name, y);
+        return sweeps::say_lengths(rt, name, y);
     }
     if kind == b'm' {
-        return sweeps::say_longer(name, y);
+        return sweeps::say_longer(rt, name, y);
     }
     if kind == b'n' {
-        return sweeps::say_longest(name, y);
+        return sweeps::say_longest(rt, name, y);
     }
-    say::say(name);
-    say_kind(kind, y, c.number);
+    say::say(rt, name);
+    say_kind(rt, kind, y, c.number);
     0
 }
 
 // All cases of the text: there are fewer of them than bytes.
-pub fn say_cases(text: &[u8]) -> usize {
+pub fn say_cases(rt: &HostRuntime, text: &[u8]) -> usize {
     let mut at: usize = 0;
     let mut wrong: usize = 0;
     for line in 0..text.len() {
         if at < text.len() {
             let c = case_at(text, at);
-            wrong = wrapping_add_usize(wrong, say_case(part(text, c.start, c.end), c));
+            wrong = wrapping_add_usize(wrong, say_case(rt, part(text, c.start, c.end), c));
             at = c.next;
         }
     }

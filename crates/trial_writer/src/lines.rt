@@ -7,94 +7,94 @@ use trial::changes::with_number;
 use trial::files::File;
 use trial::{files, say};
 
-fn say_refusal(r: Refusal) {
+fn say_refusal(rt: &HostRuntime, r: Refusal) {
     match r {
-        Refusal::Input(n) => say::say_also(n as usize),
+        Refusal::Input(n) => say::say_also(rt, n as usize),
         Refusal::State(n) => {
-            say::say_also(n as usize);
-            say::say(b" from the state");
+            say::say_also(rt, n as usize);
+            say::say(rt, b" from the state");
         }
     }
 }
 
-fn say_answer(a: Answer) {
+fn say_answer(rt: &HostRuntime, a: Answer) {
     match a {
-        Answer::Accepted => say::say(b" accepted"),
+        Answer::Accepted => say::say(rt, b" accepted"),
         Answer::Number(n) => {
-            say::say(b" written");
-            say::say_also(n);
+            say::say(rt, b" written");
+            say::say_also(rt, n);
         }
         Answer::Refused(r) => {
-            say::say(b" refused");
-            say_refusal(r);
+            say::say(rt, b" refused");
+            say_refusal(rt, r);
         }
     }
 }
 
 // What was answered, and that the buffer or a round trip is wrong where it is.
-pub fn say_judged(y: System, room: usize) {
+pub fn say_judged(rt: &HostRuntime, y: System, room: usize) {
     let c = lent::called(y, room, 33);
     let answer = c.answer;
-    say_answer(answer);
+    say_answer(rt, answer);
     if !rounds::right(y, room) {
-        say::say(b" wrong");
+        say::say(rt, b" wrong");
     }
 }
 
 // The end of a line.
-pub fn say_call(y: System, room: usize) {
-    say_judged(y, room);
-    say::say(b"\n");
+pub fn say_call(rt: &HostRuntime, y: System, room: usize) {
+    say_judged(rt, y, room);
+    say::say(rt, b"\n");
 }
 
 // The same for five numbers in one place of the type at index t.
-pub fn say_five(y: System, what: u8, t: usize, numbers: [usize; 5]) {
+pub fn say_five(rt: &HostRuntime, y: System, what: u8, t: usize, numbers: [usize; 5]) {
     for i in 0..5 {
         let n = numbers[i];
-        say_judged(with_number(y, what, t, n), BUFFER_BYTES);
+        say_judged(rt, with_number(y, what, t, n), BUFFER_BYTES);
     }
-    say::say(b"\n");
+    say::say(rt, b"\n");
 }
 
-fn say_byte(b: u8) {
-    say::say_also(b as usize);
+fn say_byte(rt: &HostRuntime, b: u8) {
+    say::say_also(rt, b as usize);
 }
 
 // The bytes of a file as they stand in the buffer, up to the answer's number.
-fn say_bytes(bytes: [u8; BUFFER_BYTES], n: usize) {
+fn say_bytes(rt: &HostRuntime, bytes: [u8; BUFFER_BYTES], n: usize) {
     for i in 0..BUFFER_BYTES {
         if i < n {
-            say_byte(bytes[i]);
+            say_byte(rt, bytes[i]);
         }
     }
-    say::say(b"\n");
+    say::say(rt, b"\n");
 }
 
-pub fn say_whole(f: File) {
+pub fn say_whole(rt: &HostRuntime, f: File) {
     let bytes = f.bytes;
-    say_bytes(bytes, f.size);
+    say_bytes(rt, bytes, f.size);
 }
 
-pub fn say_file(y: System) {
+pub fn say_file(rt: &HostRuntime, y: System) {
     let c = lent::called(y, BUFFER_BYTES, 33);
     let answer = c.answer;
     let bytes = c.bytes;
-    say_answer(answer);
+    say_answer(rt, answer);
     if let Answer::Number(n) = answer {
-        say_bytes(bytes, n);
+        say_bytes(rt, bytes, n);
     }
 }
 
 // The same of a buffer of so many bytes, judged; the bytes where it is written, and the end of a line in every case.
-pub fn say_room(y: System, room: usize) {
+pub fn say_room(rt: &HostRuntime, y: System, room: usize) {
     let c = lent::called(y, room, 33);
     let answer = c.answer;
     let bytes = c.bytes;
-    say_judged(y, room);
+    say_judged(rt, y, room);
     if let Answer::Number(n) = answer {
-        say_bytes(bytes, n);
+        say_bytes(rt, bytes, n);
     } else {
-        say::say(b"\n");
+        say::say(rt, b"\n");
     }
 }
 
@@ -106,13 +106,13 @@ fn system_of(f: File) -> System {
 }
 
 // A file with a tag 3 of d 0: how long it is, and how long the one is that is written for what was read.
-pub fn say_zero(f: File) {
-    say::say_also(f.size);
-    say::say(b" bytes,");
-    say_call(system_of(f), BUFFER_BYTES);
+pub fn say_zero(rt: &HostRuntime, f: File) {
+    say::say_also(rt, f.size);
+    say::say(rt, b" bytes,");
+    say_call(rt, system_of(f), BUFFER_BYTES);
 }
 
 // The bytes that are written for what such a file reads as.
-pub fn say_again(f: File) {
-    say_file(system_of(f));
+pub fn say_again(rt: &HostRuntime, f: File) {
+    say_file(rt, system_of(f));
 }

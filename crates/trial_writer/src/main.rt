@@ -5,7 +5,7 @@
 // the bytes without it. What is expected was computed apart from the code.
 #![tactic(auto)]
 
-use libc::STDIN_FILENO;
+use trial::input::read_full;
 
 mod cases;
 mod drawn;
@@ -17,9 +17,9 @@ mod rounds;
 mod sweeps;
 mod zeros;
 
-fn main() {
+fn main(rt: HostRuntime) {
     let mut input = [0u8; cases::TEXT_BYTES];
-    let read = io::read_full(STDIN_FILENO, &mut input);
-    let wrong = cases::say_cases(&input[..read]);
-    sweeps::say_sweeps(wrong);
+    let read = read_full(&rt, &mut input);
+    let wrong = cases::say_cases(&rt, &input[..read]);
+    sweeps::say_sweeps(&rt, wrong);
 }

@@ -49,34 +49,34 @@ fn counted(t: Tally, place: usize) -> Tally {
     next
 }
 
-fn mismatch(t: Tally, y: System, room: usize) -> Tally {
-    say::say_count(b"mismatch: buffer", room);
-    say::say_count(b"types", y.typecount);
-    say::say_system(b"system", y);
+fn mismatch(rt: &HostRuntime, t: Tally, y: System, room: usize) -> Tally {
+    say::say_count(rt, b"mismatch: buffer", room);
+    say::say_count(rt, b"types", y.typecount);
+    say::say_system(rt, b"system", y);
     let mut next = t;
     next.wrong = wrapping_add_usize(t.wrong, 1);
     next
 }
 
 // One call, with its round trips.
-fn judged(t: Tally, y: System, room: usize) -> Tally {
+fn judged(rt: &HostRuntime, t: Tally, y: System, room: usize) -> Tally {
     let c = lent::called(y, room, 61);
     let answer = c.answer;
     let next = counted(t, place_of(answer));
     if rounds::right(y, room) {
         return next;
     }
-    mismatch(next, y, room)
+    mismatch(rt, next, y, room)
 }
 
 // Buffers of every length from 0 on, fewer than `end` and than 309: the longest file of one kind of engine without a C and T has 163 bytes, of two 241, and
 // with them
 // 229 and 307.
-fn lengths(y: System, end: usize) -> Tally {
+fn lengths(rt: &HostRuntime, y: System, end: usize) -> Tally {
     let mut all = no_tally();
     for room in 0..309usize {
         if room < end {
-            let next = judged(all, y, room);
+            let next = judged(rt, all, y, room);
             all = next;
         }
     }
@@ -97,80 +97,80 @@ fn first_run(seed: u64) -> Run {
     }
 }
 
-fn next_edges(r: Run) -> Run {
+fn next_edges(rt: &HostRuntime, r: Run) -> Run {
     let d = drawn_edges(r.seed);
     let y = d.system;
     let tally = r.tally;
     Run {
         seed: d.seed,
-        tally: judged(tally, y, d.room),
+        tally: judged(rt, tally, y, d.room),
     }
 }
 
 // Systems drawn at the ends of the limits.
-fn edges() -> Tally {
+fn edges(rt: &HostRuntime) -> Tally {
     let mut r = first_run(1);
     for i in 0..20000usize {
-        let next = next_edges(r);
+        let next = next_edges(rt, r);
         r = next;
     }
     r.tally
 }
 
 // The same with two kinds of engine, or only a part of them.
-fn next_kinds(r: Run) -> Run {
+fn next_kinds(rt: &HostRuntime, r: Run) -> Run {
     let d = drawn_kinds(r.seed);
     let y = d.system;
     let tally = r.tally;
     Run {
         seed: d.seed,
-        tally: judged(tally, y, d.room),
+        tally: judged(rt, tally, y, d.room),
     }
 }
 
-fn kinds() -> Tally {
+fn kinds(rt: &HostRuntime) -> Tally {
     let mut r = first_run(3);
     for i in 0..10000usize {
-        let next = next_kinds(r);
+        let next = next_kinds(rt, r);
         r = next;
     }
     r.tally
 }
 
 // The same with a C and T for some types, of one kind of engine and of two.
-fn next_paces(r: Run) -> Run {
+fn next_paces(rt: &HostRuntime, r: Run) -> Run {
     let d = drawn_paces(r.seed);
     let y = d.system;
     let tally = r.tally;
     Run {
         seed: d.seed,
-        tally: judged(tally, y, d.room),
+        tally: judged(rt, tally, y, d.room),
     }
 }
 
-fn paces() -> Tally {
+fn paces(rt: &HostRuntime) -> Tally {
     let mut r = first_run(5);
     for i in 0..10000usize {
-        let next = next_paces(r);
+        let next = next_paces(rt, r);
         r = next;
     }
     r.tally
 }
 
-fn next_both(r: Run) -> Run {
+fn next_both(rt: &HostRuntime, r: Run) -> Run {
     let d = drawn_both(r.seed);
     let y = d.system;
     let tally = r.tally;
     Run {
         seed: d.seed,
-        tally: judged(tally, y, d.room),
+        tally: judged(rt, tally, y, d.room),
     }
 }
 
-fn both() -> Tally {
+fn both(rt: &HostRuntime) -> Tally {
     let mut r = first_run(6);
     for i in 0..10000usize {
-        let next = next_both(r);
+        let next = next_both(rt, r);
         r = next;
     }
     r.tally
@@ -188,89 +188,89 @@ fn most_of(k: usize) -> usize {
     }
 }
 
-fn next_drawn(r: Run, k: usize) -> Run {
+fn next_drawn(rt: &HostRuntime, r: Run, k: usize) -> Run {
     let d = spread::drawn_system(r.seed, 16, k, most_of(k));
     let y = d.system;
     let tally = r.tally;
     Run {
         seed: d.seed,
-        tally: judged(tally, y, BUFFER_BYTES),
+        tally: judged(rt, tally, y, BUFFER_BYTES),
     }
 }
 
 // Systems of 1 to 6 types in turn, drawn by crate `trial`.
-fn drawn() -> Tally {
+fn drawn(rt: &HostRuntime) -> Tally {
     let mut r = first_run(2);
     for i in 0..6000usize {
-        let next = next_drawn(r, i % 6 + 1);
+        let next = next_drawn(rt, r, i % 6 + 1);
         r = next;
     }
     r.tally
 }
 
-fn next_mixed(r: Run, k: usize) -> Run {
+fn next_mixed(rt: &HostRuntime, r: Run, k: usize) -> Run {
     let d = spread::drawn_mixed(r.seed, 16, k, most_of(k));
     let y = d.system;
     let tally = r.tally;
     Run {
         seed: d.seed,
-        tally: judged(tally, y, BUFFER_BYTES),
+        tally: judged(rt, tally, y, BUFFER_BYTES),
     }
 }
 
 // The same of two kinds.
-fn mixed() -> Tally {
+fn mixed(rt: &HostRuntime) -> Tally {
     let mut r = first_run(4);
     for i in 0..3000usize {
-        let next = next_mixed(r, i % 6 + 1);
+        let next = next_mixed(rt, r, i % 6 + 1);
         r = next;
     }
     r.tally
 }
 
 // A line for some calls; answers how many of them were wrong.
-fn say_tally(name: &[u8], t: Tally) -> usize {
+fn say_tally(rt: &HostRuntime, name: &[u8], t: Tally) -> usize {
     let row = t.answers;
-    say::say_row(name, row, 10);
+    say::say_row(rt, name, row, 10);
     t.wrong
 }
 
 // The same with the number of those refused 41.
-fn say_kinds(name: &[u8], t: Tally) -> usize {
+fn say_kinds(rt: &HostRuntime, name: &[u8], t: Tally) -> usize {
     let row = t.answers;
-    say::say_row(name, row, 11);
+    say::say_row(rt, name, row, 11);
     t.wrong
 }
 
 // The same with the number of those refused 43.
-fn say_paces(name: &[u8], t: Tally) -> usize {
+fn say_paces(rt: &HostRuntime, name: &[u8], t: Tally) -> usize {
     let row = t.answers;
-    say::say_row(name, row, 12);
+    say::say_row(rt, name, row, 12);
     t.wrong
 }
 
-pub fn say_lengths(name: &[u8], y: System) -> usize {
-    say_tally(name, lengths(y, 165))
+pub fn say_lengths(rt: &HostRuntime, name: &[u8], y: System) -> usize {
+    say_tally(rt, name, lengths(rt, y, 165))
 }
 
-pub fn say_longer(name: &[u8], y: System) -> usize {
-    say_kinds(name, lengths(y, 243))
+pub fn say_longer(rt: &HostRuntime, name: &[u8], y: System) -> usize {
+    say_kinds(rt, name, lengths(rt, y, 243))
 }
 
-pub fn say_longest(name: &[u8], y: System) -> usize {
-    say_paces(name, lengths(y, 309))
+pub fn say_longest(rt: &HostRuntime, name: &[u8], y: System) -> usize {
+    say_paces(rt, name, lengths(rt, y, 309))
 }
 
 // The drawn systems, and how many calls were wrong, among them and before them.
-pub fn say_sweeps(wrong: usize) {
-    let ends = wrapping_add_usize(wrong, say_tally(b"ends of the limits:", edges()));
-    let one = wrapping_add_usize(ends, say_tally(b"drawn:", drawn()));
-    let paired = wrapping_add_usize(one, say_kinds(b"ends of the limits, two kinds:", kinds()));
-    let mixes = wrapping_add_usize(paired, say_kinds(b"drawn, two kinds:", mixed()));
-    let run = wrapping_add_usize(mixes, say_paces(b"ends of the limits, C and T:", paces()));
+pub fn say_sweeps(rt: &HostRuntime, wrong: usize) {
+    let ends = wrapping_add_usize(wrong, say_tally(rt, b"ends of the limits:", edges(rt)));
+    let one = wrapping_add_usize(ends, say_tally(rt, b"drawn:", drawn(rt)));
+    let paired = wrapping_add_usize(one, say_kinds(rt, b"ends of the limits, two kinds:", kinds(rt)));
+    let mixes = wrapping_add_usize(paired, say_kinds(rt, b"drawn, two kinds:", mixed(rt)));
+    let run = wrapping_add_usize(mixes, say_paces(rt, b"ends of the limits, C and T:", paces(rt)));
     let all = wrapping_add_usize(
         run,
-        say_paces(b"ends of the limits, two kinds, C and T:", both()),
+        say_paces(rt, b"ends of the limits, two kinds, C and T:", both(rt)),
     );
-    say::say_count(b"mismatches", all);
+    say::say_count(rt, b"mismatches", all);
 }

@@ -4,14 +4,13 @@
 #![tactic(auto)]
 
 use front::read_watched;
-use libc::STDOUT_FILENO;
 use timeline_code::WATCH_BYTES;
 
 // What was read is enough: what `watch_read` promises it promises of every input that begins with what was read.
-fn main() {
-    let front = read_watched();
+fn main(rt: HostRuntime) -> std::io::Result<()> {
+    let front = read_watched(&rt);
     let bytes = front.bytes;
     let mut out = [0u8; WATCH_BYTES];
     let written = timeline_code::watch_read(bytes, front.read, &mut out);
-    io::write_all(STDOUT_FILENO, &out[..written]);
+    rt.write_all(&out[..written])
 }
