@@ -10,4 +10,4 @@ pub returns : goal.returns
 returns c =
     let e = c.arrived-here.ensures in
     let f = c.chosen-at.ensures ∙ ap (λ (l : List Job). chosen l) e in
-    (e, (f, c.worked_at-next.ensures ∙ rw (e, f)))
+    record { here_value = e; at_value = f; next_value = c.worked_at-next.ensures ∙ rw (e, f) }
