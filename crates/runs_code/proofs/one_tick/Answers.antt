@@ -1,9 +1,8 @@
 -- The three steps' contracts, one after the other.
 use mathlib.Core.Path.{ap, ◌∙◌}
 use mathlib.Core.List.{List}
-use borrow.Author.Rules.{rules}
 use Rattle.runs.specs.declared.Job.{Job}
-use Rattle.runs.specs.Run.{arrived, chosen}
+use Rattle.runs.specs.Run.{chosen}
 use Rattle.runs_code.proofs.one_tick.Goals as goal
 
 pub returns : goal.returns

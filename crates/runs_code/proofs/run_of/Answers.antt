@@ -1,10 +1,9 @@
 -- `run_of`: the answers.
 use borrow.Author.Rules.{rules}
-use Prim.Native.Nat.{◌+◌, ◌-◌, ◌*◌, ◌≤◌, ◌<◌}
+use Prim.Native.Nat.{◌-◌, ◌≤◌, ◌<◌}
 use mathlib.Core.Path.{◌≡◌, sym, ap, ◌∙◌}
 use mathlib.Core.List.{List}
 use mathlib.Core.Bool.{Bool, true, false, cond, not, ◌&&◌}
-use mathlib.Core.Logic.{⊎_elim}
 use native.Mathlib.Omega.{arith}
 use lib.ListN.{length, take}
 use Rattle.runs.specs.declared.Job.{Job}
@@ -44,14 +43,14 @@ seen c b t =
     let p : 1 ≤ w.i = omega arith in
     let n = sym c.late_job.ensures ∙ c.if-late_job.false in
     elim c.if-j-now.branch [
-      then-j-now v ↦
-        rw (v.state-is, v.j-is)
-        (mid-arrived a.ticks a.count whole (omega arith) w.state w.idle w.now w.i w.best w.due w.invariant h p
-        v.fresh_job-j.result n v.if-j-now.true v.fresh_job-j.ensures b (rw v.j-is at t))
+      | then-j-now v ↦
+          rw (v.state-is, v.j-is)
+          (mid-arrived a.ticks a.count whole (omega arith) w.state w.idle w.now w.i w.best w.due w.invariant h p
+          v.fresh_job-j.result n v.if-j-now.true v.fresh_job-j.ensures b (rw v.j-is at t))
       | else-j-now v ↦
-        rw (v.state-is, v.j-is)
-        (mid-stays a.ticks a.count whole (omega arith) w.state w.idle w.now w.i w.best w.due w.invariant h p
-        n v.if-j-now.false b (rw v.j-is at t))
+          rw (v.state-is, v.j-is)
+          (mid-stays a.ticks a.count whole (omega arith) w.state w.idle w.now w.i w.best w.due w.invariant h p
+          n v.if-j-now.false b (rw v.j-is at t))
     ]
 
 pub loop-now-preserved-then-takes : goal.loop-now-preserved-then-takes
@@ -75,14 +74,14 @@ loop-now-preserved c =
     let z : w.i ≡ 0 = omega arith in
     let e = c.idle_at-idle in
     elim c.if-best-count.branch [
-      then-best-count v ↦
-        rw (v.state-is, v.worked_job.ensures)
-        (mid-worked a.ticks a.count whole (omega arith) w.state w.idle w.now w.i w.best w.due w.invariant h z
-        e.result e.ensures.0 e.ensures.1 v.if-best-count.true)
+      | then-best-count v ↦
+          rw (v.state-is, v.worked_job.ensures)
+          (mid-worked a.ticks a.count whole (omega arith) w.state w.idle w.now w.i w.best w.due w.invariant h z
+          e.result e.ensures.0 e.ensures.1 v.if-best-count.true)
       | else-best-count v ↦
-        rw v.state-is
-        (mid-idle a.ticks a.count whole (omega arith) w.state w.idle w.now w.i w.best w.due w.invariant h z
-        e.result e.ensures.0 e.ensures.1 v.if-best-count.false)
+          rw v.state-is
+          (mid-idle a.ticks a.count whole (omega arith) w.state w.idle w.now w.i w.best w.due w.invariant h z
+          e.result e.ensures.0 e.ensures.1 v.if-best-count.false)
     ]
 
 pub returns : goal.returns
