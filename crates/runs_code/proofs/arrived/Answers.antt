@@ -1,11 +1,11 @@
 -- `arrived`: the answers.
 use borrow.Author.Rules.{rules}
-use Prim.Native.Nat.{◌+◌, ◌-◌, ◌≤◌}
+use Prim.Native.Nat.{◌+◌}
 use mathlib.Core.Path.{◌≡◌, sym, ap, ◌∙◌}
 use lib.ListN.{length, set, take, length-set}
 use native.Mathlib.Omega.{arith}
 use Rattle.runs.specs.declared.Job.{Job}
-use Rattle.runs.specs.Run.{job_limit, arrived}
+use Rattle.runs.specs.Run.{job_limit}
 use Rattle.runs.proofs.Steps.{arrived-none, arrived-turn}
 use Rattle.runs_code.proofs.arrived.Goals as goal
 

@@ -1,6 +1,5 @@
 -- Each way out is one case of the definition.
 use mathlib.Core.Path.{◌∙◌}
-use borrow.Author.Rules.{rules}
 use borrow.Author.Tests.{eq-eqb, ne_eqb}
 use Rattle.runs_code.proofs.arrived_job.Goals as goal
 

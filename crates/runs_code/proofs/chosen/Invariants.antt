@@ -1,13 +1,8 @@
 -- The loop's invariant: the best so far is the choice among the jobs from `i` on.
-use borrow.Author.Rules.{rules}
-use Prim.Native.Nat.{◌+◌, ◌-◌, ◌≤◌, ◌<◌}
-use mathlib.Core.Path.{◌≡◌, refl, sym, ◌∙◌}
-use mathlib.Core.Bool.{true, false, not, ◌&&◌}
-use native.Mathlib.Nat.{zero-add}
-use native.Mathlib.Omega.{arith}
-use lib.ListN.{length, get_or, take, drop}
-use Rattle.runs.specs.Run.{job_limit, no_job, pending, due_before, chosen}
-use Rattle.runs.proofs.Steps.{choice-start, choice-turn}
+use Prim.Native.Nat.{◌+◌, ◌≤◌, ◌<◌}
+use mathlib.Core.Path.{◌≡◌}
+use lib.ListN.{get_or, take, drop}
+use Rattle.runs.specs.Run.{no_job, chosen}
 use Rattle.runs_code.proofs.chosen.Given as goal
 
 abbrev pub invariant-loop-i : goal.invariant-loop-i

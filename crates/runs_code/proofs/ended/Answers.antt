@@ -1,6 +1,5 @@
 -- Each way out is one case of the definition.
 use mathlib.Core.Path.{◌∙◌}
-use borrow.Author.Rules.{rules}
 use Rattle.runs.specs.Run.{run_from}
 use Rattle.runs_code.proofs.ended.Goals as goal
 

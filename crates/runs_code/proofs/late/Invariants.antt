@@ -1,11 +1,8 @@
 -- The loop's invariant: found, exactly when one of the jobs passed is late.
-use borrow.Author.Rules.{rules}
-use Prim.Native.Nat.{ℕ, ◌-◌, ◌≤◌}
-use mathlib.Core.Path.{◌≡◌, sym, ap, ◌∙◌}
-use lib.ListN.{length, take}
-use native.Mathlib.Omega.{arith}
-use Rattle.runs.specs.Run.{job_limit, late}
-use Rattle.runs.proofs.Steps.{late-none, late-turn}
+use Prim.Native.Nat.{◌-◌, ◌≤◌}
+use mathlib.Core.Path.{◌≡◌}
+use lib.ListN.{take}
+use Rattle.runs.specs.Run.{late}
 use Rattle.runs_code.proofs.late.Given as goal
 
 abbrev pub invariant-loop-i : goal.invariant-loop-i

@@ -1,16 +1,9 @@
 -- The loop's invariant holds in the middle of a tick (Passes): the jobs from place `i` on have been seen, and the run from here on reports what the
 -- whole run does. Each turn sees a job, or ends a tick.
-use borrow.Author.Rules.{rules}
-use Prim.Native.Nat.{◌+◌, ◌-◌, ◌*◌, ◌≤◌, ◌<◌}
-use mathlib.Core.Path.{◌≡◌, sym, ap, ◌∙◌}
-use mathlib.Core.List.{List}
-use mathlib.Core.Bool.{Bool, true, false, cond, not, ◌&&◌}
-use mathlib.Core.Logic.{⊎_elim}
-use native.Mathlib.Omega.{arith}
-use lib.ListN.{length, take}
-use Rattle.runs.specs.declared.Job.{Job}
-use Rattle.runs.specs.Run.{job_limit, pending, due_before, run_from}
-use Rattle.runs_code.proofs.Passes.{Midway, tick-less, mid_start, mid-late, mid-arrived, mid-stays, mid-worked, mid-idle, mid-over}
+use Prim.Native.Nat.{◌+◌, ◌-◌, ◌*◌}
+use lib.ListN.{take}
+use Rattle.runs.specs.Run.{run_from}
+use Rattle.runs_code.proofs.Passes.{Midway}
 use Rattle.runs_code.proofs.run_of.Given as goal
 
 abbrev pub invariant-loop-now : goal.invariant-loop-now

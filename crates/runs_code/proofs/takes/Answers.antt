@@ -1,5 +1,4 @@
 -- The two parts of the test.
-use borrow.Author.Rules.{rules}
 use Rattle.runs_code.proofs.takes.Goals as goal
 
 pub returns : goal.returns

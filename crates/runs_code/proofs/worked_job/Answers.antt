@@ -1,5 +1,4 @@
 -- A job with nothing left keeps nothing left.
-use borrow.Author.Rules.{rules}
 use Prim.Native.Nat.{ℕ, ◌-◌}
 use mathlib.Core.Path.{◌≡◌, ap}
 use Rattle.runs.specs.Run.{job_of}
