@@ -114,14 +114,14 @@ module _ (b : Board) (w : IsTrue b) (table01 : List ℕ) where
     admit-01 table r m = record {
       tight = ((λ o. let p = (m.tight below).0 o in (p.0, room.0 p.1)), (λ p. (m.tight below).1 (p.0, room.1 p.1)));
       no_room = (
-        (λ o. ((λ e takes. false≢true (sym (ap is_accepted o) ∙ (m.admits below).1 (e, takes))), no_room.0 ((m.no_room below).0 o))),
-        (λ p. (m.no_room below).1 (no_room.1 p.1)),
+        (λ o. ((λ e takes. false≢true (sym (ap is_accepted o) ∙ (m.admits below).1 (e, takes))), no_room_lem.0 ((m.no_room below).0 o))),
+        (λ p. (m.no_room below).1 (no_room_lem.1 p.1)),
       );
     }
 
     seat-01 : (table : Lent) (r : Result) → LongEnough y table → (is_accepted r.outcome ≡ true → r.table ≡ filled_to y (serving_all b) table) → SeatMeans b t table r → SeatBy01 b t table01 r
     seat-01 table r long left m = record {
-      none = ((λ o. no_room.0 ((m.no_room below).0 o)), (λ n. (m.no_room below).1 (no_room.1 n)));
+      none = ((λ o. no_room_lem.0 ((m.no_room below).0 o)), (λ n. (m.no_room below).1 (no_room_lem.1 n)));
       some = λ n. m.answer ((m.seats below).1 (room.1 n));
       given = λ o.
           let yes-said = ap is_accepted o in

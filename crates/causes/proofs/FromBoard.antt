@@ -163,10 +163,10 @@ module _ (b : Board) (t : ℕ) (table : Lent) where
 
     module _ (other : Lent) (room : LongEnough b.system other) (gives : Result) where
       admit-refused : AdmitPromises b t other gives → (gives.outcome ≡ refused from_state 24) ↔ (room_cause b t table ≡ accepted (0 ∷ []) → ⊥)
-      admit-refused p = let said = (p.means w room).no_room below in ((λ e. no_room.0 (said.0 e)), (λ h. said.1 (no_room.1 h)))
+      admit-refused p = let said = (p.means w room).no_room below in ((λ e. no_room_lem.0 (said.0 e)), (λ h. said.1 (no_room_lem.1 h)))
 
       seat-refused : SeatPromises b t other gives → (gives.outcome ≡ refused from_state 24) ↔ (room_cause b t table ≡ accepted (0 ∷ []) → ⊥)
-      seat-refused p = let said = (p.means w room).no_room below in ((λ e. no_room.0 (said.0 e)), (λ h. said.1 (no_room.1 h)))
+      seat-refused p = let said = (p.means w room).no_room below in ((λ e. no_room_lem.0 (said.0 e)), (λ h. said.1 (no_room_lem.1 h)))
 
   -- main: any board
 

@@ -57,6 +57,9 @@ wanted-below [] [] [] l b = none
 wanted-below [] [] (s ∷ ss) l b = absurd (omega arith)
 wanted-below [] (x ∷ xs) [] l b = absurd (omega arith)
 wanted-below (a ∷ rest) (x ∷ xs) (s ∷ ss) l (more h r) = more {x = a - x} {y = s} (omega arith) (wanted-below rest xs ss (suc_inj l) r)
+wanted-below [] (x ∷ xs) (s ∷ ss) l b = elim b [ ]
+wanted-below (a ∷ rest) [] s l b = elim b [ ]
+wanted-below (a ∷ rest) (x ∷ xs) [] l b = elim b [ ]
 
 below-zero : {a z : List ℕ} (k : ℕ) → z ≡ replicate k 0 → Below a z → replicate k 0 ≡ a
 below-zero {a} {z} k e b = go k a (subst (Below a) e b)
@@ -64,6 +67,8 @@ below-zero {a} {z} k e b = go k a (subst (Below a) e b)
     go : (k : ℕ) (a : List ℕ) → Below a (replicate k 0) → replicate k 0 ≡ a
     go zero [] none = refl
     go (suc k) (a ∷ rest) (more h r) = cons-path (omega arith) (go k rest r)
+    go zero (a ∷ rest) x'' = elim x'' [ ]
+    go (suc k) [] x3 = elim x3 [ ]
 
 -- as many loads, of which each fits and all make up the part
 pub record Cut (fits : List ℕ → Bool) (k n : ℕ) (a : List ℕ) : Type 0 where

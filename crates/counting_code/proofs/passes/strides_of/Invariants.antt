@@ -1,0 +1,25 @@
+-- The loop's invariant: the strides up to the type are made, and the stride at hand is that of the type.
+use Prim.Native.Nat.{ℕ, suc, ◌+◌, ◌-◌, ◌*◌, ◌≤◌, ◌<◌}
+use mathlib.Core.Path.{◌≡◌, refl, sym, ap, ◌∙◌}
+use native.Mathlib.Nat.{le_trans}
+use native.Mathlib.Numerals.{add-one}
+use native.Mathlib.Omega.{arith}
+use borrow.Author.Rules.{rules}
+use lib.ListN.{length, get_or, length-set}
+use Rattle.system.specs.Limits.{column_limit}
+use Rattle.system.proofs.Laws.{limits_of}
+use Rattle.loads.proofs.Steps.{ceilings}
+use Rattle.counting.specs.Tally.{stride_at}
+use Rattle.counting.proofs.Strides.{stride_at-zero, stride_at-suc, stride_at-le}
+use Rattle.counting.proofs.Turns.{set-turn, ceiling-at}
+use Rattle.counting_code.proofs.passes.strides_of.Given as goal
+
+abbrev pub invariant-loop-t : goal.invariant-loop-t
+invariant-loop-t l =
+    (l.t ≤ 6)
+    × (length l.strides ≡ 6)
+    × (l.stride ≡ stride_at (ceilings l.types) l.t)
+    × ((i : ℕ) → i < l.t → get_or l.strides i 0 ≡ stride_at (ceilings l.types) i)
+
+abbrev pub decreases-loop-t : goal.decreases-loop-t
+decreases-loop-t l = 6 - l.t

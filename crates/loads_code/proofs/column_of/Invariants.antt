@@ -1,0 +1,24 @@
+-- The loop's invariant: what was summed and the column of what is left make the column; the stride times the columns left are the columns.
+use Prim.Native.Nat.{ℕ, ◌+◌, ◌-◌, ◌*◌, ◌^◌, ◌≤◌}
+use mathlib.Core.Path.{◌≡◌}
+use mathlib.Core.List.{List}
+use lib.ListN.{length, drop}
+use native.Mathlib.Nat.{zero-add, mul-le-mul, mul_assoc, le-mul_of_pos_right}
+use native.Mathlib.Omega.{arith}
+use Rattle.system.specs.declared.TaskType.{TaskType}
+use Rattle.system.specs.Limits.{type_limit, columns_of, column_limit}
+use Rattle.loads.specs.Column.{column_from, column_of}
+use Rattle.system.proofs.Laws.{columns_of-pos}
+use Rattle.loads.proofs.Steps.{length-mapped, ceilings, column-turn, column-end, columns-turn}
+use borrow.Author.Rules.{rules}
+use Rattle.loads_code.proofs.column_of.Given as goal
+
+abbrev pub invariant-loop-i : goal.invariant-loop-i
+invariant-loop-i l =
+    (l.i ≤ type_limit)
+    × (l.column ≤ l.i * (2 ^ 16 * column_limit))
+    × (l.stride * columns_of (ceilings (drop l.i l.types)) ≡ columns_of (ceilings l.types))
+    × (l.column + column_from l.stride (ceilings (drop l.i l.types)) (drop l.i l.counts) ≡ column_of (ceilings l.types) l.counts)
+
+abbrev pub decreases-loop-i : goal.decreases-loop-i
+decreases-loop-i l = type_limit - l.i

@@ -1,0 +1,17 @@
+-- The loop's invariant: the differences made, followed by those of the counts left, are the difference.
+use Prim.Native.Nat.{◌-◌, ◌≤◌}
+use mathlib.Core.Path.{◌≡◌, refl, sym, ◌∙◌}
+use mathlib.Core.List.{◌++◌}
+use lib.ListN.{length, take, drop, length-set}
+use native.Mathlib.Omega.{arith}
+use Rattle.system.specs.Limits.{type_limit}
+use Rattle.loads.specs.Load.{less}
+use Rattle.loads.proofs.Steps.{less-turn, less-end, filled-turn, filled-end}
+use borrow.Author.Rules.{rules}
+use Rattle.loads_code.proofs.minus.Given as goal
+
+abbrev pub invariant-loop-i : goal.invariant-loop-i
+invariant-loop-i l = (l.i ≤ type_limit) × (length l.left ≡ type_limit) × (take l.i l.left ++ less (drop l.i l.x) (drop l.i l.y) ≡ less l.x l.y)
+
+abbrev pub decreases-loop-i : goal.decreases-loop-i
+decreases-loop-i l = type_limit - l.i

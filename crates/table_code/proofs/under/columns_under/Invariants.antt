@@ -1,0 +1,16 @@
+-- The loop's invariant: the product so far times that of the counts from t on is the product of all.
+use Prim.Native.Nat.{◌+◌, ◌-◌, ◌*◌, ◌≤◌, ◌<◌}
+use mathlib.Core.Path.{◌≡◌, sym, ◌∙◌}
+use native.Mathlib.Nat.{one-mul, mul-one, le_trans}
+use native.Mathlib.Omega.{arith}
+use borrow.Author.Rules.{rules}
+use lib.ListN.{length, get_or, drop, drop_of_length-le}
+use Rattle.system.specs.Limits.{columns_of, column_limit}
+use Rattle.table.proofs.Stepping.{next-stride, next-stride-le}
+use Rattle.table_code.proofs.under.columns_under.Given as goal
+
+abbrev pub invariant-loop-t : goal.invariant-loop-t
+invariant-loop-t l = (l.t ≤ 6) × (length l.load ≡ 6) × (l.columns * columns_of (drop l.t l.load) ≡ columns_of l.load)
+
+abbrev pub decreases-loop-t : goal.decreases-loop-t
+decreases-loop-t l = 6 - l.t

@@ -1,0 +1,25 @@
+-- The loop's invariant: the jumps made, followed by those of the types left, are the jumps; the stride times the columns left are the columns.
+use Prim.Native.Nat.{◌+◌, ◌-◌, ◌*◌, ◌≤◌, ◌<◌}
+use mathlib.Core.Path.{◌≡◌, refl, sym, ◌∙◌}
+use mathlib.Core.List.{◌++◌}
+use native.Mathlib.Nat.{one-mul, le_trans}
+use native.Mathlib.Omega.{arith}
+use borrow.Author.Rules.{rules}
+use lib.ListN.{length, get_or, take, drop, length-set}
+use Rattle.system.specs.Limits.{columns_of, column_limit}
+use Rattle.loads.proofs.Order.{within→below}
+use Rattle.loads.proofs.Steps.{filled-turn, filled-end}
+use Rattle.table.specs.Under.{jumps_from}
+use Rattle.table.proofs.Stepping.{jumps-turn, jumps-end, next-stride, next-stride-le, next-passed}
+use Rattle.table_code.proofs.under.jumps_of.Given as goal
+
+abbrev pub invariant-loop-t : goal.invariant-loop-t
+invariant-loop-t l =
+    (l.t ≤ 6)
+    × (length l.jumps ≡ 6)
+    × (l.passed < l.stride)
+    × (l.stride * columns_of (drop l.t l.ceilings) ≡ columns_of l.ceilings)
+    × (take l.t l.jumps ++ jumps_from l.stride l.passed (drop l.t l.ceilings) (drop l.t l.tops) ≡ jumps_from 1 0 l.ceilings l.tops)
+
+abbrev pub decreases-loop-t : goal.decreases-loop-t
+decreases-loop-t l = 6 - l.t

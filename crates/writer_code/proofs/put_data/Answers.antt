@@ -1,0 +1,39 @@
+-- `put_data`: nothing for a d of 0; else the head, then d.
+use Prim.Native.Nat.{◌≤◌}
+use native.Mathlib.Omega.{arith}
+use lib.ListN.{length}
+use borrow.Author.Rules.{rules}
+use borrow.Author.Tests.{eq-eqb, ne_eqb}
+use Rattle.system.specs.Rules.{rule_of}
+use Rattle.buffer.proofs.Laws.{puts_then, puts_none}
+use Rattle.writer.specs.File.{field_bytes}
+use Rattle.writer.proofs.Bytes.{data-some}
+use Rattle.writer_code.proofs.put_data.Goals as goal
+
+pub returns-then-d-eq0 : goal.returns-then-d-eq0
+returns-then-d-eq0 c =
+    let args = c.args in
+    rw (eq-eqb args.d 0 c.if-d-eq0.true) (puts_none args.at args.out.now)
+
+pub put_head-headed-requires : goal.put_head-headed-requires
+put_head-headed-requires c =
+    let start = c in
+    omega (arith, start.requires, data-some start.args.d c.if-d-eq0.false)
+
+pub put_four-requires : goal.put_four-requires
+unfolding rule_of
+put_four-requires c =
+    let headed = c in
+    let tested = headed in
+    let start = tested in
+    omega (arith, start.requires, data-some start.args.d tested.if-d-eq0.false, headed.put_head-headed.ensures.next, headed.put_head-headed.auto.0)
+
+pub returns : goal.returns
+unfolding field_bytes rule_of
+returns c =
+    let given = c in
+    let headed = given in
+    let tested = headed in
+    let start = tested in
+    let room : start.args.at ≤ length start.args.out.now = omega (arith, start.requires) in
+    rw (ne_eqb start.args.d 0 tested.if-d-eq0.false) (puts_then room headed.put_head-headed.ensures given.put_four.ensures)

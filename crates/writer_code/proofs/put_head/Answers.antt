@@ -1,0 +1,30 @@
+-- `put_head`: what the table has for the tag picks the case; the tag, then the length of the body, which is short.
+use Prim.Native.Nat.{◌≤◌}
+use native.Mathlib.Omega.{arith}
+use lib.ListN.{length}
+use borrow.Author.Rules.{rules}
+use Rattle.buffer.proofs.Laws.{puts_then, puts_none}
+use Rattle.writer_code.proofs.Steps.{body-short}
+use Rattle.writer_code.proofs.put_head.Goals as goal
+
+pub returns-in_default : goal.returns-in_default
+returns-in_default c =
+    let args = c.args in
+    let found = c.rule_of-found.ensures in
+    rw (← found, c.in_default.is) (puts_none args.at args.out.now)
+
+pub overflow_cast-rule : goal.overflow_cast-rule
+overflow_cast-rule c =
+    let head = c in
+    let start = head in
+    let short = body-short start.args.tag head.rule_of-found.ensures head.in-Known.is in
+    record { fits = short }
+
+pub returns : goal.returns
+returns c =
+    let sized = c in
+    let tagged = sized in
+    let head = tagged in
+    let start = head in
+    let room : start.args.at ≤ length start.args.out.now = omega (arith, start.requires) in
+    rw (← head.rule_of-found.ensures, head.in-Known.is) (puts_then room tagged.put_byte-next.ensures sized.put_two.ensures)
