@@ -1,7 +1,7 @@
 -- The round trip: the loads that are taken from the bytes of loads are these loads, where no engine past m holds anything, an engine that holds no instance is idle, and no type past k has a count.
 -- No bound on the numbers is needed: their bytes read back as them.
 use Prim.Native.Nat.{ℕ, zero, suc, ◌+◌, ◌*◌, ◌/◌, ◌%◌, ◌≤◌, ◌<◌}
-use mathlib.Core.Path.{◌≡◌, refl, sym, ap, ap₂, ◌∙◌}
+use mathlib.Core.Path.{◌≡◌, refl, sym, subst, ap, ap₂, ◌∙◌}
 use mathlib.Core.List.{List, [], ◌∷◌, ◌++◌, append_assoc}
 use mathlib.Core.Bool.{Bool, true, false, cond}
 use native.Mathlib.Nat.{zero-mul}
@@ -111,13 +111,22 @@ module _ (m k : ℕ) (few : k ≤ type_limit) where
   loads-back nil some before = refl
   loads-back {e = e} {ls = l ∷ ls} (cons tidy past rest) some before = go (holds_none l.counts) refl (loads-back rest (omega arith) before) (loads-back rest (omega arith) (before ++ record_bytes k e l))
     where
+      passed : holds_none l.counts ≡ true → records_bytes k e (l ∷ ls) ≡ records_bytes k (suc e) ls
+      passed q = rw q refl
+
+      written : holds_none l.counts ≡ false → records_bytes k e (l ∷ ls) ≡ record_bytes k e l ++ records_bytes k (suc e) ls
+      written q = rw q refl
+
       go : (b : Bool) → holds_none l.counts ≡ b → loads_from m k (before ++ records_bytes k (suc e) ls) (length before) (suc e) (length ls) ≡ ls
           → loads_from m k ((before ++ record_bytes k e l) ++ records_bytes k (suc e) ls) (length (before ++ record_bytes k e l)) (suc e) (length ls) ≡ ls
           → loads_from m k (before ++ records_bytes k e (l ∷ ls)) (length before) e (suc (length ls)) ≡ l ∷ ls
-      go true q kept more = rw (q, taken_none before (records_bytes k (suc e) ls) e (later-number k (suc e) e ls some (omega arith))) (cons-path (sym (tidy.idle q)) kept)
+      go true q kept more =
+          subst (λ (s : List ℕ). loads_from m k (before ++ s) (length before) e (suc (length ls)) ≡ l ∷ ls) (sym (passed q))
+          (rw (taken_none before (records_bytes k (suc e) ls) e (later-number k (suc e) e ls some (omega arith))) (cons-path (sym (tidy.idle q)) kept))
       go false q kept more =
-          rw (q, taken_here before (records_bytes k (suc e) ls) e l tidy (not-past m e l past q))
-          (cons-path refl (rw (append_assoc before (record_bytes k e l) (records_bytes k (suc e) ls)) at more))
+          subst (λ (s : List ℕ). loads_from m k (before ++ s) (length before) e (suc (length ls)) ≡ l ∷ ls) (sym (written q))
+          (rw (taken_here before (records_bytes k (suc e) ls) e l tidy (not-past m e l past q))
+          (cons-path refl (rw (append_assoc before (record_bytes k e l) (records_bytes k (suc e) ls)) at more)))
 
 -- main: the whole sheet
 
