@@ -42,5 +42,5 @@ returns c =
     let judged = drawn in
     let start = judged in
     let none = sym judged.recipe_fault-fault.ensures ∙ judged.if-fault-ne0.false in
-    let promises = subst (λ (y : System). WritePromises y start.args.out.now written.write_system.new.1.0 written.write_system.result) drawn.drawn_system.ensures written.write_system.ensures in
-    promised-file start.args.w (seed-short-2 start) start.args.out.now written.write_system.new.1.0 written.write_system.result none promises
+    let promises = subst (λ (y : System). WritePromises y start.args.out.now written.write_system.new.out written.write_system.result) drawn.drawn_system.ensures written.write_system.ensures in
+    promised-file start.args.w (seed-short-2 start) start.args.out.now written.write_system.new.out written.write_system.result none promises

@@ -18,7 +18,7 @@ returns-then-most-product c =
     let here = c.loop-t in
     let a = c.args in
     let over = next_past a.top here.product here.invariant.3 (omega arith) in
-    sym (power-past (a.top + 1) a.times here.«-t» (omega arith) (omega arith) (rw here.invariant.2 at over))
+    sym (power-past (a.top + 1) a.times here._t (omega arith) (omega arith) (rw here.invariant.2 at over))
 
 -- the next product
 next-within : (c : Else-most-product) → c.loop-t.product * (c.args.top + 1) ≤ column_limit
@@ -36,11 +36,11 @@ pub loop-t-preserved : goal.loop-t-preserved
 loop-t-preserved c =
     let here = c.loop-t in
     let a = c.args in
-    (omega arith, here.invariant.1, rw (add-one here.«-t», pow-suc (a.top + 1) here.«-t», here.invariant.2), omega arith, next-within c)
+    (omega arith, here.invariant.1, rw (add-one here._t, pow-suc (a.top + 1) here._t, here.invariant.2), omega arith, next-within c)
 
 pub returns : goal.returns
 returns c =
     let here = c.loop-t in
     let a = c.args in
-    let all : here.«-t» ≡ a.times = omega arith in
+    let all : here._t ≡ a.times = omega arith in
     sym (le-leb ((a.top + 1) ^ a.times) column_limit (rw (here.invariant.2, all) at here.invariant.4))

@@ -10,7 +10,7 @@ use Rattle.making.proofs.Turns.{next_past, next_small, power-past}
 use Rattle.making_code.proofs.limits.power_within.Given as goal
 
 abbrev pub invariant-loop-t : goal.invariant-loop-t
-invariant-loop-t l = (-t ≤ l.times) × (l.most ≡ column_limit) × (l.product ≡ (l.top + 1) ^ -t) × (1 ≤ l.product) × (l.product ≤ column_limit)
+invariant-loop-t l = (l._t ≤ l.times) × (l.most ≡ column_limit) × (l.product ≡ (l.top + 1) ^ l._t) × (1 ≤ l.product) × (l.product ≤ column_limit)
 
 abbrev pub decreases-loop-t : goal.decreases-loop-t
-decreases-loop-t l = l.times - -t
+decreases-loop-t l = l.times - l._t
