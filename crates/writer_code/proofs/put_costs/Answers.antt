@@ -26,7 +26,7 @@ put_four-timed-requires c =
     let headed = c in
     let given = headed in
     let start = given in
-    omega (arith, start.requires, costs-some start.args.there given.in-Takes.is, headed.put_head-headed.ensures.next, headed.put_head-headed.auto.0)
+    omega (arith, start.requires, costs-some start.args.there given.in-Takes.is, headed.put_head-headed.ensures.next, headed.put_head-headed.auto.out)
 
 pub put_four-requires : goal.put_four-requires
 unfolding rule_of
@@ -40,9 +40,9 @@ put_four-requires c =
       start.requires,
       costs-some start.args.there given.in-Takes.is,
       headed.put_head-headed.ensures.next,
-      headed.put_head-headed.auto.0,
+      headed.put_head-headed.auto.out,
       timed.put_four-timed.ensures.next,
-      timed.put_four-timed.auto.0,
+      timed.put_four-timed.auto.out,
     )
 
 pub returns : goal.returns

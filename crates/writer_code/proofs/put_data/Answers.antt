@@ -26,7 +26,7 @@ put_four-requires c =
     let headed = c in
     let tested = headed in
     let start = tested in
-    omega (arith, start.requires, data-some start.args.d tested.if-d-eq0.false, headed.put_head-headed.ensures.next, headed.put_head-headed.auto.0)
+    omega (arith, start.requires, data-some start.args.d tested.if-d-eq0.false, headed.put_head-headed.ensures.next, headed.put_head-headed.auto.out)
 
 pub returns : goal.returns
 unfolding field_bytes rule_of

@@ -29,7 +29,7 @@ put_second-next-requires c =
     let platform = c in
     let start = platform in
     let y = start.args.y in
-    let kept = platform.put_platform-equipped.auto.0 in
+    let kept = platform.put_platform-equipped.auto.out in
     (start.requires.1, omega (arith, start.requires.3, platform.put_platform-equipped.ensures.next, platform-size y, parts y))
 
 pub put_types-requires : goal.put_types-requires
@@ -38,8 +38,8 @@ put_types-requires c =
     let platform = second in
     let start = platform in
     let y = start.args.y in
-    let kept = platform.put_platform-equipped.auto.0 in
-    let left = second.put_second-next.auto.0 in
+    let kept = platform.put_platform-equipped.auto.out in
+    let left = second.put_second-next.auto.out in
     (start.requires.2, omega (arith, start.requires.3, platform.put_platform-equipped.ensures.next, second.put_second-next.ensures.next, platform-size y, parts y))
 
 pub returns : goal.returns

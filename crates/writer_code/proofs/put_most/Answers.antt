@@ -27,7 +27,7 @@ put_two-requires c =
     let headed = c in
     let given = headed in
     let start = given in
-    omega (arith, start.requires, ap (λ (m : Most). length (most_bytes m)) given.in-AtMost.is ∙ most-some _, headed.put_head-headed.ensures.next, headed.put_head-headed.auto.0)
+    omega (arith, start.requires, ap (λ (m : Most). length (most_bytes m)) given.in-AtMost.is ∙ most-some _, headed.put_head-headed.ensures.next, headed.put_head-headed.auto.out)
 
 pub returns : goal.returns
 unfolding field_bytes rule_of

@@ -26,7 +26,7 @@ put_four-run-requires c =
     let headed = c in
     let given = headed in
     let start = given in
-    omega (arith, start.requires, pace-some start.args.pace given.in-Paced.is, headed.put_head-headed.ensures.next, headed.put_head-headed.auto.0)
+    omega (arith, start.requires, pace-some start.args.pace given.in-Paced.is, headed.put_head-headed.ensures.next, headed.put_head-headed.auto.out)
 
 pub put_four-requires : goal.put_four-requires
 unfolding rule_of
@@ -40,9 +40,9 @@ put_four-requires c =
       start.requires,
       pace-some start.args.pace given.in-Paced.is,
       headed.put_head-headed.ensures.next,
-      headed.put_head-headed.auto.0,
+      headed.put_head-headed.auto.out,
       ran.put_four-run.ensures.next,
-      ran.put_four-run.auto.0,
+      ran.put_four-run.auto.out,
     )
 
 pub returns : goal.returns

@@ -33,7 +33,7 @@ put_byte-counted-requires c =
     let headed = c in
     let given = headed in
     let start = given in
-    omega (arith, start.requires.1, second-some start.args.second given.in-TwoKinds.is, headed.put_head-headed.ensures.next, headed.put_head-headed.auto.0)
+    omega (arith, start.requires.1, second-some start.args.second given.in-TwoKinds.is, headed.put_head-headed.ensures.next, headed.put_head-headed.auto.out)
 
 pub put_four-timed-requires : goal.put_four-timed-requires
 unfolding rule_of
@@ -47,9 +47,9 @@ put_four-timed-requires c =
       start.requires.1,
       second-some start.args.second given.in-TwoKinds.is,
       headed.put_head-headed.ensures.next,
-      headed.put_head-headed.auto.0,
+      headed.put_head-headed.auto.out,
       counted.put_byte-counted.ensures.next,
-      counted.put_byte-counted.auto.0,
+      counted.put_byte-counted.auto.out,
     )
 
 pub put_four-requires : goal.put_four-requires
@@ -65,11 +65,11 @@ put_four-requires c =
       start.requires.1,
       second-some start.args.second given.in-TwoKinds.is,
       headed.put_head-headed.ensures.next,
-      headed.put_head-headed.auto.0,
+      headed.put_head-headed.auto.out,
       counted.put_byte-counted.ensures.next,
-      counted.put_byte-counted.auto.0,
+      counted.put_byte-counted.auto.out,
       timed.put_four-timed.ensures.next,
-      timed.put_four-timed.auto.0,
+      timed.put_four-timed.auto.out,
     )
 
 pub returns : goal.returns

@@ -34,7 +34,7 @@ loop-i-preserved c =
     let more : turn.loop-i.i < length start.args.types = omega arith in
     let room : start.args.at ≤ length start.args.out.now = omega (arith, start.requires.1) in (
       omega arith,
-      put.put_type-next.auto.0 ∙ turn.loop-i.invariant.1,
+      put.put_type-next.auto.out ∙ turn.loop-i.invariant.1,
       rw (types-suc start.args.types turn.loop-i.i no_task more) (puts_then room turn.loop-i.invariant.2 put.put_type-next.ensures),
     )
 

@@ -1,0 +1,15 @@
+-- The first test that finds a fault decides.
+use borrow.Author.Rules.{rules}
+use Rattle.writer_code.proofs.Steps.{or-first, or-on}
+use Rattle.making.specs.Making.{recipe_fault}
+use Rattle.making_code.proofs.limits.recipe_fault.Goals as goal
+
+pub returns-then-fault-ne0 : goal.returns-then-fault-ne0
+unfolding recipe_fault
+returns-then-fault-ne0 c = or-first _ _ _ c.numbers_fault-fault.ensures c.if-fault-ne0.true
+
+pub returns : goal.returns
+unfolding recipe_fault
+returns c =
+    let kept = c in
+    or-on _ _ _ kept.numbers_fault-fault.ensures kept.if-fault-ne0.false c.power_fault.ensures
