@@ -14,7 +14,7 @@ use Rattle.system.proofs.Laws.{limits_of, columns_of-pos}
 use Rattle.partition.specs.Listing.{instances}
 use Rattle.counting.specs.Walk.{RowOf, Beyond}
 use Rattle.counting.proofs.Rows.{instance-le, few-instances, cell-small, row_next, passed-beyond, beyond-refl, beyond-trans, count-found}
-use Rattle.counting_code.proofs.passes.count_good.Goals.{Joined-y-gt1, then-y-gt1, else-y-gt1}
+use Rattle.counting_code.proofs.passes.count_good.Goals.{Joined-y-gt1, then-y-gt1+else-loop-e-test, else-y-gt1}
 use Rattle.counting_code.proofs.passes.count_good.Goals as goal
 
 six-ceilings : (y : System) → keeps_limits y ≡ true → length (ceilings_of y) ≡ 6
@@ -72,7 +72,7 @@ last_row c =
     let row = c.first_row in
     let some = (limits_of y c.requires.limits).some-engine in
     elim c.if-y-gt1.branch [
-      | then-y-gt1 v ↦ let all : v.loop-e._e ≡ y.engines = omega (arith, v.loop-e.invariant.1, v.loop-e-test.false) in
+      | then-y-gt1+else-loop-e-test v ↦ let all : v.loop-e._e ≡ y.engines = omega (arith, v.loop-e.invariant.1, v.loop-e-test.false) in
       rw v.part-is (subst (λ (n : ℕ). RowOf y n v.loop-e.part) all v.loop-e.invariant.2, beyond-trans row.ensures.1 v.loop-e.invariant.3)
       | else-y-gt1 v ↦ let one : 1 ≡ y.engines = omega (arith, v.if-y-gt1.false) in
       rw v.part-is (subst (λ (n : ℕ). RowOf y n row.new.part) one row.ensures.0, row.ensures.1)
