@@ -1,10 +1,9 @@
 -- Each term and each partial sum is at most the whole, which is a number of 64 bits, and so is each inner sum.
-use Prim.Native.Nat.{ℕ, suc, ◌+◌, ◌-◌, ◌*◌, ◌≤◌, ◌<◌}
-use mathlib.Core.Path.{◌≡◌, refl, sym, ap, subst, ◌∙◌}
+use Prim.Native.Nat.{ℕ, ◌+◌, ◌-◌, ◌*◌, ◌≤◌}
+use mathlib.Core.Path.{◌≡◌, refl, ◌∙◌}
 use native.Mathlib.Omega.{arith}
-use borrow.Author.Rules.{rules}
-use lib.ListN.{length, get_or}
-use Rattle.counting.specs.Walk.{held_ways, over_by, reach_by, SumIn, CountsIn}
+use lib.ListN.{get_or}
+use Rattle.counting.specs.Walk.{held_ways, over_by, reach_by, SumIn}
 use Rattle.counting.proofs.Sums.{first_terms}
 use Rattle.counting.proofs.Walked.{ways_of, inner_at, Term, term-at, terms-all, more-at, over_by_lem, sum-inner, second-inner, types-inner, second-found, types-found}
 use Rattle.counting_code.proofs.passes.+over_types.Goals.{In-loop-j, Joined-t-eq2, then-t-eq2, else-t-eq2}

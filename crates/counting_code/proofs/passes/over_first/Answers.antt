@@ -1,11 +1,8 @@
 -- `over_first`: the answers.
-use Prim.Native.Nat.{ℕ, ◌+◌, ◌-◌, ◌*◌, ◌≤◌, ◌<◌}
-use mathlib.Core.Path.{◌≡◌, refl, sym, ap, ◌∙◌}
+use Prim.Native.Nat.{ℕ, ◌+◌, ◌≤◌, ◌<◌}
+use mathlib.Core.Path.{refl, sym, ◌∙◌}
 use native.Mathlib.Omega.{arith}
-use borrow.Author.Rules.{rules}
-use lib.ListN.{length, get_or}
-use Rattle.counting.specs.Counts.{greatest}
-use Rattle.counting.specs.Tally.{choose}
+use lib.ListN.{length}
 use Rattle.counting.specs.Walk.{held_ways, over_one}
 use Rattle.counting.proofs.Sums.{first_terms}
 use Rattle.counting.proofs.Walked.{ways_of, Term, term-at, terms-more, terms-all}

@@ -1,7 +1,7 @@
 -- `pass`: the answers.
-use Prim.Native.Nat.{ℕ, ◌+◌, ◌-◌, ◌*◌, ◌≤◌, ◌<◌}
+use Prim.Native.Nat.{ℕ, ◌+◌, ◌-◌, ◌≤◌, ◌<◌}
 use mathlib.Core.Bool.{true}
-use mathlib.Core.Path.{◌≡◌, refl, sym, ap, subst, ◌∙◌}
+use mathlib.Core.Path.{◌≡◌, refl, ◌∙◌}
 use native.Mathlib.Omega.{arith}
 use borrow.Author.Rules.{rules}
 use lib.ListN.{length, get_or, length-set, length-map}
@@ -10,8 +10,6 @@ use Rattle.system.specs.Values.{ceilings_of}
 use Rattle.system.specs.declared.System.{System}
 use Rattle.system.specs.Limits.{keeps_limits, columns}
 use Rattle.system.proofs.Laws.{limits_of}
-use Rattle.loads.specs.Column.{load_of}
-use Rattle.counting.specs.Walk.{passed_cell}
 use Rattle.counting.proofs.Rows.{cell-wanted, cell-stored, pass-cells, pass-lower, pass-others}
 use Rattle.counting_code.proofs.passes.pass.Goals.{In-loop-column}
 use Rattle.counting_code.proofs.passes.pass.Goals as goal
