@@ -1,13 +1,12 @@
 -- Each term and each partial sum is at most the whole, which is a number of 64 bits, and so is each inner sum.
-use Prim.Native.Nat.{ℕ, suc, ◌+◌, ◌-◌, ◌*◌, ◌≤◌, ◌<◌}
-use mathlib.Core.Path.{◌≡◌, refl, sym, ap, subst, ◌∙◌}
+use Prim.Native.Nat.{ℕ, ◌+◌, ◌-◌, ◌*◌, ◌≤◌}
+use mathlib.Core.Path.{◌≡◌, refl, ◌∙◌}
 use native.Mathlib.Omega.{arith}
-use borrow.Author.Rules.{rules}
-use lib.ListN.{length, get_or}
-use Rattle.counting.specs.Walk.{held_ways, over_by, reach_by, SumIn, CountsIn}
+use lib.ListN.{get_or}
+use Rattle.counting.specs.Walk.{held_ways, over_by, reach_by, SumIn}
 use Rattle.counting.proofs.Sums.{first_terms}
 use Rattle.counting.proofs.Walked.{ways_of, inner_at, Term, term-at, terms-all, more-at, over_by_lem, sum-inner, second-inner, types-inner, second-found, types-found}
-use Rattle.counting_code.proofs.passes.+over_types.Goals.{In-loop-j, After-row_known-1, then-t-eq2, else-t-eq2}
+use Rattle.counting_code.proofs.passes.+over_types.Goals.{In-loop-j, Joined-t-eq2, then-t-eq2, else-t-eq2}
 use Rattle.counting_code.proofs.passes.+over_types.Goals as goal
 
 -- the count of the type
@@ -71,7 +70,7 @@ over_types-inner-requires t c =
     )
 
 -- the inner sum that was found
-inner-is : (t : ℕ) (c : After-row_known-1 t) →
+inner-is : (t : ℕ) (c : Joined-t-eq2 t) →
     let a = c.args in
     c.if-t-eq2.inner ≡ inner_at a.part.now a.walk.strides a.walk.counts a.walk.columns a.walk.column a.t a.from c.loop-j.j
 inner-is t c =
@@ -88,13 +87,13 @@ pub overflow_mul-sum-in-loop-j : goal.overflow_mul-sum-in-loop-j
 overflow_mul-sum-in-loop-j t c =
     let at = (goal.at.overflow_mul-sum-in-loop-j t c).In-loop-j in
     let g = term t at in
-    rw ((count-is t at).0, g.entry, inner-is t c) (record { fits = omega (arith, g.times) })
+    rw ((count-is t at).0, g.entry, inner-is t (goal.at.overflow_mul-sum-in-loop-j t c).Joined-t-eq2) (record { fits = omega (arith, g.times) })
 
 pub overflow_add-sum-in-loop-j : goal.overflow_add-sum-in-loop-j
 overflow_add-sum-in-loop-j t c =
     let at = (goal.at.overflow_add-sum-in-loop-j t c).In-loop-j in
     let g = term t at in
-    rw ((count-is t at).0, g.entry, inner-is t c) (record { fits = omega (arith, g.next) })
+    rw ((count-is t at).0, g.entry, inner-is t (goal.at.overflow_add-sum-in-loop-j t c).Joined-t-eq2) (record { fits = omega (arith, g.next) })
 
 pub loop-j-preserved : goal.loop-j-preserved
 loop-j-preserved t c =
@@ -103,7 +102,7 @@ loop-j-preserved t c =
     let a = c.args in
     let w = a.walk in (
       omega (arith, (count-is t at).1),
-      more-at a.ways.now (get_or w.counts a.t 0) here.j here.sum c.wide-count.result c.if-t-eq2.inner (inner_at a.part.now w.strides w.counts w.columns w.column a.t a.from) (term t at).entry here.invariant.1 (count-is t at).0 (inner-is t c),
+      more-at a.ways.now (get_or w.counts a.t 0) here.j here.sum c.wide-count.result c.if-t-eq2.inner (inner_at a.part.now w.strides w.counts w.columns w.column a.t a.from) (term t at).entry here.invariant.1 (count-is t at).0 (inner-is t (goal.at.loop-j-preserved t c).Joined-t-eq2),
     )
 
 pub returns : goal.returns

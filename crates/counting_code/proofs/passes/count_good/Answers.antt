@@ -1,15 +1,14 @@
 -- `count_good`: the answers.
-use Prim.Native.Nat.{ℕ, ◌+◌, ◌-◌, ◌*◌, ◌^◌, ◌≤◌, ◌<◌}
+use Prim.Native.Nat.{ℕ, ◌-◌, ◌≤◌, ◌<◌}
 use mathlib.Core.Path.{◌≡◌, refl, sym, ap, subst, ◌∙◌}
 use mathlib.Core.Bool.{true}
 use native.Mathlib.Numerals.{add-one}
 use native.Mathlib.Omega.{arith}
-use borrow.Author.Rules.{rules}
 use lib.ListN.{length, get_or, length-map}
 use Rattle.system.specs.declared.TaskType.{TaskType}
 use Rattle.system.specs.Values.{ceilings_of}
 use Rattle.system.specs.declared.System.{System}
-use Rattle.system.specs.Limits.{keeps_limits, columns, column_limit}
+use Rattle.system.specs.Limits.{keeps_limits, column_limit}
 use Rattle.system.proofs.Laws.{limits_of, columns_of-pos}
 use Rattle.partition.specs.Listing.{instances}
 use Rattle.counting.specs.Walk.{RowOf, Beyond}
@@ -73,9 +72,9 @@ last_row c =
     let some = (limits_of y c.requires.limits).some-engine in
     elim c.if-y-gt1.branch [
       | then-y-gt1+else-loop-e-test v ↦ let all : v.loop-e._e ≡ y.engines = omega (arith, v.loop-e.invariant.1, v.loop-e-test.false) in
-      rw v.part-is (subst (λ (n : ℕ). RowOf y n v.loop-e.part) all v.loop-e.invariant.2, beyond-trans row.ensures.1 v.loop-e.invariant.3)
+          rw v.part-is (subst (λ (n : ℕ). RowOf y n v.loop-e.part) all v.loop-e.invariant.2, beyond-trans row.ensures.1 v.loop-e.invariant.3)
       | else-y-gt1 v ↦ let one : 1 ≡ y.engines = omega (arith, v.if-y-gt1.false) in
-      rw v.part-is (subst (λ (n : ℕ). RowOf y n row.new.part) one row.ensures.0, row.ensures.1)
+          rw v.part-is (subst (λ (n : ℕ). RowOf y n row.new.part) one row.ensures.0, row.ensures.1)
     ]
 
 -- the entry that is read

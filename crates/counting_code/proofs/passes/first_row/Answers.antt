@@ -1,12 +1,8 @@
 -- `first_row`: the answers.
-use Prim.Native.Nat.{ℕ, ◌+◌, ◌-◌, ◌*◌, ◌≤◌, ◌<◌}
+use Prim.Native.Nat.{ℕ, ◌+◌, ◌*◌, ◌≤◌, ◌<◌}
 use mathlib.Core.Path.{◌≡◌, refl, sym, ap, ◌∙◌}
-use mathlib.Core.Bool.{true, false}
-use mathlib.Core.Logic.{⊎_elim}
 use native.Mathlib.Omega.{arith}
-use borrow.Author.Rules.{rules}
-use lib.ListN.{length, get_or, drop, length-set}
-use Rattle.system.specs.declared.System.{System}
+use lib.ListN.{length, get_or, length-set}
 use Rattle.system.specs.Values.{ceilings_of}
 use Rattle.system.specs.Limits.{columns}
 use Rattle.loads.specs.Load.{fits_engine}

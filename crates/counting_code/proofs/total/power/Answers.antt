@@ -1,13 +1,10 @@
 -- `power`: the answers.
-use Prim.Native.Nat.{ℕ, ◌+◌, ◌-◌, ◌*◌, ◌/◌, ◌^◌, ◌≤◌}
-use mathlib.Core.Path.{◌≡◌, refl, sym, ap, subst, ◌∙◌}
+use Prim.Native.Nat.{ℕ, ◌*◌, ◌^◌, ◌≤◌}
+use mathlib.Core.Path.{◌≡◌, sym, ap, ◌∙◌}
 use native.Mathlib.Nat.{pow-zero, pow-suc}
 use native.Mathlib.Numerals.{add-one}
 use native.Mathlib.Omega.{arith}
-use borrow.Author.Rules.{rules}
-use Rattle.counting.specs.declared.Total.{Total}
 use Rattle.counting.specs.Counts.{greatest}
-use Rattle.counting.specs.Walk.{power_of}
 use Rattle.counting.proofs.Turns.{power-within, power-past, times-small}
 use Rattle.counting_code.proofs.total.power.Goals.{Else-value-most}
 use Rattle.counting_code.proofs.total.power.Goals as goal
