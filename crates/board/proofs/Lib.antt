@@ -15,4 +15,5 @@ pub mod Steps
 pub mod Ready
 pub mod Exits
 pub mod Promises
+pub mod Before
 pub mod Document01
