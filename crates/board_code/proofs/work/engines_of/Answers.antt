@@ -1,0 +1,66 @@
+-- `engines_of`: the answers.
+use Prim.Native.Nat.{◌+◌, ◌-◌, ◌≤◌, ◌<◌}
+use mathlib.Core.Path.{◌≡◌, refl, sym, ap, ◌∙◌}
+use mathlib.Core.Logic.{⊎_elim}
+use native.Mathlib.Omega.{arith}
+use borrow.Author.Tests.{not-true, not-false}
+use lib.ListN.{length, take, length-set}
+use lib.Seq.{length-take-le}
+use Rattle.system.specs.Limits.{engine_limit}
+use Rattle.partition.specs.Assignment.{passing, numbers_from, engines_to}
+use Rattle.board.specs.Boards.{engines_of}
+use Rattle.board.proofs.Steps.{free, engines-skip, engines-turn}
+use Rattle.board.proofs.Ready.{engines-most}
+use Rattle.board_code.proofs.work.engines_of.Goals as goal
+
+pub loop-i-init : goal.loop-i-init
+unfolding passing numbers_from
+loop-i-init c = (omega arith, engines-most _ c.requires, omega arith, refl, refl)
+
+pub bounds-marks-i : goal.bounds-marks-i
+bounds-marks-i c = omega (arith, c.loop-i.invariant.1)
+
+pub overflow_add-numbers : goal.overflow_add-numbers
+overflow_add-numbers c = omega (arith, c.loop-i.invariant.1)
+
+pub offset_bounds-numbers-count : goal.offset_bounds-numbers-count
+offset_bounds-numbers-count c = omega (arith, c.loop-i.invariant.1, c.loop-i.invariant.2)
+
+pub bounds-numbers-count : goal.bounds-numbers-count
+bounds-numbers-count c = omega (arith, c.loop-i.invariant.1, c.loop-i.invariant.2)
+
+pub overflow_add-count : goal.overflow_add-count
+overflow_add-count c = omega (arith, c.loop-i.invariant.1, c.loop-i.invariant.2)
+
+pub overflow_step-i : goal.overflow_step-i
+overflow_step-i c = omega (arith, c.loop-i.invariant.1)
+
+pub loop-i-preserved : goal.loop-i-preserved
+loop-i-preserved c =
+    let here = c.loop-i in
+    let b = c.args.b in
+    let small : here.count < length here.numbers = omega (arith, c.loop-i-test.true, here.invariant.1, here.invariant.2, here.invariant.3) in
+    ⊎_elim
+    (λ h. (
+      omega arith,
+      here.invariant.1,
+      omega (arith, h.2, here.invariant.2),
+      ap length h.1 ∙ length-set here.numbers here.count (here.i + 1) ∙ here.invariant.3,
+      rw (h.1, h.2) (engines-turn b.marks here.i here.numbers here.count (not-true _ h.0.taken) small here.invariant.4),
+    ))
+    (λ h. (
+      omega arith,
+      here.invariant.1,
+      omega (arith, h.2, here.invariant.2),
+      ap length h.1 ∙ here.invariant.3,
+      rw (h.1, h.2) (here.invariant.4 ∙ sym (engines-skip b.marks here.i (not-false _ h.0.left))),
+    ))
+    c.if-not-marks-i.branch
+
+pub returns : goal.returns
+returns c =
+    let here = c.loop-i in
+    let b = c.args.b in
+    let all : here.i ≡ b.system.engines = omega (arith, here.invariant.0) in
+    let same : take here.count here.numbers ≡ engines_of b = rw all at here.invariant.4 in
+    (sym (length-take-le here.count here.numbers (omega (arith, here.invariant.1, here.invariant.2, here.invariant.3, all))) ∙ ap length same, same)

@@ -1,0 +1,17 @@
+-- The loop's invariant: the first i of the loads are copied (lib.Seq's `paste`).
+use Prim.Native.Nat.{◌-◌, ◌≤◌}
+use mathlib.Core.Path.{◌≡◌}
+use mathlib.Core.List.{[]}
+use native.Mathlib.Omega.{arith}
+use borrow.Author.Rules.{rules}
+use lib.ListN.{length}
+use lib.Seq.{paste, paste-zero}
+use Rattle.system.specs.Limits.{engine_limit}
+use Rattle.kinds.proofs.Padded.{paste_more}
+use Rattle.kinds_code.proofs.joining.loads_after.Given as goal
+
+abbrev pub invariant-loop-i : goal.invariant-loop-i
+invariant-loop-i l = (l.i ≤ l.count) × (l.both ≡ paste l.initial.both l.at l.more l.i)
+
+abbrev pub decreases-loop-i : goal.decreases-loop-i
+decreases-loop-i l = l.count - l.i
