@@ -1,9 +1,7 @@
 -- Each answer is that of the definition: a file that was refused, a part too short, both parts filled for the first of two kinds, and both parts filled.
 use mathlib.Core.Path.{◌≡◌, refl, sym, ap, subst, ◌∙◌}
 use mathlib.Core.Bool.{true}
-use mathlib.Core.Logic.{⊎_elim}
 use native.Mathlib.Nat.{le_refl}
-use native.Mathlib.Omega.{arith}
 use borrow.Author.Rules.{rules}
 use Rattle.system.specs.declared.Answer.TheVariants.{Accepted}
 use Rattle.system.specs.declared.Kind.{Kind}

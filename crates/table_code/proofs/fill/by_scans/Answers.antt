@@ -1,9 +1,7 @@
 -- The row is `most` where the first scan finds something, else the next one, which the second scan finds, or none past the engines.
 use Prim.Native.Nat.{◌+◌, ◌-◌, ◌*◌, ◌<◌}
 use mathlib.Core.Path.{◌≡◌, ap, ◌∙◌}
-use mathlib.Core.Logic.{⊎_elim}
 use native.Mathlib.Omega.{arith}
-use borrow.Author.Rules.{rules}
 use Rattle.system.proofs.Laws.{limits_of}
 use Rattle.table.specs.declared.Entry.{Entry}
 use Rattle.table.specs.Parts.{lowest_for}
@@ -54,8 +52,8 @@ past_first : (c : After-none) → let a = c.args in a.most < lowest_for a.y a.en
 past_first c =
     let p = c.requires in
     elim c.if-row-gt1.branch [
-        | then-row-gt1+else-found w ↦ first-lost p w.scan-found.result w.scan-found.ensures w.if-found.false
-        | else-row-gt1 w ↦ not-one p w.if-row-gt1.false
+      | then-row-gt1+else-found w ↦ first-lost p w.scan-found.result w.scan-found.ensures w.if-found.false
+      | else-row-gt1 w ↦ not-one p w.if-row-gt1.false
     ]
 
 -- where it finds nothing, or is not made, the row is past `most`
@@ -63,8 +61,8 @@ past_first-2 : (c : After-struct_known-2-1) → let a = c.args in a.most < lowes
 past_first-2 c =
     let p = c.requires in
     elim c.if-row-gt1.branch [
-        | then-row-gt1+else-found w ↦ first-lost p w.scan-found.result w.scan-found.ensures w.if-found.false
-        | else-row-gt1 w ↦ not-one p w.if-row-gt1.false
+      | then-row-gt1+else-found w ↦ first-lost p w.scan-found.result w.scan-found.ensures w.if-found.false
+      | else-row-gt1 w ↦ not-one p w.if-row-gt1.false
     ]
 
 pub none-requires : goal.none-requires

@@ -1,16 +1,14 @@
 -- `fill_parts`: the answers.
-use Prim.Native.Nat.{ℕ, ◌+◌, ◌-◌, ◌*◌, ◌≤◌, ◌<◌}
+use Prim.Native.Nat.{ℕ, ◌+◌, ◌*◌, ◌≤◌, ◌<◌}
 use mathlib.Core.Path.{◌≡◌, sym, ap, ◌∙◌}
 use native.Mathlib.Omega.{arith}
-use borrow.Author.Rules.{rules}
 use lib.ListN.{length, replicate, length-map, length-set}
 use Rattle.system.specs.declared.TaskType.{TaskType}
 use Rattle.system.specs.Values.{ceilings_of}
 use Rattle.system.specs.Limits.{columns, column_limit}
 use Rattle.system.proofs.Laws.{limits_of}
-use Rattle.loads.specs.Column.{load_of}
 use Rattle.loads.proofs.Column.{length-load_of, load_of-zero}
-use Rattle.table.proofs.Begun.{begun, length-begun}
+use Rattle.table.proofs.Begun.{length-begun}
 use Rattle.table.proofs.Stepping.{next_under-load_of}
 use Rattle.table.specs.declared.Entry.{Entry}
 use Rattle.table.specs.Parts.{row_at, predecessor_at}

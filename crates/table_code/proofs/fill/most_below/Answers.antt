@@ -1,14 +1,12 @@
 -- `most_below`: the answers.
-use Prim.Native.Nat.{ℕ, ◌+◌, ◌-◌, ◌*◌, ◌≤◌, ◌<◌}
-use mathlib.Core.Path.{◌≡◌, refl, sym, ap, ◌∙◌}
-use mathlib.Core.Logic.{⊎_elim}
+use Prim.Native.Nat.{◌+◌, ◌*◌, ◌≤◌, ◌<◌}
+use mathlib.Core.Path.{◌≡◌, ◌∙◌}
 use native.Mathlib.Nat.{one-mul, le_trans}
 use native.Mathlib.Omega.{arith}
 use borrow.Author.Rules.{rules}
 use lib.ListN.{length, get_or, drop}
 use Rattle.system.specs.Limits.{columns_of, column_limit}
-use Rattle.loads.specs.Column.{column_from}
-use Rattle.table.specs.Scan.{most_below, larger}
+use Rattle.table.specs.Scan.{most_below}
 use Rattle.table.proofs.Stepping.{next-stride, next-stride-le}
 use Rattle.table.proofs.Below.{column-later, stride-inside, most-without, most-rises, most-stays, most-start, most-end}
 use Rattle.table_code.proofs.fill.most_below.Goals.{After-shared_slice_known-then-load-t-ne0-1-unread, After-wide, Then-load-t-ne0}
@@ -78,9 +76,9 @@ loop-t-preserved c =
       (stride-next c (omega arith)).0,
       column-later a.rows.now a.column here.stride here.most a.ceilings a.load here.t hn hx here.invariant.2,
       elim c.if-load-t-ne0.branch [
-          | then-load-t-ne0+then-most-row w ↦ rw w.most-is (most-rises a.rows.now a.column here.stride here.most a.ceilings a.load here.t hn hx w.if-load-t-ne0.true w.if-most-row.true)
-          | then-load-t-ne0+else-most-row w ↦ rw w.most-is (most-stays a.rows.now a.column here.stride here.most a.ceilings a.load here.t hn hx w.if-load-t-ne0.true w.if-most-row.false)
-          | else-load-t-ne0 w ↦ rw w.most-is (most-without a.rows.now a.column here.stride here.most a.ceilings a.load here.t hn hx w.if-load-t-ne0.false)
+        | then-load-t-ne0+then-most-row w ↦ rw w.most-is (most-rises a.rows.now a.column here.stride here.most a.ceilings a.load here.t hn hx w.if-load-t-ne0.true w.if-most-row.true)
+        | then-load-t-ne0+else-most-row w ↦ rw w.most-is (most-stays a.rows.now a.column here.stride here.most a.ceilings a.load here.t hn hx w.if-load-t-ne0.true w.if-most-row.false)
+        | else-load-t-ne0 w ↦ rw w.most-is (most-without a.rows.now a.column here.stride here.most a.ceilings a.load here.t hn hx w.if-load-t-ne0.false)
       ]
           ∙ here.invariant.3,
     )

@@ -1,7 +1,5 @@
 -- A file that was refused, and one that opened: its card keeps the limits, so that its columns can be counted.
 use mathlib.Core.Path.{◌≡◌}
-use mathlib.Core.Logic.{⊎_elim}
-use native.Mathlib.Omega.{arith}
 use borrow.Author.Rules.{rules}
 use Rattle.system.specs.declared.Answer.TheVariants.{Accepted}
 use Rattle.system.specs.Layout.{read_card}
