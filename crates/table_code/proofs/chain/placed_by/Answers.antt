@@ -32,9 +32,6 @@ offset_bounds-rows-column c =
 pub bounds-rows-column : goal.bounds-rows-column
 bounds-rows-column c = omega (arith, column-small c.args.y c.args.counts c.column_of-column.result c.requires.1 c.column_of-column.ensures, c.requires.0.room_rows)
 
-pub overflow_cast-row : goal.overflow_cast-row
-overflow_cast-row c = omega (arith, c.shared_slice_known-3-1.given c.column_of-column.result)
-
 pub recover-loads-requires : goal.recover-loads-requires
 recover-loads-requires c =
     let start = c in

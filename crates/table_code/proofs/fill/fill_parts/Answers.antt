@@ -1,11 +1,13 @@
 -- `fill_parts`: the answers.
 use Prim.Native.Nat.{ℕ, ◌+◌, ◌*◌, ◌≤◌, ◌<◌}
 use mathlib.Core.Path.{◌≡◌, sym, ap, ◌∙◌}
+use mathlib.Core.Bool.{true}
 use native.Mathlib.Omega.{arith}
 use lib.ListN.{length, replicate, length-map, length-set}
 use Rattle.system.specs.declared.TaskType.{TaskType}
+use Rattle.system.specs.declared.System.{System}
 use Rattle.system.specs.Values.{ceilings_of}
-use Rattle.system.specs.Limits.{columns, column_limit}
+use Rattle.system.specs.Limits.{columns, column_limit, keeps_limits}
 use Rattle.system.proofs.Laws.{limits_of}
 use Rattle.loads.proofs.Column.{length-load_of, load_of-zero}
 use Rattle.table.proofs.Begun.{length-begun}
@@ -15,14 +17,11 @@ use Rattle.table.specs.Parts.{row_at, predecessor_at}
 use Rattle.table.specs.Scan.{column_counted}
 use Rattle.table.proofs.Counted.{counted_to, counted_to-none, counted_to-more, counted_to-all}
 use Rattle.table.proofs.FilledParts.{stored-again, stored, part-starts, part-ends, rows-to, counted-more}
-use Rattle.table_code.proofs.fill.fill_parts.Goals.{After-entry_at-found, After-load-1, After-no_row-none, After-step, After-struct_known-1, In-loop-column}
+use Rattle.table_code.proofs.fill.fill_parts.Goals.{After-entry_at-found, After-step, After-struct_known-1, In-loop-column}
 use Rattle.table_code.proofs.fill.fill_parts.Goals as goal
 
-six-ceilings : (c : After-no_row-none) → length (ceilings_of c.args.y) ≡ 6
-six-ceilings c = length-map c.args.y.types (λ (t : TaskType). t.ceiling) ∙ (limits_of c.args.y c.requires.0).six
-
-six-ceilings-2 : (c : After-load-1) → length (ceilings_of c.args.y) ≡ 6
-six-ceilings-2 c = length-map c.args.y.types (λ (t : TaskType). t.ceiling) ∙ (limits_of c.args.y c.requires.0).six
+six-ceilings : (y : System) → keeps_limits y ≡ true → length (ceilings_of y) ≡ 6
+six-ceilings y h = length-map y.types (λ (t : TaskType). t.ceiling) ∙ (limits_of y h).six
 
 pub columns_of-columns-requires : goal.columns_of-columns-requires
 columns_of-columns-requires c = (limits_of _ c.requires.0).columns
@@ -36,7 +35,7 @@ loop-column-init c =
       omega arith,
       part-starts (row_at a.y a.engines) a.rows.now,
       part-starts (predecessor_at a.y a.engines) a.predecessors.now,
-      sym (load_of-zero (ceilings_of a.y) ∙ ap (λ (k : ℕ). replicate k 0) (six-ceilings c)),
+      sym (load_of-zero (ceilings_of a.y) ∙ ap (λ (k : ℕ). replicate k 0) (six-ceilings c.args.y c.requires.0)),
       sym (counted_to-none a.y a.engines),
       omega arith,
     )
@@ -198,7 +197,7 @@ pub step-requires : goal.step-requires
 step-requires c =
     let at = c in
     let start = at in
-    (omega arith, rw at.loop-column.invariant.3 (length-load_of (ceilings_of start.args.y) at.loop-column.column ∙ six-ceilings-2 start))
+    (omega arith, rw at.loop-column.invariant.3 (length-load_of (ceilings_of start.args.y) at.loop-column.column ∙ six-ceilings start.args.y start.requires.0))
 
 pub loop-column-preserved : goal.loop-column-preserved
 loop-column-preserved c =
