@@ -1,7 +1,6 @@
 -- Each answer is that of the definition: a file that was refused, a part too short, both parts filled for the first of two kinds, and both parts filled.
 use Prim.Native.Nat.{◌≤◌}
 use mathlib.Core.Path.{◌≡◌, refl, sym, ap, subst, ◌∙◌}
-use mathlib.Core.Bool.{true}
 use native.Mathlib.Nat.{le_refl}
 use borrow.Author.Rules.{rules}
 use Rattle.system.specs.declared.Answer.TheVariants.{Accepted}

@@ -17,7 +17,7 @@ use Rattle.table.specs.Parts.{row_at, predecessor_at}
 use Rattle.table.specs.Scan.{column_counted}
 use Rattle.table.proofs.Counted.{counted_to, counted_to-none, counted_to-more, counted_to-all}
 use Rattle.table.proofs.FilledParts.{stored-again, stored, part-starts, part-ends, rows-to, counted-more}
-use Rattle.table_code.proofs.fill.fill_parts.Goals.{After-entry_at-found, After-step, After-struct_known-1, In-loop-column}
+use Rattle.table_code.proofs.fill.fill_parts.Goals.{After-entry_at-found, In-loop-column}
 use Rattle.table_code.proofs.fill.fill_parts.Goals as goal
 
 six-ceilings : (y : System) → keeps_limits y ≡ true → length (ceilings_of y) ≡ 6
@@ -76,42 +76,6 @@ entry-inside-2 c =
       rw (at.loop-column.invariant.2, length-begun (predecessor_at a.y a.engines) k a.predecessors.now (omega (arith, p.3))) (omega (arith, p.3)),
     )
 
--- the entries that are written lie in the parts
-entry-inside-3 : (c : After-step) →
-    let at = c in
-    let start = at in
-    (at.loop-column.column < columns start.args.y) × (columns start.args.y ≤ column_limit) × (at.loop-column.column < length at.loop-column.rows) × (at.loop-column.column < length at.loop-column.predecessors)
-entry-inside-3 c =
-    let at = c in
-    let start = at in
-    let a = start.args in
-    let p = start.requires in
-    let k = at.loop-column.column in
-    let inside : k < columns a.y = omega (arith, c.loop-column-test.true, at.columns_of-columns.ensures) in (
-      inside,
-      (limits_of a.y p.0).columns,
-      rw (at.loop-column.invariant.1, length-begun (row_at a.y a.engines) k a.rows.now (omega (arith, p.2))) (omega (arith, p.2)),
-      rw (at.loop-column.invariant.2, length-begun (predecessor_at a.y a.engines) k a.predecessors.now (omega (arith, p.3))) (omega (arith, p.3)),
-    )
-
--- the entries that are written lie in the parts
-entry-inside-4 : (c : After-struct_known-1) →
-    let at = c in
-    let start = at in
-    (at.loop-column.column < columns start.args.y) × (columns start.args.y ≤ column_limit) × (at.loop-column.column < length at.loop-column.rows) × (at.loop-column.column < length at.loop-column.predecessors)
-entry-inside-4 c =
-    let at = c in
-    let start = at in
-    let a = start.args in
-    let p = start.requires in
-    let k = at.loop-column.column in
-    let inside : k < columns a.y = omega (arith, c.loop-column-test.true, at.columns_of-columns.ensures) in (
-      inside,
-      (limits_of a.y p.0).columns,
-      rw (at.loop-column.invariant.1, length-begun (row_at a.y a.engines) k a.rows.now (omega (arith, p.2))) (omega (arith, p.2)),
-      rw (at.loop-column.invariant.2, length-begun (predecessor_at a.y a.engines) k a.predecessors.now (omega (arith, p.3))) (omega (arith, p.3)),
-    )
-
 pub offset_bounds-rows-column : goal.offset_bounds-rows-column
 offset_bounds-rows-column c = omega (arith, entry-inside c)
 
@@ -145,7 +109,7 @@ pub bounds-predecessors-column : goal.bounds-predecessors-column
 bounds-predecessors-column c = (entry-inside-2 c).3
 
 -- the entries of the column, and the pairs counted with them
-told : (c : After-step) →
+told : (c : After-entry_at-found) →
     let at = c in
     let a = at.args in
     let found = c.entry_at-found.result in
@@ -154,17 +118,7 @@ told : (c : After-step) →
     × (found.counted ≡ column_counted a.y a.engines at.loop-column.column)
 told c = (ap (λ (f : Entry). f.row) c.entry_at-found.ensures, ap (λ (f : Entry). f.predecessor) c.entry_at-found.ensures, ap (λ (f : Entry). f.counted) c.entry_at-found.ensures)
 
--- the entries of the column, and the pairs counted with them
-told-2 : (c : After-struct_known-1) →
-    let at = c in
-    let a = at.args in
-    let found = c.entry_at-found.result in
-    (found.row ≡ row_at a.y a.engines at.loop-column.column)
-    × (found.predecessor ≡ predecessor_at a.y a.engines at.loop-column.column)
-    × (found.counted ≡ column_counted a.y a.engines at.loop-column.column)
-told-2 c = (ap (λ (f : Entry). f.row) c.entry_at-found.ensures, ap (λ (f : Entry). f.predecessor) c.entry_at-found.ensures, ap (λ (f : Entry). f.counted) c.entry_at-found.ensures)
-
-counted-now : (c : After-struct_known-1) →
+counted-now : (c : After-entry_at-found) →
     let at = c in
     (at.loop-column.counted + c.entry_at-found.result.counted ≤ (at.loop-column.column + 1) * (16 * column_limit)) × (at.loop-column.column + 1 ≤ column_limit)
 counted-now c =
@@ -172,26 +126,13 @@ counted-now c =
     let start = at in
     let a = start.args in
     let p = start.requires in
-    let inside = entry-inside-4 c in (
-      rw (told-2 c).2 (counted-more a.y a.engines at.loop-column.column a.rows.now p.0 p.1 inside.0 p.2 at.loop-column.counted at.loop-column.invariant.5),
-      omega (arith, inside.0, inside.1),
-    )
-
-counted-now-2 : (c : After-step) →
-    let at = c in
-    (at.loop-column.counted + c.entry_at-found.result.counted ≤ (at.loop-column.column + 1) * (16 * column_limit)) × (at.loop-column.column + 1 ≤ column_limit)
-counted-now-2 c =
-    let at = c in
-    let start = at in
-    let a = start.args in
-    let p = start.requires in
-    let inside = entry-inside-3 c in (
+    let inside = entry-inside-2 c in (
       rw (told c).2 (counted-more a.y a.engines at.loop-column.column a.rows.now p.0 p.1 inside.0 p.2 at.loop-column.counted at.loop-column.invariant.5),
       omega (arith, inside.0, inside.1),
     )
 
 pub overflow_add-counted : goal.overflow_add-counted
-overflow_add-counted c = omega (arith, counted-now c)
+overflow_add-counted c = omega (arith, counted-now (goal.at.overflow_add-counted c).After-entry_at-found)
 
 pub step-requires : goal.step-requires
 step-requires c =
@@ -201,18 +142,18 @@ step-requires c =
 
 pub loop-column-preserved : goal.loop-column-preserved
 loop-column-preserved c =
-    let found = c in
+    let found = (goal.at.loop-column-preserved c).After-entry_at-found in
     let at = found in
     let a = at.args in
     let p = at.requires in
     let k = at.loop-column.column in
-    let inside = (entry-inside-3 found).0 in (
+    let inside = (entry-inside-2 found).0 in (
       omega arith,
       rw at.loop-column.invariant.1 (stored-again (row_at a.y a.engines) k a.rows.now (omega (arith, inside, p.2)) at.no_row-none.result found.entry_at-found.result.row (told found).0),
       rw at.loop-column.invariant.2 (stored (predecessor_at a.y a.engines) k a.predecessors.now (omega (arith, inside, p.3)) found.entry_at-found.result.predecessor (told found).1),
       c.step.ensures.0 ∙ rw (at.ceilings_of-ceilings.ensures, at.loop-column.invariant.3) (next_under-load_of (ceilings_of a.y) k),
       rw (at.loop-column.invariant.4, (told found).2) (sym (counted_to-more a.y a.engines k)),
-      (counted-now-2 found).0,
+      (counted-now found).0,
     )
 
 pub shape_of-rows : goal.shape_of-rows
