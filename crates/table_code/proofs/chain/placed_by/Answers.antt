@@ -1,68 +1,42 @@
 -- The column is one of the part's. Where its entry is one of the rows, it is the lowest that says yes, and recovery from it onto idle rows is what is placed.
-use Prim.Native.Nat.{◌<◌}
-use mathlib.Core.Path.{refl}
+use Prim.Native.Nat.{ℕ, ◌<◌}
+use mathlib.Core.Path.{◌≡◌, refl}
+use mathlib.Core.Bool.{true}
+use mathlib.Core.List.{List}
 use native.Mathlib.Omega.{arith}
-use borrow.Author.Rules.{rules}
 use lib.ListN.{get_or}
+use Rattle.system.specs.declared.System.{System}
 use Rattle.system.specs.Values.{ceilings_of}
 use Rattle.system.specs.Limits.{columns}
 use Rattle.system.proofs.Laws.{limits_of}
+use Rattle.loads.specs.Load.{within}
+use Rattle.loads.specs.Column.{column_of}
 use Rattle.loads.proofs.Column.{column_of-lt}
 use Rattle.table.proofs.Placed.{rows-found, rows_none}
 use Rattle.table.specs.Parts.{lowest_for}
 use Rattle.table.proofs.Chained.{shown-row, shown-none, shown-chain}
-use Rattle.table_code.proofs.chain.placed_by.Goals.{After-column_of-column, After-recover-loads, After-shared_slice_known-3-1-unread, Else-row-engines, Then-row-engines}
 use Rattle.table_code.proofs.chain.placed_by.Goals as goal
 
 pub column_of-column-requires : goal.column_of-column-requires
 column_of-column-requires c = let start = c in (limits_of start.args.y start.requires.0.limits).columns
 
 -- the column stands for a load within the ceilings
-column-small : (c : After-column_of-column) → c.column_of-column.result < columns c.args.y
-column-small c =
-    let start = c in
-    omega (arith, c.column_of-column.ensures, column_of-lt (ceilings_of start.args.y) start.args.counts start.requires.1)
-
--- the column stands for a load within the ceilings
-column-small-2 : (c : After-shared_slice_known-3-1-unread) → c.column_of-column.result < columns c.args.y
-column-small-2 c =
-    let start = c in
-    omega (arith, c.column_of-column.ensures, column_of-lt (ceilings_of start.args.y) start.args.counts start.requires.1)
-
--- the column stands for a load within the ceilings
-column-small-3 : (c : Then-row-engines) → c.column_of-column.result < columns c.args.y
-column-small-3 c =
-    let start = c in
-    omega (arith, c.column_of-column.ensures, column_of-lt (ceilings_of start.args.y) start.args.counts start.requires.1)
-
--- the column stands for a load within the ceilings
-column-small-4 : (c : After-recover-loads) → c.column_of-column.result < columns c.args.y
-column-small-4 c =
-    let start = c in
-    omega (arith, c.column_of-column.ensures, column_of-lt (ceilings_of start.args.y) start.args.counts start.requires.1)
-
--- the column stands for a load within the ceilings
-column-small-5 : (c : Else-row-engines) → c.column_of-column.result < columns c.args.y
-column-small-5 c =
-    let start = c in
-    omega (arith, c.column_of-column.ensures, column_of-lt (ceilings_of start.args.y) start.args.counts start.requires.1)
+column-small : (y : System) (counts : List ℕ) (column : ℕ) → within counts (ceilings_of y) ≡ true → column ≡ column_of (ceilings_of y) counts → column < columns y
+column-small y counts column inside is = omega (arith, is, column_of-lt (ceilings_of y) counts inside)
 
 pub offset_bounds-rows-column : goal.offset_bounds-rows-column
 offset_bounds-rows-column c =
     let start = c in
-    omega (arith, column-small c, (limits_of start.args.y start.requires.0.limits).columns)
+    omega (arith, column-small c.args.y c.args.counts c.column_of-column.result c.requires.1 c.column_of-column.ensures, (limits_of start.args.y start.requires.0.limits).columns)
 
 pub bounds-rows-column : goal.bounds-rows-column
-bounds-rows-column c = omega (arith, column-small-2 c, c.requires.0.room_rows)
-
-pub overflow_cast-row : goal.overflow_cast-row
-overflow_cast-row c = omega (arith, c.shared_slice_known-3-1.given c.column_of-column.result)
+bounds-rows-column c = omega (arith, column-small c.args.y c.args.counts c.column_of-column.result c.requires.1 c.column_of-column.ensures, c.requires.0.room_rows)
 
 pub recover-loads-requires : goal.recover-loads-requires
 recover-loads-requires c =
     let start = c in
     let found = c in
-    shown-chain start.requires.0 found.column_of-column.result (column-small-3 found) c.if-row-engines.true
+    shown-chain start.requires.0 found.column_of-column.result (column-small c.args.y c.args.counts c.column_of-column.result c.requires.1 c.column_of-column.ensures) c.if-row-engines.true
 
 pub returns-then-row-engines : goal.returns-then-row-engines
 returns-then-row-engines c =
@@ -73,7 +47,7 @@ returns-then-row-engines c =
     (get_or start.args.rows.now column 0)
     column
     c.idle_engine-idle.result
-    (shown-row start.requires.0 column (column-small-4 found) c.if-row-engines.true)
+    (shown-row start.requires.0 column (column-small c.args.y c.args.counts c.column_of-column.result c.requires.1 c.column_of-column.ensures) c.if-row-engines.true)
     found.column_of-column.ensures
     c.idle_engine-idle.ensures
     c.recover-loads.result
@@ -93,4 +67,4 @@ returns c =
     refl
     found.column_of-column.ensures
     c.idle_engine-idle.ensures
-    (shown-none start.requires.0 column (column-small-5 found) c.if-row-engines.false)
+    (shown-none start.requires.0 column (column-small c.args.y c.args.counts c.column_of-column.result c.requires.1 c.column_of-column.ensures) c.if-row-engines.false)

@@ -1,6 +1,5 @@
 -- The difference of the two columns' loads is what the contract calls the row's load.
 use mathlib.Core.Path.{◌≡◌, ap, ◌∙◌}
-use borrow.Author.Rules.{rules}
 use Rattle.loads.specs.Load.{less, fits_engine, engine_with}
 use Rattle.table.specs.Chain.{row_load}
 use Rattle.table_code.proofs.chain.row_load.Goals.{After-engine_with, After-minus}

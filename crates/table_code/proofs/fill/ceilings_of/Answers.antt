@@ -1,16 +1,15 @@
 -- `ceilings_of`: the answers.
-use Prim.Native.Nat.{ℕ, ◌+◌, ◌-◌, ◌≤◌, ◌<◌}
+use Prim.Native.Nat.{ℕ, ◌+◌, ◌≤◌, ◌<◌}
 use mathlib.Core.Path.{◌≡◌, refl, sym, ◌∙◌}
-use mathlib.Core.List.{List, [], ◌∷◌, ◌++◌}
+use mathlib.Core.List.{List, [], ◌∷◌}
 use native.Mathlib.Numerals.{add-one}
 use native.Mathlib.Omega.{arith}
 use borrow.Author.Rules.{rules}
-use lib.ListN.{length, get_or, take, drop, length-set, drop_of_length-le}
+use lib.ListN.{length, get_or, drop, length-set, drop_of_length-le}
 use lib.Seq.{drop-cons}
 use Rattle.system.specs.declared.TaskType.{TaskType}
 use Rattle.system.specs.Values.{no_task}
 use Rattle.loads.proofs.Steps.{length-mapped, filled-turn, filled-end}
-use Rattle.loads.proofs.Steps as steps
 use Rattle.table_code.proofs.fill.ceilings_of.Invariants.{ceilings_in}
 use Rattle.table_code.proofs.fill.ceilings_of.Goals as goal
 

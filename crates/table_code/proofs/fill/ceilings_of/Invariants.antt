@@ -1,14 +1,9 @@
 -- The loop's invariant: the ceilings written, followed by those of the types left, are the ceilings.
-use Prim.Native.Nat.{ℕ, ◌+◌, ◌-◌, ◌≤◌, ◌<◌}
-use mathlib.Core.Path.{◌≡◌, refl, sym, ◌∙◌}
-use mathlib.Core.List.{List, [], ◌∷◌, ◌++◌}
-use native.Mathlib.Numerals.{add-one}
-use native.Mathlib.Omega.{arith}
-use borrow.Author.Rules.{rules}
-use lib.ListN.{length, get_or, take, drop, length-set, drop_of_length-le}
-use lib.Seq.{drop-cons}
+use Prim.Native.Nat.{ℕ, ◌-◌, ◌≤◌}
+use mathlib.Core.Path.{◌≡◌}
+use mathlib.Core.List.{List, ◌++◌}
+use lib.ListN.{length, take, drop}
 use Rattle.system.specs.declared.TaskType.{TaskType}
-use Rattle.system.specs.Values.{no_task}
 use Rattle.loads.proofs.Steps.{length-mapped, filled-turn, filled-end}
 use Rattle.loads.proofs.Steps as steps
 use Rattle.table_code.proofs.fill.ceilings_of.Given as goal

@@ -1,6 +1,5 @@
 -- Column 0 has row 0; any other column lies past it.
 use mathlib.Core.Path.{ap, sym, ◌∙◌}
-use borrow.Author.Rules.{rules}
 use Rattle.table.specs.Scan.{entry_of}
 use Rattle.table.proofs.Entries.{entry_zero}
 use Rattle.table_code.proofs.fill.entry_at.Goals as goal

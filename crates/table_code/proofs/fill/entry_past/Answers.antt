@@ -4,7 +4,6 @@ use mathlib.Core.Path.{◌≡◌, sym, ◌∙◌}
 use mathlib.Core.Bool.{true, false}
 use mathlib.Core.Logic.{◌⊎◌, inl, inr, ⊎_elim}
 use native.Mathlib.Omega.{arith}
-use borrow.Author.Rules.{rules}
 use borrow.Author.Tests.{leb-true}
 use lib.Dec.{leb}
 use Rattle.system.specs.Limits.{column_limit, keeps_limits}
@@ -65,12 +64,12 @@ not-one c =
     let start = c in
     let most = c.most_below-most in
     elim c.if-most-engines-2.branch [
-        | then-most-engines-2+else-fits_engine w ↦ inl (sym w.fits_engine.ensures ∙ w.if-fits_engine.false)
-        | else-most-engines-2 w ↦
-            ⊎_elim
-            (λ z. inr z)
-            (λ two. inl (unfit-past-one start.requires.0 most.result most.ensures two c.if-most-engines.false))
-            (not_tested most.result start.args.engines w.if-most-engines-2.false)
+      | then-most-engines-2+else-fits_engine w ↦ inl (sym w.fits_engine.ensures ∙ w.if-fits_engine.false)
+      | else-most-engines-2 w ↦
+          ⊎_elim
+          (λ z. inr z)
+          (λ two. inl (unfit-past-one start.requires.0 most.result most.ensures two c.if-most-engines.false))
+          (not_tested most.result start.args.engines w.if-most-engines-2.false)
     ]
 
 -- else it does not fit, or there is no engine
@@ -81,12 +80,12 @@ not-one-2 c =
     let start = c in
     let most = c.most_below-most in
     elim c.if-most-engines-2.branch [
-        | then-most-engines-2+else-fits_engine w ↦ inl (sym w.fits_engine.ensures ∙ w.if-fits_engine.false)
-        | else-most-engines-2 w ↦
-            ⊎_elim
-            (λ z. inr z)
-            (λ two. inl (unfit-past-one start.requires.0 most.result most.ensures two c.if-most-engines.false))
-            (not_tested most.result start.args.engines w.if-most-engines-2.false)
+      | then-most-engines-2+else-fits_engine w ↦ inl (sym w.fits_engine.ensures ∙ w.if-fits_engine.false)
+      | else-most-engines-2 w ↦
+          ⊎_elim
+          (λ z. inr z)
+          (λ two. inl (unfit-past-one start.requires.0 most.result most.ensures two c.if-most-engines.false))
+          (not_tested most.result start.args.engines w.if-most-engines-2.false)
     ]
 
 pub none-requires-then-most-eq0 : goal.none-requires-then-most-eq0

@@ -1,30 +1,27 @@
 -- `fill_parts`: the answers.
-use Prim.Native.Nat.{ℕ, ◌+◌, ◌-◌, ◌*◌, ◌≤◌, ◌<◌}
+use Prim.Native.Nat.{ℕ, ◌+◌, ◌*◌, ◌≤◌, ◌<◌}
 use mathlib.Core.Path.{◌≡◌, sym, ap, ◌∙◌}
+use mathlib.Core.Bool.{true}
 use native.Mathlib.Omega.{arith}
-use borrow.Author.Rules.{rules}
 use lib.ListN.{length, replicate, length-map, length-set}
 use Rattle.system.specs.declared.TaskType.{TaskType}
+use Rattle.system.specs.declared.System.{System}
 use Rattle.system.specs.Values.{ceilings_of}
-use Rattle.system.specs.Limits.{columns, column_limit}
+use Rattle.system.specs.Limits.{columns, column_limit, keeps_limits}
 use Rattle.system.proofs.Laws.{limits_of}
-use Rattle.loads.specs.Column.{load_of}
 use Rattle.loads.proofs.Column.{length-load_of, load_of-zero}
-use Rattle.table.proofs.Begun.{begun, length-begun}
+use Rattle.table.proofs.Begun.{length-begun}
 use Rattle.table.proofs.Stepping.{next_under-load_of}
 use Rattle.table.specs.declared.Entry.{Entry}
 use Rattle.table.specs.Parts.{row_at, predecessor_at}
 use Rattle.table.specs.Scan.{column_counted}
 use Rattle.table.proofs.Counted.{counted_to, counted_to-none, counted_to-more, counted_to-all}
 use Rattle.table.proofs.FilledParts.{stored-again, stored, part-starts, part-ends, rows-to, counted-more}
-use Rattle.table_code.proofs.fill.fill_parts.Goals.{After-entry_at-found, After-load-1, After-no_row-none, After-step, After-struct_known-1, In-loop-column}
+use Rattle.table_code.proofs.fill.fill_parts.Goals.{After-entry_at-found, In-loop-column}
 use Rattle.table_code.proofs.fill.fill_parts.Goals as goal
 
-six-ceilings : (c : After-no_row-none) → length (ceilings_of c.args.y) ≡ 6
-six-ceilings c = length-map c.args.y.types (λ (t : TaskType). t.ceiling) ∙ (limits_of c.args.y c.requires.0).six
-
-six-ceilings-2 : (c : After-load-1) → length (ceilings_of c.args.y) ≡ 6
-six-ceilings-2 c = length-map c.args.y.types (λ (t : TaskType). t.ceiling) ∙ (limits_of c.args.y c.requires.0).six
+six-ceilings : (y : System) → keeps_limits y ≡ true → length (ceilings_of y) ≡ 6
+six-ceilings y h = length-map y.types (λ (t : TaskType). t.ceiling) ∙ (limits_of y h).six
 
 pub columns_of-columns-requires : goal.columns_of-columns-requires
 columns_of-columns-requires c = (limits_of _ c.requires.0).columns
@@ -38,7 +35,7 @@ loop-column-init c =
       omega arith,
       part-starts (row_at a.y a.engines) a.rows.now,
       part-starts (predecessor_at a.y a.engines) a.predecessors.now,
-      sym (load_of-zero (ceilings_of a.y) ∙ ap (λ (k : ℕ). replicate k 0) (six-ceilings c)),
+      sym (load_of-zero (ceilings_of a.y) ∙ ap (λ (k : ℕ). replicate k 0) (six-ceilings c.args.y c.requires.0)),
       sym (counted_to-none a.y a.engines),
       omega arith,
     )
@@ -67,42 +64,6 @@ entry-inside-2 : (c : After-entry_at-found) →
     let start = at in
     (at.loop-column.column < columns start.args.y) × (columns start.args.y ≤ column_limit) × (at.loop-column.column < length at.loop-column.rows) × (at.loop-column.column < length at.loop-column.predecessors)
 entry-inside-2 c =
-    let at = c in
-    let start = at in
-    let a = start.args in
-    let p = start.requires in
-    let k = at.loop-column.column in
-    let inside : k < columns a.y = omega (arith, c.loop-column-test.true, at.columns_of-columns.ensures) in (
-      inside,
-      (limits_of a.y p.0).columns,
-      rw (at.loop-column.invariant.1, length-begun (row_at a.y a.engines) k a.rows.now (omega (arith, p.2))) (omega (arith, p.2)),
-      rw (at.loop-column.invariant.2, length-begun (predecessor_at a.y a.engines) k a.predecessors.now (omega (arith, p.3))) (omega (arith, p.3)),
-    )
-
--- the entries that are written lie in the parts
-entry-inside-3 : (c : After-step) →
-    let at = c in
-    let start = at in
-    (at.loop-column.column < columns start.args.y) × (columns start.args.y ≤ column_limit) × (at.loop-column.column < length at.loop-column.rows) × (at.loop-column.column < length at.loop-column.predecessors)
-entry-inside-3 c =
-    let at = c in
-    let start = at in
-    let a = start.args in
-    let p = start.requires in
-    let k = at.loop-column.column in
-    let inside : k < columns a.y = omega (arith, c.loop-column-test.true, at.columns_of-columns.ensures) in (
-      inside,
-      (limits_of a.y p.0).columns,
-      rw (at.loop-column.invariant.1, length-begun (row_at a.y a.engines) k a.rows.now (omega (arith, p.2))) (omega (arith, p.2)),
-      rw (at.loop-column.invariant.2, length-begun (predecessor_at a.y a.engines) k a.predecessors.now (omega (arith, p.3))) (omega (arith, p.3)),
-    )
-
--- the entries that are written lie in the parts
-entry-inside-4 : (c : After-struct_known-1) →
-    let at = c in
-    let start = at in
-    (at.loop-column.column < columns start.args.y) × (columns start.args.y ≤ column_limit) × (at.loop-column.column < length at.loop-column.rows) × (at.loop-column.column < length at.loop-column.predecessors)
-entry-inside-4 c =
     let at = c in
     let start = at in
     let a = start.args in
@@ -148,7 +109,7 @@ pub bounds-predecessors-column : goal.bounds-predecessors-column
 bounds-predecessors-column c = (entry-inside-2 c).3
 
 -- the entries of the column, and the pairs counted with them
-told : (c : After-step) →
+told : (c : After-entry_at-found) →
     let at = c in
     let a = at.args in
     let found = c.entry_at-found.result in
@@ -157,17 +118,7 @@ told : (c : After-step) →
     × (found.counted ≡ column_counted a.y a.engines at.loop-column.column)
 told c = (ap (λ (f : Entry). f.row) c.entry_at-found.ensures, ap (λ (f : Entry). f.predecessor) c.entry_at-found.ensures, ap (λ (f : Entry). f.counted) c.entry_at-found.ensures)
 
--- the entries of the column, and the pairs counted with them
-told-2 : (c : After-struct_known-1) →
-    let at = c in
-    let a = at.args in
-    let found = c.entry_at-found.result in
-    (found.row ≡ row_at a.y a.engines at.loop-column.column)
-    × (found.predecessor ≡ predecessor_at a.y a.engines at.loop-column.column)
-    × (found.counted ≡ column_counted a.y a.engines at.loop-column.column)
-told-2 c = (ap (λ (f : Entry). f.row) c.entry_at-found.ensures, ap (λ (f : Entry). f.predecessor) c.entry_at-found.ensures, ap (λ (f : Entry). f.counted) c.entry_at-found.ensures)
-
-counted-now : (c : After-struct_known-1) →
+counted-now : (c : After-entry_at-found) →
     let at = c in
     (at.loop-column.counted + c.entry_at-found.result.counted ≤ (at.loop-column.column + 1) * (16 * column_limit)) × (at.loop-column.column + 1 ≤ column_limit)
 counted-now c =
@@ -175,47 +126,34 @@ counted-now c =
     let start = at in
     let a = start.args in
     let p = start.requires in
-    let inside = entry-inside-4 c in (
-      rw (told-2 c).2 (counted-more a.y a.engines at.loop-column.column a.rows.now p.0 p.1 inside.0 p.2 at.loop-column.counted at.loop-column.invariant.5),
-      omega (arith, inside.0, inside.1),
-    )
-
-counted-now-2 : (c : After-step) →
-    let at = c in
-    (at.loop-column.counted + c.entry_at-found.result.counted ≤ (at.loop-column.column + 1) * (16 * column_limit)) × (at.loop-column.column + 1 ≤ column_limit)
-counted-now-2 c =
-    let at = c in
-    let start = at in
-    let a = start.args in
-    let p = start.requires in
-    let inside = entry-inside-3 c in (
+    let inside = entry-inside-2 c in (
       rw (told c).2 (counted-more a.y a.engines at.loop-column.column a.rows.now p.0 p.1 inside.0 p.2 at.loop-column.counted at.loop-column.invariant.5),
       omega (arith, inside.0, inside.1),
     )
 
 pub overflow_add-counted : goal.overflow_add-counted
-overflow_add-counted c = omega (arith, counted-now c)
+overflow_add-counted c = omega (arith, counted-now (goal.at.overflow_add-counted c).After-entry_at-found)
 
 pub step-requires : goal.step-requires
 step-requires c =
     let at = c in
     let start = at in
-    (omega arith, rw at.loop-column.invariant.3 (length-load_of (ceilings_of start.args.y) at.loop-column.column ∙ six-ceilings-2 start))
+    (omega arith, rw at.loop-column.invariant.3 (length-load_of (ceilings_of start.args.y) at.loop-column.column ∙ six-ceilings start.args.y start.requires.0))
 
 pub loop-column-preserved : goal.loop-column-preserved
 loop-column-preserved c =
-    let found = c in
+    let found = (goal.at.loop-column-preserved c).After-entry_at-found in
     let at = found in
     let a = at.args in
     let p = at.requires in
     let k = at.loop-column.column in
-    let inside = (entry-inside-3 found).0 in (
+    let inside = (entry-inside-2 found).0 in (
       omega arith,
       rw at.loop-column.invariant.1 (stored-again (row_at a.y a.engines) k a.rows.now (omega (arith, inside, p.2)) at.no_row-none.result found.entry_at-found.result.row (told found).0),
       rw at.loop-column.invariant.2 (stored (predecessor_at a.y a.engines) k a.predecessors.now (omega (arith, inside, p.3)) found.entry_at-found.result.predecessor (told found).1),
       c.step.ensures.0 ∙ rw (at.ceilings_of-ceilings.ensures, at.loop-column.invariant.3) (next_under-load_of (ceilings_of a.y) k),
       rw (at.loop-column.invariant.4, (told found).2) (sym (counted_to-more a.y a.engines k)),
-      (counted-now-2 found).0,
+      (counted-now found).0,
     )
 
 pub shape_of-rows : goal.shape_of-rows

@@ -1,17 +1,15 @@
 -- `most_below`: the answers.
-use Prim.Native.Nat.{ℕ, ◌+◌, ◌-◌, ◌*◌, ◌≤◌, ◌<◌}
-use mathlib.Core.Path.{◌≡◌, refl, sym, ap, ◌∙◌}
-use mathlib.Core.Logic.{⊎_elim}
+use Prim.Native.Nat.{◌+◌, ◌*◌, ◌≤◌, ◌<◌}
+use mathlib.Core.Path.{◌≡◌, ◌∙◌}
 use native.Mathlib.Nat.{one-mul, le_trans}
 use native.Mathlib.Omega.{arith}
 use borrow.Author.Rules.{rules}
 use lib.ListN.{length, get_or, drop}
 use Rattle.system.specs.Limits.{columns_of, column_limit}
-use Rattle.loads.specs.Column.{column_from}
-use Rattle.table.specs.Scan.{most_below, larger}
+use Rattle.table.specs.Scan.{most_below}
 use Rattle.table.proofs.Stepping.{next-stride, next-stride-le}
 use Rattle.table.proofs.Below.{column-later, stride-inside, most-without, most-rises, most-stays, most-start, most-end}
-use Rattle.table_code.proofs.fill.most_below.Goals.{After-shared_slice_known-then-load-t-ne0-1-unread, After-wide, Then-load-t-ne0}
+use Rattle.table_code.proofs.fill.most_below.Goals.{After-wide, Then-load-t-ne0}
 use Rattle.table_code.proofs.fill.most_below.Goals.{then-load-t-ne0+then-most-row, then-load-t-ne0+else-most-row, else-load-t-ne0}
 use Rattle.table_code.proofs.fill.most_below.Goals as goal
 
@@ -29,15 +27,6 @@ reads-inside c =
     let lx : length a.load ≡ 6 = search rules in
     stride-inside a.rows.now a.column here.stride here.most a.ceilings a.load here.t (omega arith) (omega arith) here.invariant.2 c.if-load-t-ne0.true
 
--- the entry that is read lies in the part
-reads-inside-2 : (c : After-shared_slice_known-then-load-t-ne0-1-unread) → c.loop-t.stride ≤ c.args.column
-reads-inside-2 c =
-    let here = c.loop-t in
-    let a = c.args in
-    let ln : length a.ceilings ≡ 6 = search rules in
-    let lx : length a.load ≡ 6 = search rules in
-    stride-inside a.rows.now a.column here.stride here.most a.ceilings a.load here.t (omega arith) (omega arith) here.invariant.2 c.if-load-t-ne0.true
-
 pub overflow_sub-row : goal.overflow_sub-row
 overflow_sub-row c = omega (arith, reads-inside c)
 
@@ -45,7 +34,7 @@ pub offset_bounds-rows-column : goal.offset_bounds-rows-column
 offset_bounds-rows-column c = omega (arith, reads-inside c)
 
 pub bounds-rows-column : goal.bounds-rows-column
-bounds-rows-column c = omega (arith, reads-inside-2 c, c.requires.inside)
+bounds-rows-column c = omega (arith, reads-inside (goal.at.bounds-rows-column c).Then-load-t-ne0, c.requires.inside)
 
 -- what the next type's stride is
 stride-next : (c : After-wide) → c.loop-t.t < 6 →
@@ -78,9 +67,9 @@ loop-t-preserved c =
       (stride-next c (omega arith)).0,
       column-later a.rows.now a.column here.stride here.most a.ceilings a.load here.t hn hx here.invariant.2,
       elim c.if-load-t-ne0.branch [
-          | then-load-t-ne0+then-most-row w ↦ rw w.most-is (most-rises a.rows.now a.column here.stride here.most a.ceilings a.load here.t hn hx w.if-load-t-ne0.true w.if-most-row.true)
-          | then-load-t-ne0+else-most-row w ↦ rw w.most-is (most-stays a.rows.now a.column here.stride here.most a.ceilings a.load here.t hn hx w.if-load-t-ne0.true w.if-most-row.false)
-          | else-load-t-ne0 w ↦ rw w.most-is (most-without a.rows.now a.column here.stride here.most a.ceilings a.load here.t hn hx w.if-load-t-ne0.false)
+        | then-load-t-ne0+then-most-row w ↦ rw w.most-is (most-rises a.rows.now a.column here.stride here.most a.ceilings a.load here.t hn hx w.if-load-t-ne0.true w.if-most-row.true)
+        | then-load-t-ne0+else-most-row w ↦ rw w.most-is (most-stays a.rows.now a.column here.stride here.most a.ceilings a.load here.t hn hx w.if-load-t-ne0.true w.if-most-row.false)
+        | else-load-t-ne0 w ↦ rw w.most-is (most-without a.rows.now a.column here.stride here.most a.ceilings a.load here.t hn hx w.if-load-t-ne0.false)
       ]
           ∙ here.invariant.3,
     )

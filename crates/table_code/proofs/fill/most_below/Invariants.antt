@@ -1,16 +1,10 @@
 -- The loop's invariant: the larger of the largest row so far and the largest over the types left is the largest, and what the types left add to the column is at most the column.
-use Prim.Native.Nat.{ℕ, ◌+◌, ◌-◌, ◌*◌, ◌≤◌, ◌<◌}
-use mathlib.Core.Path.{◌≡◌, refl, sym, ap, ◌∙◌}
-use mathlib.Core.Logic.{⊎_elim}
-use native.Mathlib.Nat.{one-mul, le_trans}
-use native.Mathlib.Omega.{arith}
-use borrow.Author.Rules.{rules}
-use lib.ListN.{length, get_or, drop}
-use Rattle.system.specs.Limits.{columns_of, column_limit}
+use Prim.Native.Nat.{◌-◌, ◌*◌, ◌≤◌}
+use mathlib.Core.Path.{◌≡◌}
+use lib.ListN.{drop}
+use Rattle.system.specs.Limits.{columns_of}
 use Rattle.loads.specs.Column.{column_from}
 use Rattle.table.specs.Scan.{most_below, larger}
-use Rattle.table.proofs.Stepping.{next-stride, next-stride-le}
-use Rattle.table.proofs.Below.{column-later, stride-inside, most-without, most-rises, most-stays, most-start, most-end}
 use Rattle.table_code.proofs.fill.most_below.Given as goal
 
 abbrev pub invariant-loop-t : goal.invariant-loop-t

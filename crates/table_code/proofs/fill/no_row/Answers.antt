@@ -1,6 +1,5 @@
 -- A system within the limits has at most 16 engines.
 use native.Mathlib.Omega.{arith}
-use borrow.Author.Rules.{rules}
 use Rattle.system.proofs.Laws.{limits_of}
 use Rattle.table_code.proofs.fill.no_row.Goals as goal
 

@@ -1,9 +1,6 @@
 -- At most 16 rows of at most as many columns as the limit allows are counted.
-use Prim.Native.Nat.{ℕ}
-use mathlib.Core.Path.{ap}
 use native.Mathlib.Nat.{mul-le-mul}
 use native.Mathlib.Omega.{arith}
-use borrow.Author.Rules.{rules}
 use Rattle.system.specs.Limits.{column_limit}
 use Rattle.table_code.proofs.fill.none.Goals as goal
 

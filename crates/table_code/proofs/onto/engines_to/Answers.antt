@@ -1,5 +1,5 @@
 -- `engines_to`: the answers.
-use Prim.Native.Nat.{ℕ, suc, ◌+◌, ◌-◌, ◌≤◌, ◌<◌}
+use Prim.Native.Nat.{ℕ, suc, ◌+◌, ◌<◌}
 use mathlib.Core.Path.{◌≡◌, refl, sym, ◌∙◌}
 use mathlib.Core.List.{List}
 use native.Mathlib.Nat.{le_refl}
@@ -7,7 +7,6 @@ use native.Mathlib.Numerals.{add-one}
 use native.Mathlib.Omega.{arith}
 use lib.ListN.{length, take, set, length-set}
 use lib.Seq.{take-suc, take-set-le, get_or-set_same}
-use Rattle.system.specs.Limits.{engine_limit}
 use Rattle.partition.specs.Assignment.{numbers_from, engines_to}
 use Rattle.partition.proofs.Lists.{engines_to-last}
 use Rattle.table_code.proofs.onto.engines_to.Goals as goal

@@ -1,16 +1,12 @@
 -- `on_engines`: the answers.
-use Prim.Native.Nat.{ℕ, ◌-◌, ◌≤◌, ◌<◌}
+use Prim.Native.Nat.{◌-◌}
 use mathlib.Core.Path.{◌≡◌, refl, sym, ap, ◌∙◌}
-use mathlib.Core.Bool.{true}
-use mathlib.Core.List.{List, []}
+use mathlib.Core.List.{[]}
 use native.Mathlib.Omega.{arith}
 use borrow.Author.Rules.{rules}
 use lib.ListN.{length, get_or, take, replicate, length-set}
 use Rattle.system.specs.Limits.{engine_limit}
-use Rattle.loads.specs.declared.EngineLoad.{EngineLoad}
 use Rattle.loads.specs.Load.{idle_engine}
-use Rattle.partition.specs.Assignment.{among, every, engines_to}
-use Rattle.partition.specs.Shares.{distinct, on_engines}
 use Rattle.table.proofs.Spread.{no_rows, listed-bounds, one-row-more}
 use Rattle.table_code.proofs.onto.on_engines.Goals as goal
 

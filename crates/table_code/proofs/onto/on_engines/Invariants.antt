@@ -1,17 +1,14 @@
 -- The loop's invariant: of the rows before i each is on its engine. It is stated for any number of listed engines, since the loop knows their numbers alone.
-use Prim.Native.Nat.{ℕ, ◌-◌, ◌≤◌, ◌<◌}
-use mathlib.Core.Path.{◌≡◌, refl, sym, ap, ◌∙◌}
+use Prim.Native.Nat.{ℕ, ◌-◌, ◌≤◌}
+use mathlib.Core.Path.{◌≡◌}
 use mathlib.Core.Bool.{true}
-use mathlib.Core.List.{List, []}
-use native.Mathlib.Omega.{arith}
-use borrow.Author.Rules.{rules}
-use lib.ListN.{length, get_or, take, replicate, length-set}
+use mathlib.Core.List.{List}
+use lib.ListN.{length, take}
 use Rattle.system.specs.Limits.{engine_limit}
 use Rattle.loads.specs.declared.EngineLoad.{EngineLoad}
 use Rattle.loads.specs.Load.{idle_engine}
 use Rattle.partition.specs.Assignment.{among, every, engines_to}
 use Rattle.partition.specs.Shares.{distinct, on_engines}
-use Rattle.table.proofs.Spread.{no_rows, listed-bounds, one-row-more}
 use Rattle.table_code.proofs.onto.on_engines.Given as goal
 
 -- the rows before i, on the first n of the numbers

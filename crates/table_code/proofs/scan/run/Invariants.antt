@@ -1,16 +1,8 @@
 -- The loop's invariant: `left` is one more than the next difference, and the lowest from the column with that difference on is the lowest of all.
-use Prim.Native.Nat.{ℕ, ◌+◌, ◌-◌, ◌≤◌, ◌<◌}
-use mathlib.Core.Path.{◌≡◌, sym, ap, ◌∙◌}
-use mathlib.Core.List.{List}
-use mathlib.Core.Bool.{Bool, true, false, and-false}
-use native.Mathlib.Omega.{arith}
-use borrow.Author.Rules.{rules}
-use borrow.Author.Tests.{le-leb, lt-leb}
-use lib.ListN.{get_or}
-use lib.Dec.{leb}
+use Prim.Native.Nat.{◌+◌, ◌-◌, ◌≤◌}
+use mathlib.Core.Path.{◌≡◌}
 use Rattle.partition.specs.Cell.{lowest, no_column}
 use Rattle.table.specs.Scan.{seen_by}
-use Rattle.table.proofs.Between.{between-here, between-later, between-end}
 use Rattle.table_code.proofs.scan.run.Given as goal
 
 abbrev pub invariant-loop-left : goal.invariant-loop-left

@@ -1,6 +1,5 @@
 -- The columns are few, so below the bound at which `columns_within` stops.
 use native.Mathlib.Omega.{arith}
-use borrow.Author.Rules.{rules}
 use Rattle.table_code.proofs.size.columns_of.Goals as goal
 
 pub returns : goal.returns

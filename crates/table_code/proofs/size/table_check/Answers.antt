@@ -1,5 +1,4 @@
 -- The test is that of the definition; where it is not met the number is 11.
-use borrow.Author.Rules.{rules}
 use Rattle.table_code.proofs.size.table_check.Goals as goal
 
 pub returns-then-columns-rows : goal.returns-then-columns-rows

@@ -1,5 +1,5 @@
 -- `columns_under`: the answers.
-use Prim.Native.Nat.{◌+◌, ◌-◌, ◌*◌, ◌≤◌, ◌<◌}
+use Prim.Native.Nat.{◌+◌, ◌*◌, ◌≤◌, ◌<◌}
 use mathlib.Core.Path.{◌≡◌, sym, ◌∙◌}
 use native.Mathlib.Nat.{one-mul, mul-one, le_trans}
 use native.Mathlib.Omega.{arith}

@@ -1,12 +1,8 @@
 -- The loop's invariant: the product so far times that of the counts from t on is the product of all.
-use Prim.Native.Nat.{◌+◌, ◌-◌, ◌*◌, ◌≤◌, ◌<◌}
-use mathlib.Core.Path.{◌≡◌, sym, ◌∙◌}
-use native.Mathlib.Nat.{one-mul, mul-one, le_trans}
-use native.Mathlib.Omega.{arith}
-use borrow.Author.Rules.{rules}
-use lib.ListN.{length, get_or, drop, drop_of_length-le}
-use Rattle.system.specs.Limits.{columns_of, column_limit}
-use Rattle.table.proofs.Stepping.{next-stride, next-stride-le}
+use Prim.Native.Nat.{◌-◌, ◌*◌, ◌≤◌}
+use mathlib.Core.Path.{◌≡◌}
+use lib.ListN.{length, drop}
+use Rattle.system.specs.Limits.{columns_of}
 use Rattle.table_code.proofs.under.columns_under.Given as goal
 
 abbrev pub invariant-loop-t : goal.invariant-loop-t

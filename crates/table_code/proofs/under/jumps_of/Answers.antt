@@ -1,15 +1,13 @@
 -- `jumps_of`: the answers.
 use Prim.Native.Nat.{◌+◌, ◌-◌, ◌*◌, ◌≤◌, ◌<◌}
 use mathlib.Core.Path.{◌≡◌, refl, sym, ◌∙◌}
-use mathlib.Core.List.{◌++◌}
 use native.Mathlib.Nat.{one-mul, le_trans}
 use native.Mathlib.Omega.{arith}
 use borrow.Author.Rules.{rules}
-use lib.ListN.{length, get_or, take, drop, length-set}
+use lib.ListN.{length, get_or, drop, length-set}
 use Rattle.system.specs.Limits.{columns_of, column_limit}
 use Rattle.loads.proofs.Order.{within→below}
 use Rattle.loads.proofs.Steps.{filled-turn, filled-end}
-use Rattle.table.specs.Under.{jumps_from}
 use Rattle.table.proofs.Stepping.{jumps-turn, jumps-end, next-stride, next-stride-le, next-passed}
 use Rattle.table_code.proofs.under.jumps_of.Goals.{After-wide, After-wide-in-loop-t}
 use Rattle.table_code.proofs.under.jumps_of.Goals as goal

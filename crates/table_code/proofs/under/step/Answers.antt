@@ -1,13 +1,10 @@
 -- `step`: the answers.
-use Prim.Native.Nat.{◌+◌, ◌-◌, ◌≤◌}
 use mathlib.Core.Path.{◌≡◌, sym, ◌∙◌}
-use mathlib.Core.List.{◌++◌}
 use native.Mathlib.Omega.{arith}
 use borrow.Author.Rules.{rules}
-use lib.ListN.{length, get_or, take, drop, length-set}
+use lib.ListN.{length, get_or, length-set}
 use mir.Syntax.{w16}
 use mir.Val.{Fits}
-use Rattle.table.specs.Under.{next_under, rises_at}
 use Rattle.table.proofs.Stepping.{step-rise, step-turn, step_end}
 use Rattle.table_code.proofs.under.step.Goals as goal
 

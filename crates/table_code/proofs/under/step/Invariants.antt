@@ -1,14 +1,9 @@
 -- The loop's invariant: the counts passed, followed by the step of those that are left, are the step of all.
 use Prim.Native.Nat.{◌+◌, ◌-◌, ◌≤◌}
-use mathlib.Core.Path.{◌≡◌, sym, ◌∙◌}
+use mathlib.Core.Path.{◌≡◌}
 use mathlib.Core.List.{◌++◌}
-use native.Mathlib.Omega.{arith}
-use borrow.Author.Rules.{rules}
-use lib.ListN.{length, get_or, take, drop, length-set}
-use mir.Syntax.{w16}
-use mir.Val.{Fits}
+use lib.ListN.{length, take, drop}
 use Rattle.table.specs.Under.{next_under, rises_at}
-use Rattle.table.proofs.Stepping.{step-rise, step-turn, step_end}
 use Rattle.table_code.proofs.under.step.Given as goal
 
 abbrev pub invariant-loop-t : goal.invariant-loop-t
