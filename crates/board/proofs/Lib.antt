@@ -9,6 +9,7 @@ pub mod Demand1
 pub mod Views
 pub mod Frees
 pub mod Means
+pub mod MeansTrue
 pub mod Order
 pub mod Steps
 pub mod Ready

@@ -4,13 +4,17 @@
 #![tactic(auto)]
 
 use front::read_joined;
+use std::process::ExitCode;
 
 // What is read holds all that can be joined. What `check_read` promises it promises of every file and every sheet that begin with these parts, and of any
 // input that begins with what was read.
-fn main(rt: HostRuntime) -> std::io::Result<()> {
+fn main(rt: HostRuntime) -> ExitCode {
     let joined = read_joined(&rt);
     let bytes = joined.bytes;
     let mut out = io::buffer();
     let written = answers_code::check_read(bytes, joined.read, &mut out);
-    rt.write_all(&out[..written])
+    match rt.write_all(&out[..written]) {
+        Ok(()) => ExitCode::SUCCESS,
+        Err(_) => ExitCode::FAILURE,
+    }
 }

@@ -222,19 +222,26 @@ fn say_mixed(rt: &HostRuntime, cut: &[u8], changed: &[u8], more: &[u8], y: Syste
     say_tally(rt, changed, u);
     let unpaired = wrapping_add_usize(t.unpaired, u.unpaired);
     let unpaced = wrapping_add_usize(t.unpaced, u.unpaced);
-    say::say_row(rt, more, [unpaired, unpaced, 0, 0, 0, 0, 0, 0, 0, 0, 0, 0], 2);
+    say::say_row(
+        rt,
+        more,
+        [unpaired, unpaced, 0, 0, 0, 0, 0, 0, 0, 0, 0, 0],
+        2,
+    );
     wrapping_add_usize(t.wrong, u.wrong)
 }
 
 // Files with two kinds.
 fn say_kinds(rt: &HostRuntime) -> usize {
-    let kinds = say_mixed(rt, 
+    let kinds = say_mixed(
+        rt,
         b"A with two kinds cut:",
         b"A with two kinds changed:",
         b"A with two kinds, refused 41 and 43:",
         a_with_kinds(),
     );
-    let longest = say_mixed(rt, 
+    let longest = say_mixed(
+        rt,
         b"longest with two kinds cut:",
         b"longest with two kinds changed:",
         b"longest with two kinds, refused 41 and 43:",
@@ -245,25 +252,29 @@ fn say_kinds(rt: &HostRuntime) -> usize {
 
 // Files with a C and T, of one kind and of two.
 fn say_paces(rt: &HostRuntime) -> usize {
-    let a = say_mixed(rt, 
+    let a = say_mixed(
+        rt,
         b"A with C and T cut:",
         b"A with C and T changed:",
         b"A with C and T, refused 41 and 43:",
         with_two_paces(systems::system_a(3)),
     );
-    let kinds = say_mixed(rt, 
+    let kinds = say_mixed(
+        rt,
         b"A with two kinds, C and T cut:",
         b"A with two kinds, C and T changed:",
         b"A with two kinds, C and T, refused 41 and 43:",
         with_two_paces(a_with_kinds()),
     );
-    let longest = say_mixed(rt, 
+    let longest = say_mixed(
+        rt,
         b"longest with C and T cut:",
         b"longest with C and T changed:",
         b"longest with C and T, refused 41 and 43:",
         systems::system_paced(1),
     );
-    let both = say_mixed(rt, 
+    let both = say_mixed(
+        rt,
         b"longest with two kinds, C and T cut:",
         b"longest with two kinds, C and T changed:",
         b"longest with two kinds, C and T, refused 41 and 43:",
@@ -281,7 +292,8 @@ fn main(rt: HostRuntime) {
     let data = say_damage(&rt, b"A with d cut:", b"A with d changed:", a_with_data());
     let most = say_damage(&rt, b"A with q cut:", b"A with q changed:", a_with_most());
     let limits = say_damage(&rt, b"limits cut:", b"limits changed:", at_limits());
-    let longest = say_damage(&rt, 
+    let longest = say_damage(
+        &rt,
         b"longest cut:",
         b"longest changed:",
         systems::system_longest(1),

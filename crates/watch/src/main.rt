@@ -4,13 +4,17 @@
 #![tactic(auto)]
 
 use front::read_watched;
+use std::process::ExitCode;
 use timeline_code::WATCH_BYTES;
 
 // What was read is enough: what `watch_read` promises it promises of every input that begins with what was read.
-fn main(rt: HostRuntime) -> std::io::Result<()> {
+fn main(rt: HostRuntime) -> ExitCode {
     let front = read_watched(&rt);
     let bytes = front.bytes;
     let mut out = [0u8; WATCH_BYTES];
     let written = timeline_code::watch_read(bytes, front.read, &mut out);
-    rt.write_all(&out[..written])
+    match rt.write_all(&out[..written]) {
+        Ok(()) => ExitCode::SUCCESS,
+        Err(_) => ExitCode::FAILURE,
+    }
 }

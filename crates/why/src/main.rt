@@ -2,12 +2,16 @@
 #![tactic(auto)]
 
 use front::read_front;
+use std::process::ExitCode;
 
 // What was read is enough: what `why_read` promises it promises of every file that begins with what was read.
-fn main(rt: HostRuntime) -> std::io::Result<()> {
+fn main(rt: HostRuntime) -> ExitCode {
     let front = read_front(&rt);
     let bytes = front.bytes;
     let mut out = io::buffer();
     let written = wording_code::why_read(bytes, front.read, &mut out);
-    rt.write_all(&out[..written])
+    match rt.write_all(&out[..written]) {
+        Ok(()) => ExitCode::SUCCESS,
+        Err(_) => ExitCode::FAILURE,
+    }
 }
