@@ -1,10 +1,13 @@
--- How answers are read, from the words that read them; and what reading a file hands out.
-use Prim.Native.Nat.{ℕ}
-use mathlib.Core.List.{List}
-use mathlib.Core.Bool.{Bool}
+-- How answers are read, from the words that read them; and what reading a file, and a part of one, hands out.
+use Prim.Native.Nat.{ℕ, ◌-◌, ◌≤◌, ◌<◌}
+use mathlib.Core.List.{List, []}
+use mathlib.Core.Bool.{Bool, true, false, cond, ◌&&◌}
 use mathlib.Core.Path.{◌≡◌, refl, ap, ◌∙◌}
 use mathlib.Core.Logic.{◌⊎◌, inl, inr}
+use borrow.Author.Tests.{le-leb, leb-true}
 use native.Mathlib.Omega.{arith}
+use lib.ListN.{length, take, drop}
+use lib.Dec.{leb}
 use Rattle.system.specs.declared.Opened.{Opened}
 use Rattle.system.specs.declared.Refusal.{Refusal}
 use Rattle.system.specs.declared.Refusal.TheVariants.{Input, State}
@@ -26,9 +29,10 @@ use Rattle.runs.specs.declared.Report.{Report}
 use Rattle.deadlines.specs.declared.RunAnswer.{RunAnswer}
 use Rattle.deadlines.specs.declared.RunAnswer.TheVariants.{Ran, Refused as NotRun}
 use Rattle.deadlines.specs.Outcome.{FirstMiss, all_kept, first_at, RunOutcome, ran, not_run}
+use Rattle.system.specs.Inner.{part_of}
 use Rattle.system.specs.Layout.{Reading, Reads, read_outcome, read_system}
 use Rattle.causes.proofs.Implied.{each-implies}
-use Rattle.clients.specs.Answers.{OneOfThese, AnswersRead, CausesRead, SheetsRead, CountsRead, RunsRead, NumbersRead, GaveIs, DoesIs, ImpliedAlways, ReadsPlainly}
+use Rattle.clients.specs.Answers.{OneOfThese, AnswersRead, CausesRead, SheetsRead, CountsRead, RunsRead, NumbersRead, GaveIs, DoesIs, ImpliedAlways, ReadsPlainly, PartPlainly}
 use Rattle.clients.proofs.Plainly.{nothing_read}
 
 pub answers-read : AnswersRead
@@ -150,3 +154,22 @@ reads-plainly x r e = (
   (λ y is. (e.answer ∙ ap read_outcome is, e.system ∙ ap read_system is)),
   (λ n is. (e.answer ∙ ap read_outcome is, nothing_read r.system (e.system ∙ ap read_system is))),
 )
+
+-- the part is there, or it is not
+part-there : (file : List ℕ) (start end : ℕ) → start ≤ end → end ≤ length file → part_of file start end ≡ take (end - start) (drop start file)
+part-there file start end low high = rw (le-leb start end low, le-leb end (length file) high)
+
+part_none : (file : List ℕ) (start end : ℕ) → (end < start) ⊎ (length file < end) → part_of file start end ≡ []
+part_none file start end out = go (leb start end) refl (leb end (length file)) refl
+  where
+    never : (end < start) ⊎ (length file < end) → start ≤ end → end ≤ length file → ⊥
+    never (inl past) low high = omega arith
+    never (inr past) low high = omega arith
+
+    go : (a : Bool) → leb start end ≡ a → (b : Bool) → leb end (length file) ≡ b → cond (a && b) (take (end - start) (drop start file)) [] ≡ []
+    go true e true f = absurd (never out (leb-true start end e) (leb-true end (length file) f))
+    go true e false f = refl
+    go false e b f = refl
+
+pub part-plainly : (file : List ℕ) (start end : ℕ) (part : List ℕ) → part ≡ part_of file start end → PartPlainly file start end part
+part-plainly file start end part is = ((λ low high. is ∙ part-there file start end low high), (λ out. is ∙ part_none file start end out))

@@ -1,7 +1,7 @@
 -- How an answer is read, case by case: the promises speak of an answer through a word that reads it as accepted or refused, and here each such word is said
 -- of every case of its enum, so that none
--- can read one answer as another. And what reading a file hands out, apart from the words by which the code is described.
-use Rattle.std.specs.Prelude.{ℕ, List, [], ◌∷◌, Bool, true, false, ◌≡◌, ◌↔◌, ◌⊎◌}
+-- can read one answer as another. And what reading a file, and a part of a file, hands out, apart from the words by which the code is described.
+use Rattle.std.specs.Prelude.{ℕ, ◌-◌, ◌≤◌, ◌<◌, List, [], ◌∷◌, Bool, true, false, ◌≡◌, ◌↔◌, ◌⊎◌, length, take, drop}
 use Rattle.system.specs.declared.Refusal.{Refusal}
 use Rattle.system.specs.declared.Refusal.TheVariants.{Input, State}
 use Rattle.system.specs.declared.Answer.{Answer}
@@ -119,3 +119,9 @@ abbrev pub ReadsPlainly : Reading → Opened → Type 0
 ReadsPlainly x r =
     ((y : System) → x ≡ opened y → (outcome_of r.answer ≡ accepted []) × (r.system ≡ y))
     × ((n : ℕ) → x ≡ unread n → (outcome_of r.answer ≡ refused from_input n) × NothingRead r.system)
+
+-- the part of a file from one place to another, nothing where there is no such part
+abbrev pub PartPlainly : List ℕ → ℕ → ℕ → List ℕ → Type 0
+PartPlainly file start end part =
+    (start ≤ end → end ≤ length file → part ≡ take (end - start) (drop start file))
+    × ((end < start) ⊎ (length file < end) → part ≡ [])

@@ -1,16 +1,17 @@
 // Reading system files, and writing and making them, with where 30 is said and what stands past the file; and the system of which nothing was read.
 ghost use Rattle.std.specs.Prelude.{ℕ, ◌+◌, ◌*◌, List, [], ◌∷◌, ◌++◌, ◌≡◌, length, drop};
 ghost use Rattle.system.specs.Values.{no_task, blank};
-ghost use Rattle.system.specs.Layout.{read_card, read_file, tag_at, length_at, body_at, next_at, Reads};
+ghost use Rattle.system.specs.Layout.{read_card, read_file, field_at, tag_at, length_at, body_at, next_at, Reads};
+ghost use Rattle.system.specs.Inner.{part_of};
 ghost use Rattle.system.specs.Fields.{StandsAt};
 ghost use Rattle.system.specs.Outcome.{accepted, outcome_of};
 ghost use Rattle.writer.specs.Meaning.{file_out, MayBeWritten, WritesInOrder, WritePromises};
 ghost use Rattle.making.specs.Meaning.{NumbersWithin, PowerWithin, MakePromises};
 ghost use Rattle.clients.specs.Wide.{Says30, KeptPastAnswer, unknown_type, NothingRead};
-ghost use Rattle.clients.specs.Answers.{ReadsPlainly};
+ghost use Rattle.clients.specs.Answers.{ReadsPlainly, PartPlainly};
 
 use making::Recipe;
-use system::{Answer, Cursor, Opened, System, TaskType};
+use system::{Answer, Cursor, Field, Opened, System, TaskType};
 
 pub fn no_task() -> TaskType
     ensures value { result ≡ no_task }
@@ -38,6 +39,19 @@ pub fn read_card(file: &[u8]) -> Opened
     ensures reads_plainly { ReadsPlainly (read_card file.now) result }
 {
     system_code::read_card(file)
+}
+
+pub fn field_at(file: &[u8], c: Cursor) -> Field
+    ensures { result ≡ field_at file.now c.at }
+{
+    system_code::field_at(file, c)
+}
+
+pub fn body_part(file: &[u8], field: Field) -> &[u8]
+    ensures result_value { result.now ≡ part_of file.now field.start field.next.at }
+    ensures part_plainly { PartPlainly file.now field.start field.next.at result.now }
+{
+    system_code::body_part(file, field)
 }
 
 pub fn tag_at(file: &[u8], c: Cursor) -> u8

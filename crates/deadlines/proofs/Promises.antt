@@ -8,19 +8,55 @@ use native.Mathlib.Omega.{arith}
 use borrow.Author.Tests.{leb-true, leb-false}
 use lib.ListN.{length, get_or}
 use Rattle.system.specs.declared.Pace.TheVariants.{Unpaced}
+use Rattle.system.specs.declared.Refusal.{Refusal}
+use Rattle.system.specs.declared.Refusal.TheVariants.{Input, State}
 use Rattle.system.specs.declared.System.{System}
 use Rattle.system.specs.Layout.{Reading, opened}
 use Rattle.system.specs.Outcome.{from_input}
 use Rattle.partition.specs.OwnWords.{no_type}
 use Rattle.partition.specs.Plain.{type_no, LimitsOut}
+use Rattle.runs.specs.declared.Missed.{Missed}
+use Rattle.runs.specs.declared.Missed.TheVariants.{Never, At}
 use Rattle.runs.specs.declared.Report.{Report}
 use Rattle.runs.specs.Run.{run_of}
 use Rattle.deadlines.specs.declared.RunAnswer.{RunAnswer}
-use Rattle.deadlines.specs.Outcome.{FirstMiss, RunOutcome, ran, not_run, miss_of, reported_as, run_outcome_of}
+use Rattle.deadlines.specs.declared.RunAnswer.TheVariants.{Ran, Refused}
+use Rattle.deadlines.specs.Outcome.{FirstMiss, RunOutcome, ran, not_run, miss_of, reported_as, not_run_for, run_outcome_of}
 use Rattle.deadlines.specs.Engine.{all_paced, instances, jobs_of, few_instances, few_ticks, few_enough, run_over, run_engine}
 use Rattle.deadlines.specs.Meaning.{NoPace, instances_on, TooMuch, RunMeans, RunPromises}
 use Rattle.deadlines.proofs.Paced.{paced-each, unpaced-some}
 use Rattle.deadlines.proofs.Told.{run-means}
+
+-- no two answers say the same: what is promised of the outcome is promised of the whole answer
+
+one-miss : (a b : Missed) → miss_of a ≡ miss_of b → a ≡ b
+one-miss Never Never e = refl
+one-miss Never (At d) e = let z : ◌≡◌ {A = ℕ} 0 1 = cc in absurd (omega arith)
+one-miss (At d) Never e = let z : ◌≡◌ {A = ℕ} 0 1 = cc in absurd (omega arith)
+one-miss (At d) (At k) e = let same : d ≡ k = cc in ap At same
+
+one-report : (a b : Report) → reported_as a ≡ reported_as b → a ≡ b
+one-report a b e =
+    let idle : a.idle ≡ b.idle = cc in
+    let miss : miss_of a.missed ≡ miss_of b.missed = cc in
+    let missed = one-miss a.missed b.missed miss in
+    λ i. record { idle = idle i; missed = missed i }
+
+one-refusal : (a b : Refusal) → not_run_for a ≡ not_run_for b → a ≡ b
+one-refusal (Input m) (Input n) e = let same : m ≡ n = cc in ap Input same
+one-refusal (Input m) (State n) e = let z : ◌≡◌ {A = ℕ} 0 1 = cc in absurd (omega arith)
+one-refusal (State m) (Input n) e = let z : ◌≡◌ {A = ℕ} 0 1 = cc in absurd (omega arith)
+one-refusal (State m) (State n) e = let same : m ≡ n = cc in ap State same
+
+run-no-refusal : (a : Report) (why : Refusal) → reported_as a ≡ not_run_for why → ⊥
+run-no-refusal a (Input n) e = let z : ◌≡◌ {A = ℕ} 0 1 = cc in omega arith
+run-no-refusal a (State n) e = let z : ◌≡◌ {A = ℕ} 0 1 = cc in omega arith
+
+pub one_answer : (a b : RunAnswer) → run_outcome_of a ≡ run_outcome_of b → a ≡ b
+one_answer (Ran a) (Ran b) e = ap Ran (one-report a b e)
+one_answer (Ran a) (Refused why) e = absurd (run-no-refusal a why e)
+one_answer (Refused why) (Ran b) e = absurd (run-no-refusal b why (sym e))
+one_answer (Refused why) (Refused other) e = ap Refused (one-refusal why other e)
 
 -- the instances of six types
 pub instances-out : (ns : List ℕ) → length ns ≡ 6 → instances ns ≡ instances_on ns

@@ -86,7 +86,7 @@ pub fn started(jobs: [Job; JOB_LIMIT], count: usize) -> [Job; JOB_LIMIT]
 }
 
 // Whether a job misses its deadline now.
-fn late(now: u32, jobs: [Job; JOB_LIMIT], count: usize) -> bool
+pub fn late(now: u32, jobs: [Job; JOB_LIMIT], count: usize) -> bool
     requires { count ≤ job_limit }
     ensures { result ≡ late now (take count jobs) }
 {

@@ -10,8 +10,12 @@ use borrow.Author.Tests.{leb-true, leb-false, eqb-true, eqb-false, le-leb, lt-le
 use lib.ListN.{length, take, drop, length-append, length-drop, take-append-drop, drop_of_length-le}
 use lib.Seq.{take-append_seam, drop-append_seam, length-take-le}
 use lib.Dec.{leb, eqb}
-use Rattle.system.specs.Layout.{opened, unread, byte_at, word2, field_size, whole_field, body_part, tag_at, length_at, body_at, next_at, read_card}
-use Rattle.system.specs.Fields.{two_bytes, four_bytes, MayData, MayMost, MayPace, MayCosts, PaceWithin, AllOrNone, FirstField, NextField, FileEnd}
+use Rattle.system.specs.declared.Field.{Field}
+use Rattle.system.specs.Inner.{part_of}
+use Rattle.system.specs.Rules.{head_size}
+use Rattle.system.proofs.Laws.{body_is}
+use Rattle.system.specs.Layout.{opened, unread, byte_at, word2, field_size, headed_field, whole_field, body_part, field_at, tag_at, length_at, body_at, next_at, read_card}
+use Rattle.system.specs.Fields.{two_bytes, four_bytes, MayData, MayMost, MayPace, MayCosts, PaceWithin, AllOrNone, NextField, FileEnd}
 use Rattle.system.specs.Fields.{Beginning, a-platform, then-second, then-type, then-data, then-most, then-pace, then-costs, WholeFields, a-field, then-fields, AtEnd, Begun, Beginnings}
 use Rattle.system.specs.Fields.{StandsAt, whole-field, body-cut, two_bytes_lem, one_byte, past_end, FieldStep}
 use Rattle.system.proofs.Order.{first-refusals}
@@ -515,5 +519,70 @@ stands file at =
     (λ past. (_, _, _, _, past_end file at (omega arith)))
     (within at (length file))
 
+-- of what is left of the file
+abbrev step_of : ℕ → List ℕ → Field
+step_of at s =
+    record {
+      tag = byte_at s 0;
+      size = word2 s 1;
+      headed = headed_field s;
+      whole = whole_field s;
+      start = cond (whole_field s) (at + head_size) at;
+      next = record { at = cond (whole_field s) (at + field_size s) at };
+    }
+
+step_after : (before s : List ℕ) → field_at (before ++ s) (length before) ≡ step_of (length before) s
+unfolding field_at
+step_after before s = ap (step_of (length before)) (drop-append_seam before s)
+
+step_past : (file : List ℕ) (at : ℕ) → length file ≤ at → field_at file at ≡ record { tag = 0; size = 0; headed = false; whole = false; start = at; next = record { at = at } }
+unfolding field_at
+step_past file at past = ap (step_of at) (drop_of_length-le file past)
+
+module _ (before : List ℕ) (t h l : ℕ) where
+  step-whole : (body after : List ℕ) → length body ≡ two_bytes h l
+      → field_at (before ++ (t ∷ h ∷ l ∷ (body ++ after))) (length before)
+      ≡ record { tag = t; size = two_bytes h l; headed = true; whole = true; start = length before + 3; next = record { at = length before + (3 + two_bytes h l) } }
+  step-whole body after size =
+      let s : List ℕ = t ∷ h ∷ l ∷ (body ++ after) in
+      let long = length-append body after in
+      step_after before s ∙ rw (le-leb 3 (length s) (omega arith), le-leb (3 + two_bytes h l) (length s) (omega arith))
+
+  step_cut : (rest : List ℕ) → length rest < two_bytes h l
+      → field_at (before ++ (t ∷ h ∷ l ∷ rest)) (length before)
+      ≡ record { tag = t; size = two_bytes h l; headed = true; whole = false; start = length before; next = record { at = length before } }
+  step_cut rest short =
+      let s : List ℕ = t ∷ h ∷ l ∷ rest in
+      step_after before s ∙ rw (le-leb 3 (length s) (omega arith), lt-leb (3 + two_bytes h l) (length s) (omega arith))
+
+  body-whole : (body after : List ℕ) → length body ≡ two_bytes h l
+      → let file = before ++ (t ∷ h ∷ l ∷ (body ++ after)) in
+      part_of file (field_at file (length before)).start (field_at file (length before)).next.at ≡ body
+  unfolding field_at
+  body-whole body after size =
+      let s : List ℕ = t ∷ h ∷ l ∷ (body ++ after) in
+      let long = length-append body after in
+      let whole : body_part s ≡ take (two_bytes h l) (body ++ after) = rw (le-leb (3 + two_bytes h l) (length s) (omega arith)) in
+      body_is (before ++ s) (length before)
+      ∙ ap body_part (drop-append_seam before s)
+      ∙ whole
+      ∙ ap (λ (n : ℕ). take n (body ++ after)) (sym size)
+      ∙ take-append_seam body after
+
+no_whole : (file : List ℕ) (at : ℕ) → (field_at file at).whole ≡ false → part_of file (field_at file at).start (field_at file at).next.at ≡ []
+unfolding field_at
+no_whole file at none = body_is file at ∙ ap (λ (b : Bool). cond b (take (word2 (drop at file) 1) (drop head_size (drop at file))) []) none
+
 pub field_step : FieldStep
-field_step = record { answers = λ file at t n body next is. step-answers is; always = stands }
+field_step =
+    record {
+      whole-field = step-whole;
+      body-cut = step_cut;
+      two_bytes_lem = λ before a b. step_after before (a ∷ b ∷ []) ∙ rw (lt-leb (3 + two_bytes b 0) 2 (omega arith));
+      one_byte = λ before a. step_after before (a ∷ []);
+      past_end = step_past;
+      body = body-whole;
+      no_body = no_whole;
+      answers = λ file at t n body next is. step-answers is;
+      always = stands;
+    }

@@ -1,5 +1,4 @@
 -- What a file that was read is, by its second kind: each case computes.
-use mathlib.Core.Path.{◌≡◌}
 use Rattle.system.specs.Card.{card_of, CardIs}
 
 pub card-is : CardIs

@@ -33,12 +33,12 @@ use Rattle.system.specs.declared.Answer.{Answer}
 use Rattle.system.specs.declared.Answer.TheVariants.{Accepted, Number, Refused}
 use Rattle.system.specs.declared.Refusal.{Refusal}
 use Rattle.system.specs.declared.Refusal.TheVariants.{Input, State}
-use Rattle.system.specs.Inner.{PastTypes}
+use Rattle.system.specs.Inner.{part_of, PastTypes}
 use Rattle.system.specs.Values.{task_of, with_data, with_most, with_pace, with_costs, no_task, blank, with_platform, with_second, with_type, last_type, with_last, ceilings_of}
 use Rattle.system.specs.Limits.{engine_limit, type_limit, size_limit, column_limit, tick_limit, columns_of, columns}
 use Rattle.system.specs.Limits.{or_else, size_fault, platform_fault, kind_fault, second_fault, type_fault, most_fault, cycle_keeps, pace_fault, paces_fault, costs_fault, columns_fault}
 use Rattle.system.specs.Limits.{not_given, unpaced, given, is_one_kind, kinds_agree, kinds_fault, zero_task, sound_task, types_keep, keeps_card, keeps_limits}
-use Rattle.system.specs.Layout.{Reading, opened, unread, byte_at, word2, word4, head_size, field_size, headed_field, whole_field, body_part}
+use Rattle.system.specs.Layout.{Reading, opened, unread, byte_at, word2, word4, head_size, field_size, headed_field, whole_field, body_part, field_at, body_at}
 use Rattle.system.specs.Layout.{platform_rule, type_rule, data_rule, most_rule, pace_rule, second_rule, costs_rule, field_rules, rule_of, follows, may_follow, unless_fault}
 use Rattle.system.specs.Layout.{platform_from, platform_of, type_from, type_of, data_from, data_of, most_from, most_of, pace_from, pace_of, second_from, second_of, costs_from, costs_of}
 use Rattle.system.specs.Layout.{ruled_head, head_from, head_of, body_of, ruled_field, field_of, end_of, after_field, fields_from, read_card, of_one_kind, read_file, read_outcome, Reads}
@@ -1022,6 +1022,24 @@ read-keeps-limits file y e = limits-keep y (read-limits file y e)
 
 pub whole-inside : (file : List ℕ) (at : ℕ) → whole_field (drop at file) ≡ true → at + field_size (drop at file) ≤ length file
 whole-inside file at w = omega (arith, leb-true (field_size (drop at file)) (length (drop at file)) w, length-drop at file)
+
+pub body_is : (file : List ℕ) (at : ℕ) → part_of file (field_at file at).start (field_at file at).next.at ≡ body_at file at
+unfolding field_at
+body_is file at = go (whole_field (drop at file)) refl
+  where
+    size : ℕ
+    size = word2 (drop at file) 1
+
+    nothing : (b : Bool) → cond b (take (at - at) (drop at file)) [] ≡ []
+    nothing false = refl
+    nothing true = let none : at - at ≡ 0 = omega arith in rw none
+
+    go : (b : Bool) → whole_field (drop at file) ≡ b
+        → part_of file (cond b (at + head_size) at) (cond b (at + (head_size + size)) at) ≡ cond b (take size (drop head_size (drop at file))) []
+    go false w = nothing (leb at at && leb at (length file))
+    go true w =
+        let long : at + (head_size + size) - (at + head_size) ≡ size = omega arith in
+        rw (le-leb (at + head_size) (at + (head_size + size)) (omega arith), le-leb (at + (head_size + size)) (length file) (whole-inside file at w), long, drop-drop head_size at file)
 
 -- What the reader's answer says of the reading
 

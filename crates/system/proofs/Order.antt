@@ -23,7 +23,7 @@ use Rattle.system.specs.Layout.{Reading, opened, unread, byte_at, word2, field_s
 use Rattle.system.specs.Layout.{unless_fault, ruled_head, head_of, body_of, ruled_field, field_of, end_of, after_field, fields_from, read_card, read_file}
 use Rattle.system.specs.Fields.{four_bytes, FirstField}
 use Rattle.system.proofs.Laws.{head_of-ruled, fields_from-nil, card-refused, Mixed, file-refused}
-use Rattle.system.proofs.Prefix.{Goes, field-goes, drop-take, byte-take, word-take, part-take}
+use Rattle.system.proofs.Prefix.{field-goes, drop-take, byte-take, word-take, part-take}
 
 -- the end is refused 9, 41 or 10 alone
 end-only : (last : ℕ) (y : System) (k : ℕ) → end_of last y ≡ unread k → (k ≡ 9 → ⊥) → (k ≡ 41 → ⊥) → (k ≡ 10 → ⊥) → ⊥

@@ -1,12 +1,13 @@
 -- "Fields are judged in file order; in one field: start cut (1), 2, 3, 4, body cut (1), 7, then 5, 6, 8. At the end 9, 10", 31 "after 8" (request 2026-04),
 -- 43 "after 31" (2026-14), and 41 "after 9" (2026-13): of the first field and of each later one, byte by byte, and of the file's end; how wide the beginnings
 -- are of which this is said; how many fields of a tag a file may have; and the field step.
-use Rattle.std.specs.Prelude.{ℕ, suc, ◌+◌, ◌*◌, ◌≤◌, ◌<◌, List, [], ◌∷◌, ◌++◌, cond, ◌≡◌, ◌⊎◌, length, eqb}
+use Rattle.std.specs.Prelude.{ℕ, suc, ◌+◌, ◌*◌, ◌≤◌, ◌<◌, List, [], ◌∷◌, ◌++◌, true, false, cond, ◌≡◌, ◌⊎◌, length, eqb}
 use Rattle.system.specs.declared.System.{System}
 use Rattle.system.specs.declared.FieldRule.{FieldRule}
 use Rattle.system.specs.declared.RuleFound.TheVariants.{Known}
 use Rattle.system.specs.Rules.{field_rules, rule_of}
-use Rattle.system.specs.Layout.{Reading, opened, unread, tag_at, length_at, body_at, next_at, read_card, read_file}
+use Rattle.system.specs.Inner.{part_of}
+use Rattle.system.specs.Layout.{Reading, opened, unread, field_at, tag_at, length_at, body_at, next_at, read_card, read_file}
 
 -- two and four bytes as a number, most significant first
 abbrev pub two_bytes : ℕ → ℕ → ℕ
@@ -209,8 +210,26 @@ pub data StandsAt : List ℕ → ℕ → ℕ → ℕ → List ℕ → ℕ → Ty
   one_byte : (before : List ℕ) (a : ℕ) → StandsAt (before ++ (a ∷ [])) (length before) a 0 [] (length before)
   past_end : (file : List ℕ) (at : ℕ) → length file ≤ at → StandsAt file at 0 0 [] at
 
--- the field step answers what stands there; and something does, at every place of every file
+-- the field step after some bytes: the next field is whole, or cut in its body or in its head; and at the file's end and past it. Its body is the part from
+-- `start` to `next`. In its four answers the step answers what stands there; and something does, at every place of every file
 pub record FieldStep : Type 0 where
+  pub whole-field : (before : List ℕ) (t h l : ℕ) (body after : List ℕ) → length body ≡ two_bytes h l
+      → field_at (before ++ (t ∷ h ∷ l ∷ (body ++ after))) (length before)
+      ≡ record { tag = t; size = two_bytes h l; headed = true; whole = true; start = length before + 3; next = record { at = length before + (3 + two_bytes h l) } }
+  pub body-cut : (before : List ℕ) (t h l : ℕ) (rest : List ℕ) → length rest < two_bytes h l
+      → field_at (before ++ (t ∷ h ∷ l ∷ rest)) (length before)
+      ≡ record { tag = t; size = two_bytes h l; headed = true; whole = false; start = length before; next = record { at = length before } }
+  pub two_bytes_lem : (before : List ℕ) (a b : ℕ)
+      → field_at (before ++ (a ∷ b ∷ [])) (length before)
+      ≡ record { tag = a; size = two_bytes b 0; headed = false; whole = false; start = length before; next = record { at = length before } }
+  pub one_byte : (before : List ℕ) (a : ℕ)
+      → field_at (before ++ (a ∷ [])) (length before) ≡ record { tag = a; size = 0; headed = false; whole = false; start = length before; next = record { at = length before } }
+  pub past_end : (file : List ℕ) (at : ℕ) → length file ≤ at
+      → field_at file at ≡ record { tag = 0; size = 0; headed = false; whole = false; start = at; next = record { at = at } }
+  pub body : (before : List ℕ) (t h l : ℕ) (body after : List ℕ) → length body ≡ two_bytes h l
+      → let file = before ++ (t ∷ h ∷ l ∷ (body ++ after)) in
+      part_of file (field_at file (length before)).start (field_at file (length before)).next.at ≡ body
+  pub no_body : (file : List ℕ) (at : ℕ) → (field_at file at).whole ≡ false → part_of file (field_at file at).start (field_at file at).next.at ≡ []
   pub answers : (file : List ℕ) (at t n : ℕ) (body : List ℕ) (next : ℕ) → StandsAt file at t n body next
       → (tag_at file at ≡ t) × (length_at file at ≡ n) × (body_at file at ≡ body) × ((next_at file at).at ≡ next)
   pub always : (file : List ℕ) (at : ℕ) → (t : ℕ) × (n : ℕ) × (body : List ℕ) × (next : ℕ) × StandsAt file at t n body next

@@ -12,6 +12,7 @@ use Rattle.system.specs.declared.RuleFound.TheVariants.{Known, Unknown}
 use Rattle.system.specs.declared.Head.{Head}
 use Rattle.system.specs.declared.Head.TheVariants.{Ruled, Stops}
 use Rattle.system.specs.declared.Cursor.{Cursor}
+use Rattle.system.specs.declared.Field.{Field}
 use Rattle.system.specs.declared.Opened.{Opened}
 use Rattle.system.specs.Values.{task_of, with_data, with_most, with_pace, with_costs, blank, with_platform, with_second, with_type, last_type, with_last}
 use Rattle.system.specs.Limits.{platform_fault, kind_fault, type_fault, most_fault, pace_fault, costs_fault, or_else, kinds_fault, columns_fault, is_one_kind}
@@ -50,7 +51,19 @@ whole_field s = leb (field_size s) (length s)
 abbrev pub body_part : List ℕ → List ℕ
 body_part s = cond (whole_field s) (take (word2 s 1) (drop head_size s)) []
 
--- the field step at a place of a file: the field's tag, its length, its body, and the place after it
+-- the field step at a place of a file: the body lies from `start` to `next`
+unfoldable pub field_at : List ℕ → ℕ → Field
+field_at file at =
+    record {
+      tag = byte_at (drop at file) 0;
+      size = word2 (drop at file) 1;
+      headed = headed_field (drop at file);
+      whole = whole_field (drop at file);
+      start = cond (whole_field (drop at file)) (at + head_size) at;
+      next = record { at = cond (whole_field (drop at file)) (at + field_size (drop at file)) at };
+    }
+
+-- the same in four answers: the field's tag, its length, its body, and the place after it
 abbrev pub tag_at : List ℕ → ℕ → ℕ
 tag_at file at = byte_at (drop at file) 0
 

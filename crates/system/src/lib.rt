@@ -154,6 +154,18 @@ pub struct Cursor {
     pub at: usize,
 }
 
+// What stands at a cursor: a field's tag and length (0 past the file's end), whether both stand there, and whether
+// the whole field does. Its body is the file's part from `start` to `next`, an empty one where it is not whole.
+#[derive(Clone, Copy)]
+pub struct Field {
+    pub tag: u8,
+    pub size: usize,
+    pub headed: bool,
+    pub whole: bool,
+    pub start: usize,
+    pub next: Cursor,
+}
+
 // What reading a system file answers, with the system: the blank one where the file is refused.
 #[derive(Clone, Copy)]
 pub struct Opened {

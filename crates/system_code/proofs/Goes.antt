@@ -21,10 +21,50 @@ use Rattle.system.specs.Inner.{Typed, PastTypes, BodyReady}
 use Rattle.system.specs.Values.{blank}
 use Rattle.system.specs.Limits.{type_limit, or_else, is_one_kind}
 use Rattle.system.specs.Rules.{type_rule, data_rule, most_rule, pace_rule, second_rule, costs_rule, field_rules, rule_of, follows, may_follow, head_size}
-use Rattle.system.specs.Layout.{Reading, opened, unread, byte_at, word2, field_size, headed_field, whole_field, body_part, tag_at, next_at, seen_of, unless_fault, platform_of, type_of, data_of, most_of, pace_of, second_of, costs_of}
+use Rattle.system.specs.Layout.{Reading, opened, unread, byte_at, word2, field_size, headed_field, whole_field, body_part, field_at, tag_at, next_at, seen_of, unless_fault, platform_of, type_of, data_of, most_of, pace_of, second_of, costs_of}
 use Rattle.system.specs.Layout.{ruled_head, head_from, head_of, body_of, ruled_field, field_of, end_of, after_field, fields_from, read_card, of_one_kind, Reads}
 use Rattle.system.proofs.Laws.{whole-inside, OneOf, a-platform, a-type, a-data, a-most, a-pace, a_second, a-costs, part-later, head_of-ruled, field_of-opened, fields_from-nil, only-accepted, reads-opened}
 use Rattle.system.proofs.Laws.{Sound, sound-blank, sound-field}
+
+-- The field step, where s is what is left of the file
+
+module _ (file : List ℕ) (at : ℕ) (s : List ℕ) (rest : s ≡ drop at file) (tag size : ℕ) (first : tag ≡ byte_at s 0) (next-two : size ≡ word2 s 1) where
+  same_tag : tag ≡ byte_at (drop at file) 0
+  same_tag = first ∙ ap (λ (x : List ℕ). byte_at x 0) rest
+
+  same_size : size ≡ word2 (drop at file) 1
+  same_size = next-two ∙ ap (λ (x : List ℕ). word2 x 1) rest
+
+  same_whole : leb (head_size + size) (length s) ≡ whole_field (drop at file)
+  same_whole = λ i. leb (head_size + same_size i) (length (rest i))
+
+  pub field_cut : length s < head_size + size
+      → record { tag = tag; size = size; headed = leb head_size (length s); whole = false; start = at; next = record { at = at } } ≡ field_at file at
+  unfolding field_at
+  field_cut h =
+      let w : false ≡ whole_field (drop at file) = sym (lt-leb (head_size + size) (length s) h) ∙ same_whole in
+      λ i. record {
+        tag = same_tag i;
+        size = same_size i;
+        headed = leb head_size (length (rest i));
+        whole = w i;
+        start = cond (w i) (at + head_size) at;
+        next = record { at = cond (w i) (at + (head_size + same_size i)) at };
+      }
+
+  pub field-whole : head_size + size ≤ length s
+      → record { tag = tag; size = size; headed = leb head_size (length s); whole = true; start = at + head_size; next = record { at = at + (head_size + size) } } ≡ field_at file at
+  unfolding field_at
+  field-whole h =
+      let w : true ≡ whole_field (drop at file) = sym (le-leb (head_size + size) (length s) h) ∙ same_whole in
+      λ i. record {
+        tag = same_tag i;
+        size = same_size i;
+        headed = leb head_size (length (rest i));
+        whole = w i;
+        start = cond (w i) (at + head_size) at;
+        next = record { at = cond (w i) (at + (head_size + same_size i)) at };
+      }
 
 -- A reading that was handed on: accepted gives the system, anything else is the answer
 

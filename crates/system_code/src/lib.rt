@@ -13,8 +13,8 @@ pub use limits::{
     platform_fault, second_fault, type_fault,
 };
 pub use reader::{
-    HEAD_SIZE, body_at, byte_at, four_bytes, length_at, next_at, read_card, read_system, rest_at,
-    tag_at, two_bytes,
+    HEAD_SIZE, body_at, body_part, byte_at, field_at, four_bytes, length_at, next_at, read_card,
+    read_system, rest_at, tag_at, two_bytes,
 };
 pub use rules::{COSTS, DATA, MOST, PACE, PLATFORM, SECOND, TYPE, rule_of};
 pub use values::{blank_system, cleared, no_task};

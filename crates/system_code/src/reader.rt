@@ -1,16 +1,16 @@
 // The reader of system files: the field step, what each field says, and the whole file.
 ghost use Rattle.std.specs.Prelude.{◌≡◌, ◌<◌, get_or, drop};
-ghost use Rattle.system.specs.Inner.{Typed, PastTypes, BodyReady};
+ghost use Rattle.system.specs.Inner.{part_of, Typed, PastTypes, BodyReady};
 ghost use Rattle.system.specs.Limits.{type_limit};
-ghost use Rattle.system.specs.Layout.{word2, word4, headed_field, whole_field, tag_at, length_at, body_at, next_at};
+ghost use Rattle.system.specs.Layout.{word2, word4, headed_field, whole_field, field_at, tag_at, length_at, body_at, next_at};
 ghost use Rattle.system.specs.Layout.{head_from, seen_of, field_of, body_of, end_of, read_card, read_file, unread, Reads};
 ghost use Rattle.system.specs.Layout.{unless_fault, platform_of, type_of, data_of, most_of, pace_of, second_of, costs_of};
 
 use crate::rules::{COSTS, DATA, MOST, PACE, SECOND, TYPE};
 use crate::{limits, rules, values};
 use system::{
-    Answer, Costs, Cursor, Cycle, FieldRule, Head, Most, Opened, Pace, Refusal, RuleFound, System,
-    There,
+    Answer, Costs, Cursor, Cycle, Field, FieldRule, Head, Most, Opened, Pace, Refusal, RuleFound,
+    System, There,
 };
 
 // The bytes before a field's body: its tag and its length.
@@ -107,6 +107,50 @@ fn whole_at(file: &[u8], c: Cursor) -> bool
     let rest = rest_at(file, c);
     let size = length_at(file, c) as usize;
     HEAD_SIZE + size <= rest.len()
+}
+
+// The field step in one answer: what stands at a cursor, and the cursor past it.
+pub fn field_at(file: &[u8], c: Cursor) -> Field
+    ensures { result ≡ field_at file.now c.at }
+{
+    let rest = rest_at(file, c);
+    let left = rest.len();
+    let tag = byte_at(rest, 0);
+    let size = two_bytes(rest, 1) as usize;
+    let headed = HEAD_SIZE <= left;
+    if left < HEAD_SIZE + size {
+        return Field {
+            tag,
+            size,
+            headed,
+            whole: false,
+            start: c.at,
+            next: c,
+        };
+    }
+    Field {
+        tag,
+        size,
+        headed,
+        whole: true,
+        start: c.at + HEAD_SIZE,
+        next: Cursor {
+            at: c.at + (HEAD_SIZE + size),
+        },
+    }
+}
+
+// The body of a field that it answered, as a part of the caller's file.
+pub fn body_part(file: &[u8], field: Field) -> &[u8]
+    ensures { result.now ≡ part_of file.now field.start field.next.at }
+{
+    let start = field.start;
+    let end = field.next.at;
+    if (start <= end) & (end <= file.len()) {
+        &file[start..end]
+    } else {
+        &file[..0]
+    }
 }
 
 // A field's head: refused 1 (start cut), 2, 3, 4, 1 (body cut) in this order.
