@@ -3,7 +3,7 @@ use Prim.Native.Nat.{ℕ, suc, ◌+◌, ◌-◌, ◌*◌, ◌/◌, ◌%◌, ◌�
 use mathlib.Core.Path.{◌≡◌, refl, sym, ap, ◌∙◌}
 use mathlib.Core.List.{List, [], ◌∷◌}
 use mathlib.Core.Bool.{true}
-use native.Mathlib.Nat.{mul-one, one-mul, mul-add, mul_assoc, mul_comm, mod-lt, mod-eq_of_lt, div-eq_of_lt, mod-add-div}
+use native.Mathlib.Nat.{mul-add, mul_comm, mod-lt, mod-eq_of_lt, div-eq_of_lt, mod-add-div}
 use native.Mathlib.Nat.{add-mul-mod_self_left, add-mul-div_left, div-lt_iff_lt-mul, zero-add, mul-le-mul_left, zero-mod, zero-div}
 use native.Mathlib.Omega.{arith}
 use borrow.Author.Tests.{leb-true}
@@ -15,26 +15,7 @@ use Rattle.loads.specs.Load.{holds_none, within, less}
 use Rattle.loads.specs.Column.{column_from, column_of, load_of}
 use Rattle.loads.proofs.Order.{Below, none, more, and_parts, cons-path, within→below, below→within, below-refl, below-trans, below_less}
 use Rattle.loads.proofs.Order.{holds_none-is-zero}
-
--- intermediate
-
-positive : (n : ℕ) → 0 < n + 1
-positive n = omega arith
-
--- the stride of the first type may be taken out
-column_from-stride : (s : ℕ) (ns xs : List ℕ) → column_from s ns xs ≡ s * column_of ns xs
-unfolding column_from
-column_from-stride s [] xs = omega arith
-column_from-stride s (n ∷ ns) [] = omega arith
-column_from-stride s (n ∷ ns) (x ∷ xs) =
-    rw (column_from-stride (s * (n + 1)) ns xs, column_from-stride (1 * (n + 1)) ns xs)
-    (simp (mul-one, one-mul) (rw (mul-add s x ((n + 1) * column_of ns xs), mul_comm x s, mul_assoc s (n + 1) (column_of ns xs))))
-
--- main: columns in Horner's form
-
-pub column_of-horner : (n x : ℕ) (ns xs : List ℕ) → column_of (n ∷ ns) (x ∷ xs) ≡ x + (n + 1) * column_of ns xs
-unfolding column_from
-column_of-horner n x ns xs = rw (column_from-stride (1 * (n + 1)) ns xs) (simp (mul-one, one-mul))
+pub use Rattle.loads.proofs.Horner.{positive, column_of-horner}
 
 pub column_of-lt : (ns x : List ℕ) → within x ns ≡ true → column_of ns x < columns_of ns
 unfolding column_from columns_of within
