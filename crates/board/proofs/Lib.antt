@@ -9,9 +9,11 @@ pub mod Demand1
 pub mod Views
 pub mod Frees
 pub mod Means
+pub mod MeansTrue
 pub mod Order
 pub mod Steps
 pub mod Ready
 pub mod Exits
 pub mod Promises
+pub mod Before
 pub mod Document01

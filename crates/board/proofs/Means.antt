@@ -375,7 +375,7 @@ module _ (y : System) (ms : List Bool) (xs : List (List ℕ)) (keeps : keeps_lim
       whole : total after ≡ with_one xs t
       whole = total-joined y xs v (e - 1) (t - 1) index
 
-  admit-by : (t : ℕ) (table : Lent) (r : Result) → LongEnough y table → AdmitView y ms xs t table r → AdmitMeans b t table r
+  pub admit-by : (t : ℕ) (table : Lent) (r : Result) → LongEnough y table → AdmitView y ms xs t table r → AdmitMeans b t table r
   admit-by t table r long (AdmitView.unknown k s) =
       subst (AdmitMeans b t table) (sym s)
       (refused-admit t table from_input 13 table (λ h. absurd (not-both (below_on t h).known k)) (λ h. absurd (not-both (below_on t h).known k)) (λ h. absurd (not-both (below_on t h).known k))
@@ -406,7 +406,7 @@ module _ (y : System) (ms : List Bool) (xs : List (List ℕ)) (keeps : keeps_lim
   refused-seat : (t : ℕ) (table : Lent) (o : Source) (n : ℕ) (left : Lent) → Seats t (refused o n) → Says24 t (refused o n) → (BelowCeiling b t → Full table left) → SeatMeans b t table (result (refused o n) b left)
   refused-seat t table o n left p q full = record { seats = p; no_room = q; answer = λ h. absurd (false≢true h); packs = λ h. absurd (false≢true h); recovers = λ h. absurd (false≢true h); left_filled = full }
 
-  seat-by : (t : ℕ) (table : Lent) (r : Result) → LongEnough y table → SeatView y ms xs t table r → SeatMeans b t table r
+  pub seat-by : (t : ℕ) (table : Lent) (r : Result) → LongEnough y table → SeatView y ms xs t table r → SeatMeans b t table r
   seat-by t table r long (SeatView.unknown k s) =
       subst (SeatMeans b t table) (sym s)
       (refused-seat t table from_input 13 table (λ h. absurd (not-both (below_on t h).known k)) (λ h. absurd (not-both (below_on t h).known k)) (λ h. absurd (not-both (below_on t h).known k)))
@@ -442,7 +442,7 @@ module _ (y : System) (ms : List Bool) (xs : List (List ℕ)) (keeps : keeps_lim
     is_true = λ h. absurd (false≢true h);
   }
 
-  retire-by : (t e : ℕ) (table : Lent) (r : Result) → RetireView y ms xs t table r e → RetireMeans b t e r
+  pub retire-by : (t e : ℕ) (table : Lent) (r : Result) → RetireView y ms xs t table r e → RetireMeans b t e r
   retire-by t e table r (RetireView.unknown k s) =
       subst (RetireMeans b t e) (sym s) (refused-retire t e from_input 13 table (λ h. not-both (known_of t h.is_type) k))
   retire-by t e table r (RetireView.no_engine k d s) =
@@ -487,7 +487,7 @@ module _ (y : System) (ms : List Bool) (xs : List (List ℕ)) (keeps : keeps_lim
 
   -- main: repack
 
-  repack-by : (table : Lent) → LongEnough y table → RepackMeans b table (repack_of b table)
+  pub repack-by : (table : Lent) → LongEnough y table → RepackMeans b table (repack_of b table)
   repack-by table long =
       subst (RepackMeans b table) (sym (repack-view y ms xs keeps v served table ((long-enough-out y table keeps).1 long)))
       (record {
@@ -526,7 +526,7 @@ module _ (y : System) (ms : List Bool) (xs : List (List ℕ)) (keeps : keeps_lim
     is_true = λ h. absurd (false≢true h);
   }
 
-  withdraw-by : (e : ℕ) (table : Lent) (r : Result) → WithdrawView y ms xs e table r → WithdrawMeans b e r
+  pub withdraw-by : (e : ℕ) (table : Lent) (r : Result) → WithdrawView y ms xs e table r → WithdrawMeans b e r
   withdraw-by e table r (WithdrawView.no_engine d s) =
       subst (WithdrawMeans b e) (sym s) (refused-withdraw e from_input 14 table (λ h none. not-both (engine-known e h.is_engine) d))
   withdraw-by e table r (WithdrawView.already d m s) =
@@ -552,7 +552,7 @@ module _ (y : System) (ms : List Bool) (xs : List (List ℕ)) (keeps : keeps_lim
     is_true = λ h. absurd (false≢true h);
   }
 
-  restore-by : (e : ℕ) (table : Lent) (r : Result) → RestoreView y ms xs e table r → RestoreMeans b e r
+  pub restore-by : (e : ℕ) (table : Lent) (r : Result) → RestoreView y ms xs e table r → RestoreMeans b e r
   restore-by e table r (RestoreView.no_engine d s) =
       subst (RestoreMeans b e) (sym s) (refused-restore e from_input 14 table (λ on m. not-both (engine-known e on) d))
   restore-by e table r (RestoreView.already d none s) =
@@ -566,48 +566,3 @@ module _ (y : System) (ms : List Bool) (xs : List (List ℕ)) (keeps : keeps_lim
         marks = λ h. mark_on e false on;
         is_true = λ h. true-on y (set ms (e - 1) false) xs keeps v (served-cleared y ms xs served (e - 1));
       })
-
--- main: every true board
-
-module _ (b : Board) (w : IsTrue b) where
-  is_true_lem : true_board b ≡ true
-  is_true_lem = (true-means b).tests.1 w
-
-  is-long : (table : Lent) → LongEnough b.system table → long_enough b.system table ≡ true
-  is-long table long = (long-enough-out b.system table (truth-of b is_true_lem).keeps).1 long
-
-  pub admit-means : (t : ℕ) (table : Lent) → LongEnough b.system table → AdmitMeans b t table (admit_of b t table)
-  admit-means t table long =
-      let f = truth-of b is_true_lem in
-      subst (λ (a : Board). AdmitMeans a t table (admit_of a t table)) (sym f.same)
-      (admit-by b.system f.marks f.rows f.keeps f.valid f.served t table _ long (admit-view b.system f.marks f.rows f.keeps f.valid f.served t table (is-long table long)))
-
-  pub seat-means : (t : ℕ) (table : Lent) → LongEnough b.system table → SeatMeans b t table (seat_of b t table)
-  seat-means t table long =
-      let f = truth-of b is_true_lem in
-      subst (λ (a : Board). SeatMeans a t table (seat_of a t table)) (sym f.same)
-      (seat-by b.system f.marks f.rows f.keeps f.valid f.served t table _ long (seat-view b.system f.marks f.rows f.keeps f.valid f.served t table (is-long table long)))
-
-  pub retire-means : (t e : ℕ) (table : Lent) → RetireMeans b t e (retire_of b t e table)
-  retire-means t e table =
-      let f = truth-of b is_true_lem in
-      subst (λ (a : Board). RetireMeans a t e (retire_of a t e table)) (sym f.same)
-      (retire-by b.system f.marks f.rows f.keeps f.valid f.served t e table _ (retire-view b.system f.marks f.rows f.keeps f.valid f.served t e table))
-
-  pub repack-means : (table : Lent) → LongEnough b.system table → RepackMeans b table (repack_of b table)
-  repack-means table long =
-      let f = truth-of b is_true_lem in
-      subst (λ (a : Board). RepackMeans a table (repack_of a table)) (sym f.same)
-      (repack-by b.system f.marks f.rows f.keeps f.valid f.served table long)
-
-  pub withdraw-means : (e : ℕ) (table : Lent) → WithdrawMeans b e (withdraw_of b e table)
-  withdraw-means e table =
-      let f = truth-of b is_true_lem in
-      subst (λ (a : Board). WithdrawMeans a e (withdraw_of a e table)) (sym f.same)
-      (withdraw-by b.system f.marks f.rows f.keeps f.valid f.served e table _ (withdraw-view b.system f.marks f.rows f.keeps f.valid f.served e table))
-
-  pub restore-means : (e : ℕ) (table : Lent) → RestoreMeans b e (restore_of b e table)
-  restore-means e table =
-      let f = truth-of b is_true_lem in
-      subst (λ (a : Board). RestoreMeans a e (restore_of a e table)) (sym f.same)
-      (restore-by b.system f.marks f.rows f.keeps f.valid f.served e table _ (restore-view b.system f.marks f.rows f.keeps f.valid f.served e table))

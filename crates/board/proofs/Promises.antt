@@ -23,7 +23,7 @@ use Rattle.board.specs.Calls.{admit_of, seat_of, retire_of, repack_of, withdraw_
 use Rattle.board.specs.Meaning.{OpenMeans, OneKindOnly, AdmitPromises, SeatPromises, RetirePromises, RepackPromises, WithdrawPromises, RestorePromises}
 use Rattle.board.proofs.Demand1.{admit-demand1, seat-demand1, retire-demand1, repack-demand1, withdraw-demand1, restore-demand1}
 use Rattle.board.proofs.TrueMeans.{fresh-is, fresh-true}
-use Rattle.board.proofs.Means.{admit-means, seat-means, retire-means, repack-means, withdraw-means, restore-means}
+use Rattle.board.proofs.MeansTrue.{admit-means, seat-means, retire-means, repack-means, withdraw-means, restore-means}
 use Rattle.board.proofs.Order.{admit-in-order, seat-in-order, retire-in-order, repack-in-order, withdraw-in-order, restore-in-order}
 use Rattle.board.proofs.Exits.{of-given}
 

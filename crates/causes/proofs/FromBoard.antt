@@ -32,7 +32,7 @@ use Rattle.planner.specs.Plan.{table_left}
 use Rattle.board.specs.declared.Board.{Board}
 use Rattle.board.specs.Boards.{engines_of, standing}
 use Rattle.board.specs.Truth.{true_board}
-use Rattle.board.specs.Calls.{known_type, under_ceiling, check_newcomer, with_newcomer, Result, reseated, seat_of}
+use Rattle.board.specs.Calls.{known_type, under_ceiling, check_newcomer, with_newcomer, Result, reseated, admit_of, seat_of}
 use Rattle.board.specs.Inner.{CheckedNewcomer}
 use Rattle.board.specs.Words.{stands_no, plus_one, EngineIn, serving_all, BelowCeiling, NoRoom, IsTrue}
 use Rattle.board.specs.Meaning.{NewcomerInOrder, AdmitPromises, SeatPromises}
@@ -40,6 +40,7 @@ use Rattle.board.proofs.Places.{engines-distinct, engines-known, engines-count, 
 use Rattle.board.proofs.Plain.{more-out}
 use Rattle.board.proofs.Truth.{truth-of}
 use Rattle.board.proofs.TrueMeans.{stands-said, true-means}
+use Rattle.board.proofs.Means.{admit-means, seat-means}
 use Rattle.board.proofs.Order.{seat-in-order}
 use Rattle.board.proofs.Ready.{true-keeps, newcomer-range, newcomer-within}
 use Rattle.board.proofs.Promises.{only_one}
@@ -161,12 +162,20 @@ module _ (b : Board) (t : ℕ) (table : Lent) where
     no_room_lem : NoRoom b t ↔ (room_cause b t table ≡ accepted (0 ∷ []) → ⊥)
     no_room_lem = ((λ none zero. let (χ, p) = means-so.zero.0 zero in none χ p), (λ h χ p. h (means-so.zero.1 (χ, p))))
 
-    module _ (other : Lent) (room : LongEnough b.system other) (gives : Result) where
-      admit-refused : AdmitPromises b t other gives → (gives.outcome ≡ refused from_state 24) ↔ (room_cause b t table ≡ accepted (0 ∷ []) → ⊥)
-      admit-refused p = let said = (p.means w room).no_room below in ((λ e. no_room_lem.0 (said.0 e)), (λ h. said.1 (no_room_lem.1 h)))
+    module _ (other : Lent) (room : LongEnough b.system other) where
+      admit-refused : ((admit_of b t other).outcome ≡ refused from_state 24) ↔ (room_cause b t table ≡ accepted (0 ∷ []) → ⊥)
+      admit-refused = let said = (admit-means b w t other room).no_room below in ((λ e. no_room_lem.0 (said.0 e)), (λ h. said.1 (no_room_lem.1 h)))
 
-      seat-refused : SeatPromises b t other gives → (gives.outcome ≡ refused from_state 24) ↔ (room_cause b t table ≡ accepted (0 ∷ []) → ⊥)
-      seat-refused p = let said = (p.means w room).no_room below in ((λ e. no_room_lem.0 (said.0 e)), (λ h. said.1 (no_room_lem.1 h)))
+      seat-refused : ((seat_of b t other).outcome ≡ refused from_state 24) ↔ (room_cause b t table ≡ accepted (0 ∷ []) → ⊥)
+      seat-refused = let said = (seat-means b w t other room).no_room below in ((λ e. no_room_lem.0 (said.0 e)), (λ h. said.1 (no_room_lem.1 h)))
+
+    -- and whatever keeps what the call promises
+    module _ (other : Lent) (room : LongEnough b.system other) (gives : Result) where
+      any-admit-refused : AdmitPromises b t other gives → (gives.outcome ≡ refused from_state 24) ↔ (room_cause b t table ≡ accepted (0 ∷ []) → ⊥)
+      any-admit-refused p = let said = (p.means w room).no_room below in ((λ e. no_room_lem.0 (said.0 e)), (λ h. said.1 (no_room_lem.1 h)))
+
+      any-seat-refused : SeatPromises b t other gives → (gives.outcome ≡ refused from_state 24) ↔ (room_cause b t table ≡ accepted (0 ∷ []) → ⊥)
+      any-seat-refused p = let said = (p.means w room).no_room below in ((λ e. no_room_lem.0 (said.0 e)), (λ h. said.1 (no_room_lem.1 h)))
 
   -- main: any board
 
@@ -181,6 +190,8 @@ module _ (b : Board) (t : ℕ) (table : Lent) where
     means = λ w long below. rw g.answer (means-so w long below);
     admit24 = λ w long below. rw g.answer (admit-refused w long below);
     seat24 = λ w long below. rw g.answer (seat-refused w long below);
+    admit24_any = λ w long below. rw g.answer (any-admit-refused w long below);
+    seat24_any = λ w long below. rw g.answer (any-seat-refused w long below);
   }
 
   -- main: the ways in which the call ends

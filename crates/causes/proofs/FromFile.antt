@@ -25,8 +25,9 @@ use Rattle.partition.proofs.Plain.{ceiling-out}
 use Rattle.table.specs.declared.Placement.{Placement}
 use Rattle.table.specs.Table.{long_enough, table_check, filled, placement}
 use Rattle.table.specs.Meaning.{FilledMeans}
-use Rattle.planner.specs.Plan.{table_left}
+use Rattle.planner.specs.Plan.{verdict_of, plan_outcome, table_left}
 use Rattle.planner.specs.Demands.{Decides}
+use Rattle.planner.proofs.Demands.{plan-decides}
 use Rattle.planner.proofs.Cases.{long-out, long-back, short-out, not_short, plan-fills}
 use Rattle.causes.specs.declared.Cause.{Cause}
 use Rattle.causes.specs.declared.CauseAnswer.{CauseAnswer}
@@ -96,12 +97,18 @@ module _ (y : System) (limits : Limits y) (table : Lent) where
     left-filled : FilledMeans y y.engines table (plan_cause_table (opened y) table)
     left-filled = rw left_is (plan-fills y limits table long)
 
-    -- a plan is refused 12 exactly when the cause is not 0
-    plan-refused : (other : Lent) (room : ℕ) → LongEnough y other → y.engines ≤ room
+    -- whatever decides as demand 2 has it is refused 12 exactly when the cause is not 0
+    any-refused : (other : Lent) (room : ℕ) → LongEnough y other → y.engines ≤ room
         → (answered : Outcome) → Decides (opened y) other room answered → (answered ≡ refused from_input 12) ↔ (o ≡ accepted (0 ∷ []) → ⊥)
-    plan-refused other room fits enough answered keeps =
+    any-refused other room fits enough answered keeps =
         let said = keeps.impossible y refl fits enough in
         ((λ e zero. let (χ, p) = means-so.zero.0 zero in said.0 e χ p), (λ h. said.1 (λ χ p. h (means-so.zero.1 (χ, p)))))
+
+    -- so is a plan
+    plan-refused : (other : Lent) (room : ℕ) → LongEnough y other → y.engines ≤ room → (plan_outcome (verdict_of (opened y) other room) ≡ refused from_input 12) ↔ (o ≡ accepted (0 ∷ []) → ⊥)
+    plan-refused other room fits enough =
+        any-refused other room fits enough (plan_outcome (verdict_of (opened y) other room))
+        (plan-decides other room (opened y) (λ z is. let same : y ≡ z = cc in subst Limits same limits))
 
 -- main: any file
 
@@ -114,6 +121,7 @@ promises-of file table r after g = record {
   left_filled = λ y e long. rw (g.left, e) (left-filled y (known y e) table long);
   means = λ y e long. rw (g.answer, e) (means-so y (known y e) table long);
   refused12 = λ y e long. rw (g.answer, e) (plan-refused y (known y e) table long);
+  refused12_any = λ y e long. rw (g.answer, e) (any-refused y (known y e) table long);
 }
   where
     known : (y : System) → read_file file ≡ opened y → Limits y

@@ -11,9 +11,10 @@ use Rattle.partition.specs.Assignment.{Assignment}
 use Rattle.partition.specs.Lent.{Lent}
 use Rattle.partition.specs.Plain.{type_no, ceiling_no, LongEnough, TooShort, EngineOf, Partition, Impossible}
 use Rattle.table.specs.Meaning.{FilledMeans}
+use Rattle.planner.specs.Plan.{verdict_of, plan_outcome}
 use Rattle.planner.specs.Demands.{Decides}
 use Rattle.board.specs.declared.Board.{Board}
-use Rattle.board.specs.Calls.{Result}
+use Rattle.board.specs.Calls.{Result, admit_of, seat_of}
 use Rattle.board.specs.Words.{plus_one, stands_no, sum_six, time_out, own_out, shared_out, FitsOut, EngineIn, serving_all, BelowCeiling, IsTrue}
 use Rattle.board.specs.Meaning.{NewcomerInOrder, OneKindOnly, AdmitPromises, SeatPromises}
 use Rattle.causes.specs.declared.Cause.{Cause}
@@ -115,9 +116,8 @@ pub record PlanChecksInOrder (x : Reading) (table : Lent) (o : Outcome) : Type 0
   pub then_table : (y : System) → x ≡ opened y → (o ≡ refused from_input 11) ↔ TooShort y table
 
 -- What the call `why_no_plan` promises: its answer and the table, whole; the order of its refusals; demand 1; that the table is left filled; what its cause
--- says of n(t)
--- instances of each type on the engines 1 to m; and that whatever a plan call answers of the file, table and list being long enough, it is refused 12
--- exactly when the cause is not 0. Of its answer nothing is known but demand 2, which both plan calls promise
+-- says of n(t) instances of each type on the engines 1 to m; and that a plan with table and list long enough is refused 12 exactly when the cause is not 0:
+-- the plan as it is defined, and whatever a plan call answers (`refused12_any`), of which nothing is known but demand 2, which both plan calls promise
 pub record PlanCausePromises (x : Reading) (table : Lent) (r : CauseAnswer) (after : Lent) : Type 0 where
   pub answers : cause_outcome_of r ≡ plan_cause x table
   pub leaves_table : after ≡ plan_cause_table x table
@@ -126,14 +126,16 @@ pub record PlanCausePromises (x : Reading) (table : Lent) (r : CauseAnswer) (aft
   pub left_filled : (y : System) → x ≡ opened y → LongEnough y table → FilledMeans y y.engines table after
   pub means : (y : System) → x ≡ opened y → LongEnough y table → CauseMeans y (EngineOf y) y.engines (ceiling_no y) (cause_outcome_of r)
   pub refused12 : (y : System) → x ≡ opened y → LongEnough y table → (other : Lent) (room : ℕ) → LongEnough y other → y.engines ≤ room
+      → (plan_outcome (verdict_of x other room) ≡ refused from_input 12) ↔ (cause_outcome_of r ≡ accepted (0 ∷ []) → ⊥)
+  pub refused12_any : (y : System) → x ≡ opened y → LongEnough y table → (other : Lent) (room : ℕ) → LongEnough y other → y.engines ≤ room
       → (answered : Outcome) → Decides x other room answered → (answered ≡ refused from_input 12) ↔ (cause_outcome_of r ≡ accepted (0 ∷ []) → ⊥)
 
 -- The call from a board
 
 -- What the call `why_no_room` promises: its answer and the table, whole; the order 20, 13, 11, 21; that a board of two kinds of engine is refused 20
 -- (request 2026-13); demand 1; and for a true board, a type below its ceiling and a table long enough, that the table is left filled, what the cause says
--- of what stands and the newcomer on the engines in service, and that every admit and every seat that keeps what it promises is refused 24 exactly when
--- the cause is not 0
+-- of what stands and the newcomer on the engines in service, and that an admit and a seat are refused 24 exactly when it is not 0: the calls as they are
+-- defined, and every admit and every seat that keeps what it promises (`admit24_any`, `seat24_any`)
 pub record RoomCausePromises (b : Board) (t : ℕ) (table : Lent) (r : CauseAnswer) (after : Lent) : Type 0 where
   pub answers : cause_outcome_of r ≡ room_cause b t table
   pub leaves_table : after ≡ room_cause_table b t table
@@ -144,6 +146,10 @@ pub record RoomCausePromises (b : Board) (t : ℕ) (table : Lent) (r : CauseAnsw
   pub means : IsTrue b → LongEnough b.system table → BelowCeiling b t
       → CauseMeans b.system (EngineIn b) (serving_all b) (plus_one t (stands_no b)) (cause_outcome_of r)
   pub admit24 : IsTrue b → LongEnough b.system table → BelowCeiling b t → (other : Lent) → LongEnough b.system other
-      → (gives : Result) → AdmitPromises b t other gives → (gives.outcome ≡ refused from_state 24) ↔ (cause_outcome_of r ≡ accepted (0 ∷ []) → ⊥)
+      → ((admit_of b t other).outcome ≡ refused from_state 24) ↔ (cause_outcome_of r ≡ accepted (0 ∷ []) → ⊥)
   pub seat24 : IsTrue b → LongEnough b.system table → BelowCeiling b t → (other : Lent) → LongEnough b.system other
+      → ((seat_of b t other).outcome ≡ refused from_state 24) ↔ (cause_outcome_of r ≡ accepted (0 ∷ []) → ⊥)
+  pub admit24_any : IsTrue b → LongEnough b.system table → BelowCeiling b t → (other : Lent) → LongEnough b.system other
+      → (gives : Result) → AdmitPromises b t other gives → (gives.outcome ≡ refused from_state 24) ↔ (cause_outcome_of r ≡ accepted (0 ∷ []) → ⊥)
+  pub seat24_any : IsTrue b → LongEnough b.system table → BelowCeiling b t → (other : Lent) → LongEnough b.system other
       → (gives : Result) → SeatPromises b t other gives → (gives.outcome ≡ refused from_state 24) ↔ (cause_outcome_of r ≡ accepted (0 ∷ []) → ⊥)

@@ -46,7 +46,7 @@ module _ (file rows predecessors : List ℕ) where
       → Says12 (read_card file) rows predecessors room (outcome_of r.answer)
   plan-twelve room r after e = λ y opens long also.
       by-kinds file (λ z s. engines_in z s ≤ room → (outcome_of r.answer ≡ refused from_input 12) ↔ NoPartition z s) y opens
-      (λ is. (e.one_kind (opened y) is).demand2.decides.impossible y refl (long, also)) (λ k is. (e.two_kinds y k is).demand2.impossible (long, also))
+      (λ is. (e.one_kind (opened y) is).demand2.impossible y refl (long, also)) (λ k is. (e.two_kinds y k is).demand2.impossible (long, also))
 
   module _ (list : List EngineRecord) (r : Answer) (after : Lent) (later : List EngineRecord) (e : ListCall (card_of (read_card file)) (lent rows predecessors) list r after later) where
     pub list-eleven : Says11 (read_card file) rows predecessors (outcome_of r ≡ refused from_input 11)

@@ -2,3 +2,4 @@
 pub mod Kept
 pub mod Step
 pub mod Demand3
+pub mod Before

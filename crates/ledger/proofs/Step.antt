@@ -61,7 +61,8 @@ use Rattle.board.proofs.Views.{
   withdraw-view,
   restore-view,
 }
-use Rattle.board.proofs.Means.{empty-row, admit-means, seat-means, retire-means, repack-means, withdraw-means, restore-means}
+use Rattle.board.proofs.Means.{empty-row}
+use Rattle.board.proofs.MeansTrue.{admit-means, seat-means, retire-means, repack-means, withdraw-means, restore-means}
 use Rattle.ledger.specs.Ledger.{Call, admit, seat, retire, repack, withdraw, restore, Ledger, ledger_with, engines, is_full, Entry, entry, counted_on, admit_entry, seat_entry, retire_entry, repack_entry, withdraw_entry, restore_entry, step}
 use Rattle.ledger.specs.Demand3.{call_on, lends_table, adds_type, retires_type, CallKept}
 

@@ -143,7 +143,7 @@ refused-listed p n e = rw e (refused-told from_input n p.used p.typecount (recor
 module _ (y : System) (limits : Limits y) (table : Lent) (p : Plan) (after : Lent) (promises : PlanPromises (opened y) table engine_limit p after) (records : Given p) where
   plan-listed : LongEnough y table → (χ : Assignment) → Partition y (EngineOf y) (ceiling_no y) χ → TellsPlan y (plan_listing p)
   plan-listed long χ can =
-      let (used, given) = promises.demand2.decides.answered y refl long limits.engines χ can in
+      let (used, given) = promises.demand2.answered y refl long limits.engines χ can in
       let stands = promises.demand2.given y used refl given in
       let few : used ≤ 16 = omega (arith, stands.uses, used-to y.engines stands.stands.mapping, limits.engines) in
       let sixteen = promises.demand2.sixteen in
@@ -158,7 +158,7 @@ module _ (y : System) (limits : Limits y) (table : Lent) (p : Plan) (after : Len
 
   plan-impossible : LongEnough y table → TellsRefusal 12 (plan_listing p) ↔ Impossible y (EngineOf y) (ceiling_no y)
   plan-impossible long =
-      ((λ r χ can. no-plan-told r (plan-listed long χ can)), (λ none. refused-listed p 12 ((promises.demand2.decides.impossible y refl long limits.engines).1 none)))
+      ((λ r χ can. no-plan-told r (plan-listed long χ can)), (λ none. refused-listed p 12 ((promises.demand2.impossible y refl long limits.engines).1 none)))
 
   -- `refused 11` is neither a plan nor `refused 12`, so that it says that the table is too short
   plan-short : TellsRefusal 11 (plan_listing p) ↔ TooShort y table

@@ -306,6 +306,12 @@ passing-++ p (e ∷ es) ds = go (p e) (passing-++ p es ds)
     go true h = ap (λ (l : List ℕ). e ∷ l) h
     go false h = h
 
+-- where all pass, they are the list
+pub passing-all : (p : ℕ → Bool) (es : List ℕ) → every p es ≡ true → passing p es ≡ es
+unfolding passing
+passing-all p [] h = refl
+passing-all p (e ∷ es) h = let b = every-parts p e es h in rw (b.0, passing-all p es b.1)
+
 -- the engines 1 to m, cut at one of them
 pub numbers_from-cut : (a n k : ℕ) → numbers_from a (n + k) ≡ numbers_from a n ++ numbers_from (a + n) k
 unfolding numbers_from

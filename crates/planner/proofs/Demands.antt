@@ -10,7 +10,7 @@ use lib.Dec.{ltb}
 use Rattle.system.specs.declared.System.{System}
 use Rattle.system.specs.Limits.{engine_limit, type_limit}
 use Rattle.system.specs.Layout.{Reading, opened, unread, read_file}
-use Rattle.system.specs.Outcome.{Source, accepted, refused, from_input, outcome_of}
+use Rattle.system.specs.Outcome.{Outcome, Source, accepted, refused, from_input, outcome_of}
 use Rattle.system.proofs.Laws.{Limits, read-limits}
 use Rattle.loads.specs.declared.EngineLoad.{EngineLoad}
 use Rattle.loads.specs.Load.{idle_engine}
@@ -196,7 +196,8 @@ module _ (table : Lent) (room : ℕ) where
 
     pub plan-demand2 : Demand2 x table room (plan_outcome (verdict_of x table room)) (plan_loads (verdict_of x table room))
     plan-demand2 = record {
-      decides = plan-decides;
+      impossible = plan-decides.impossible;
+      answered = plan-decides.answered;
       given = λ y used e. rw e (given (known y e) (case_of y (known y e) table room) used);
       sixteen = length-loads-of x known;
       six_counts = λ y used e is. rw is (counts-six (known y is) (case_of y (known y is) table room) used e);
@@ -205,6 +206,10 @@ module _ (table : Lent) (room : ℕ) where
 
     pub plan-recovers : Recovers x (plan_outcome (verdict_of x table room)) (plan_loads (verdict_of x table room)) (plan_table x table room)
     plan-recovers y used e = rw e (recovers-on (known y e) (case_of y (known y e) table room) used)
+
+-- demand 2 says of the answer alone what is said of it
+pub decides-of : {x : Reading} {table : Lent} {room : ℕ} {outcome : Outcome} {loads : List EngineLoad} → Demand2 x table room outcome loads → Decides x table room outcome
+decides-of d = record { impossible = d.impossible; answered = d.answered }
 
 -- where the verdict is a refusal
 nothing-of : (v : Verdict) (s : Source) (n : ℕ) → plan_outcome v ≡ refused s n → (r : Plan) → r.used ≡ used_engines v → r.typecount ≡ planned_types v → r.numbers ≡ engines_to engine_limit → r.loads ≡ plan_loads v → HandsOutNothing r

@@ -25,7 +25,7 @@ use Rattle.planner.specs.Demands.{entry_no, ListsPlan, ListHolds, ListPromises}
 use Rattle.planner.proofs.Front.{front, length-front-of, get_or-front-new, get_or-front-old}
 use Rattle.planner.proofs.Records.{length-records_from, get_or-records_of}
 use Rattle.planner.proofs.Cases.{can_place, on-fewest, few-used, length-loads, six-counts, recovered-out, idle-load, Case, too_short, too_small, no_place, is_planned, case_of}
-use Rattle.planner.proofs.Demands.{nothing-at, Known, plan-in-order, plan-demand1, plan-decides, verdict-same}
+use Rattle.planner.proofs.Demands.{nothing-at, Known, plan-in-order, plan-demand1, plan-decides, plan-demand2, verdict-same}
 
 -- where a type has no instance, none is anywhere
 no-places : (e : ℕ) (places : List ℕ) → length places ≡ 0 → over_instances e 1 places ≡ 0
@@ -168,7 +168,8 @@ list-promises-for x known table list answer table_after list_after a t l = recor
   leaves_list = l;
   order = rw a (plan-in-order table (length list) x known);
   demand1 = rw (a, t) (plan-demand1 table (length list) x known);
-  demand2 = rw a (plan-decides table (length list) x known);
+  demand2 = rw a (plan-demand2 table (length list) x known);
+  decides = rw a (plan-decides table (length list) x known);
   holds = rw (a, l) (plan-list-holds list table x known);
   recovers = rw (a, t, l) (plan-list-recovers list table x known);
 }

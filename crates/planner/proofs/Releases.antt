@@ -25,12 +25,14 @@ use Rattle.partition.specs.Releases.{Fewest, SameButRule}
 use Rattle.partition.proofs.ReleaseSheets.{sheets-add, sheets-share}
 use Rattle.planner.specs.declared.Plan.{Plan}
 use Rattle.planner.specs.declared.EngineRecord.{EngineRecord}
+use Rattle.planner.specs.Plan.{verdict_of, plan_loads}
 use Rattle.planner.specs.Demands.{PlanPromises, ListPromises}
+use Rattle.planner.proofs.Demands.{decides-of}
 use Rattle.planner.specs.MixedDemands.{MixedPromises, MixedListPromises}
-use Rattle.planner.specs.Releases.{Asked, AskedMixed, PlansAdd, PlansShare}
+use Rattle.planner.specs.Releases.{Asked, AskedAny, AskedMixed, PlansAdd, PlansShare}
 
 -- where there is a partition, the plan answers the fewest engines
-partition-answered : {file : List ℕ} {y : System} {outcome : Outcome} → Asked file y outcome → (χ : Assignment) → Partition y (EngineOf y) (ceiling_no y) χ
+partition-answered : {file : List ℕ} {y : System} {outcome : Outcome} → AskedAny file y outcome → (χ : Assignment) → Partition y (EngineOf y) (ceiling_no y) χ
     → (c : ℕ) × (outcome ≡ accepted (c ∷ [])) × Fewest y (EngineOf y) (ceiling_no y) c
 partition-answered {y = y} q χ p =
     let a = q.decides.answered y q.reads q.table_long q.list_long χ p in
@@ -40,34 +42,55 @@ partition-answered {y = y} q χ p =
 fewest-once : {y : System} {E : ℕ → Type 0} {count : ℕ → ℕ} {r n : ℕ} → Fewest y E count r → Fewest y E count n → r ≡ n
 fewest-once f g = le_antisymm (rw g.uses at (f.least g.mapping g.partition)) (rw f.uses at (g.least f.mapping f.partition))
 
--- main
+-- what keeps demand 2 with its loads keeps it of the answer alone, and the number that it answers is the fewest engines
+pub asked-any : (file : List ℕ) (y : System) (outcome : Outcome) → Asked file y outcome → AskedAny file y outcome
+asked-any file y outcome q =
+    record { table = q.table; room = q.room; reads = q.reads; table_long = q.table_long; list_long = q.list_long; decides = decides-of q.keeps; fewest = fewest }
+  where
+    fewest : (used : ℕ) → outcome ≡ accepted (used ∷ []) → Fewest y (EngineOf y) (ceiling_no y) used
+    fewest used is =
+        let f = q.keeps.given y used q.reads is in
+        record { mapping = f.stands.mapping; partition = f.stands.partition; uses = f.uses; least = f.fewest }
 
-pub plans-add : (f1 f2 f3 : List ℕ) (first second both : System) (one two three : Outcome) → Asked f1 first one → Asked f2 second two → Asked f3 both three → PlansAdd first second both one two three
-plans-add f1 f2 f3 first second both one two three q1 q2 q3 a b releases is1 is2 h =
+-- main: of whatever answers as demand 2 has it, on the fewest engines
+
+pub plans-add-any : (f1 f2 f3 : List ℕ) (first second both : System) (one two three : Outcome)
+    → AskedAny f1 first one → AskedAny f2 second two → AskedAny f3 both three → PlansAdd first second both one two three
+plans-add-any f1 f2 f3 first second both one two three q1 q2 q3 a b releases is1 is2 h =
     let r = sheets-add f1 f2 f3 first second both q1.reads q2.reads q3.reads releases a b (q1.fewest a is1) (q2.fewest b is2) h in
     let third = partition-answered q3 r.1.mapping r.1.partition in
     (third.0, third.1, rw (fewest-once third.2 r.1) r.2)
 
-pub plans-share : (f1 f2 : List ℕ) (own shared : System) (one two : Outcome) → Asked f1 own one → Asked f2 shared two → PlansShare own shared one two
-plans-share f1 f2 own shared one two q1 q2 a alike is =
+pub plans-share-any : (f1 f2 : List ℕ) (own shared : System) (one two : Outcome) → AskedAny f1 own one → AskedAny f2 shared two → PlansShare own shared one two
+plans-share-any f1 f2 own shared one two q1 q2 a alike is =
     let r = sheets-share f1 f2 own shared q1.reads q2.reads alike a (q1.fewest a is) in
     let second = partition-answered q2 r.1.mapping r.1.partition in
     (second.0, second.1, rw (fewest-once second.2 r.1) r.2)
 
+-- main
+
+pub plans-add : (f1 f2 f3 : List ℕ) (first second both : System) (one two three : Outcome) → Asked f1 first one → Asked f2 second two → Asked f3 both three → PlansAdd first second both one two three
+plans-add f1 f2 f3 first second both one two three q1 q2 q3 =
+    plans-add-any f1 f2 f3 first second both one two three (asked-any f1 first one q1) (asked-any f2 second two q2) (asked-any f3 both three q3)
+
+pub plans-share : (f1 f2 : List ℕ) (own shared : System) (one two : Outcome) → Asked f1 own one → Asked f2 shared two → PlansShare own shared one two
+plans-share f1 f2 own shared one two q1 q2 = plans-share-any f1 f2 own shared one two (asked-any f1 own one q1) (asked-any f2 shared two q2)
+
 -- `Asked` asks nothing but what a call was lent and promises: of the plan by value, and of the plan into a list
 pub asked_of : (file : List ℕ) (table after : Lent) (y : System) (r : Plan) → read_file file ≡ opened y → LongEnough y table → PlanPromises (read_file file) table 16 r after → Asked file y (outcome_of r.answer)
 asked_of file table after y r reads long p =
-    record { table = table; room = 16; reads = reads; table_long = long; list_long = (read-limits file y reads).engines; decides = p.demand2.decides; fewest = fewest }
-  where
-    fewest : (used : ℕ) → outcome_of r.answer ≡ accepted (used ∷ []) → Fewest y (EngineOf y) (ceiling_no y) used
-    fewest used is =
-        let f = p.demand2.given y used reads is in
-        record { mapping = f.stands.mapping; partition = f.stands.partition; uses = f.uses; least = f.fewest }
+    record { table = table; room = 16; loads = r.loads; reads = reads; table_long = long; list_long = (read-limits file y reads).engines; keeps = p.demand2 }
 
 pub asked-list : (file : List ℕ) (table after : Lent) (list list_after : List EngineRecord) (y : System) (answer : Answer) → read_file file ≡ opened y → LongEnough y table → y.engines ≤ length list
     → ListPromises (read_file file) table list answer after list_after → Asked file y (outcome_of answer)
 asked-list file table after list list_after y answer reads long room p =
-    record { table = table; room = length list; reads = reads; table_long = long; list_long = room; decides = p.demand2; fewest = fewest }
+    record { table = table; room = length list; loads = plan_loads (verdict_of (read_file file) table (length list)); reads = reads; table_long = long; list_long = room; keeps = p.demand2 }
+
+-- and of the plan into a list `AskedAny` asks what is said of the answer and of the list, and of no plan that is defined
+pub asked-list-any : (file : List ℕ) (table after : Lent) (list list_after : List EngineRecord) (y : System) (answer : Answer) → read_file file ≡ opened y → LongEnough y table
+    → y.engines ≤ length list → ListPromises (read_file file) table list answer after list_after → AskedAny file y (outcome_of answer)
+asked-list-any file table after list list_after y answer reads long room p =
+    record { table = table; room = length list; reads = reads; table_long = long; list_long = room; decides = p.decides; fewest = fewest }
   where
     fewest : (used : ℕ) → outcome_of answer ≡ accepted (used ∷ []) → Fewest y (EngineOf y) (ceiling_no y) used
     fewest used is =

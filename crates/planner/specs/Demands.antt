@@ -39,10 +39,13 @@ pub record Decides (x : Reading) (table : Lent) (room : ℕ) (outcome : Outcome)
   pub answered : (y : System) → x ≡ opened y → LongEnough y table → y.engines ≤ room
       → (χ : Assignment) → Partition y (EngineOf y) (ceiling_no y) χ → (used : ℕ) × (outcome ≡ accepted (used ∷ []))
 
--- Demand 2: that of the answer; and a plan that is given is such a partition on the fewest engines, one load of six counts for each engine that a system
--- can have, and the engines past the answer hold nothing
+-- Demand 2: that of the answer (`impossible`, `answered`); and a plan that is given is such a partition on the fewest engines, one load of six counts for each
+-- engine that a system can have, and the engines past the answer hold nothing
 pub record Demand2 (x : Reading) (table : Lent) (room : ℕ) (outcome : Outcome) (loads : List EngineLoad) : Type 0 where
-  pub decides : Decides x table room outcome
+  pub impossible : (y : System) → x ≡ opened y → LongEnough y table → y.engines ≤ room
+      → (outcome ≡ refused from_input 12) ↔ Impossible y (EngineOf y) (ceiling_no y)
+  pub answered : (y : System) → x ≡ opened y → LongEnough y table → y.engines ≤ room
+      → (χ : Assignment) → Partition y (EngineOf y) (ceiling_no y) χ → (used : ℕ) × (outcome ≡ accepted (used ∷ []))
   pub given : (y : System) (used : ℕ) → x ≡ opened y → outcome ≡ accepted (used ∷ []) → StandsOnFewest y (EngineOf y) (ceiling_no y) loads used
   pub sixteen : length loads ≡ 16
   pub six_counts : (y : System) (used e : ℕ) → x ≡ opened y → outcome ≡ accepted (used ∷ []) → 1 ≤ e → e ≤ 16 → length (record_no loads e).counts ≡ 6
@@ -107,15 +110,16 @@ pub record ListHolds (x : Reading) (list : List EngineRecord) (outcome : Outcome
   pub lists : (y : System) (used : ℕ) → x ≡ opened y → outcome ≡ accepted (used ∷ []) → ListsPlan y used after
   pub later_kept : (used e : ℕ) → outcome ≡ accepted (used ∷ []) → used < e → entry_no after e ≡ entry_no list e
 
--- what the call `plan_into` promises of its answer, the table and the list: demand 1, and demand 2 of the answer and of the plan that the list holds.
--- The room is the list's length
+-- what the call `plan_into` promises of its answer, the table and the list, and with that demands 1 and 2: demand 2 with the loads of the plan as it is
+-- defined, of the answer alone, and of the plan that the list holds. The room is the list's length
 pub record ListPromises (x : Reading) (table : Lent) (list : List EngineRecord) (answer : Answer) (table_after : Lent) (list_after : List EngineRecord) : Type 0 where
   pub answers : outcome_of answer ≡ plan_outcome (verdict_of x table (length list))
   pub leaves_table : table_after ≡ plan_table x table (length list)
   pub leaves_list : list_after ≡ plan_list (verdict_of x table (length list)) list
   pub order : InOrder x table (length list) (outcome_of answer)
   pub demand1 : Demand1 x table (outcome_of answer) table_after
-  pub demand2 : Decides x table (length list) (outcome_of answer)
+  pub demand2 : Demand2 x table (length list) (outcome_of answer) (plan_loads (verdict_of x table (length list)))
+  pub decides : Decides x table (length list) (outcome_of answer)
   pub holds : ListHolds x list (outcome_of answer) list_after
   pub recovers : (y : System) (used : ℕ) → x ≡ opened y → outcome_of answer ≡ accepted (used ∷ [])
       → RecoveredBy y table_after used (ceiling_no y) (λ (e t : ℕ). get_or (entry_no list_after e).load.counts (t - 1) 0)

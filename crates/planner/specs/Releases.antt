@@ -13,10 +13,20 @@ use Rattle.partition.specs.Lent.{Lent}
 use Rattle.partition.specs.Plain.{ceiling_no, LongEnough, EngineOf}
 use Rattle.partition.specs.PlainKinds.{MixedPartition, MixedOnFewest}
 use Rattle.partition.specs.Releases.{Bounds, TogetherAtMost, NoMore, BothReleases, Fewest, SameButRule}
-use Rattle.planner.specs.Demands.{Decides}
+use Rattle.planner.specs.Demands.{Demand2, Decides}
 
--- `outcome` is what a plan of the file answered, table and list being long enough: as demand 2 has it, and the number of engines that it answers is the fewest
+-- `outcome` is what a plan of the file answered, table and list being long enough
 pub record Asked (file : List ℕ) (y : System) (outcome : Outcome) : Type 0 where
+  pub table : Lent
+  pub room : ℕ
+  pub loads : List EngineLoad
+  pub reads : read_file file ≡ opened y
+  pub table_long : LongEnough y table
+  pub list_long : y.engines ≤ room
+  pub keeps : Demand2 (read_file file) table room outcome loads
+
+-- the same with no word of its loads: as demand 2 has it of the answer alone, and the number of engines that it answers is the fewest. It follows from `Asked`
+pub record AskedAny (file : List ℕ) (y : System) (outcome : Outcome) : Type 0 where
   pub table : Lent
   pub room : ℕ
   pub reads : read_file file ≡ opened y

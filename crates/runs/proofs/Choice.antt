@@ -11,6 +11,7 @@ use lib.ListN.{length, get_or}
 use lib.Dec.{ltb}
 use Rattle.runs.specs.declared.Job.{Job}
 use Rattle.runs.specs.Run.{no_job, earlier, sooner, chosen}
+use Rattle.runs.proofs.Steps.{no-earlier}
 
 -- what stands at a place; past the last job one with nothing left
 abbrev pub job_at : List Job → ℕ → Job
@@ -45,7 +46,7 @@ not-sooner e (j ∷ l) h k p = go (ltb 0 j.left) refl (earlier j.due e) refl h (
         → 1 ≤ (job_at (j ∷ l) m).left
         → e ≤ (job_at (j ∷ l) m).due
     go true q true r s ih m t = absurd (false≢true (sym s))
-    go true q false r s ih zero t = ltb-false j.due e r
+    go true q false r s ih zero t = no-earlier j.due e r
     go true q false r s ih (suc m) t = ih s m t
     go false q b r s ih zero t = absurd (omega (arith, ltb-false 0 j.left q))
     go false q b r s ih (suc m) t = ih s m t

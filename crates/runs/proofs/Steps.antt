@@ -129,6 +129,9 @@ chosen-cons j l = refl
 
 -- the order of deadlines: what is not before e is not before what e is not before, and what is not before d is not before what is before d
 
+pub no-earlier : (d e : ℕ) → earlier d e ≡ false → e ≤ d
+no-earlier d e h = ltb-false d e h
+
 not_earlier : (x d e : ℕ) → earlier e d ≡ false → earlier x e ≡ false → earlier x d ≡ false
 not_earlier x d e p q = le-ltb x d (omega (arith, ltb-false e d p, ltb-false x e q))
 

@@ -226,7 +226,7 @@ module _ (file : List ℕ) (e ticks from : ℕ) (y : System) (opens : read_file 
       text b is = ap (λ (v : Verdict). verdict_text v e ticks from) (verdict-is b is)
 
       judge : (b : Bool) → can_place y ≡ b → (plan_outcome (judged y (check b from_input 12)) ≡ refused from_input 12) ↔ Impossible y (EngineOf y) (ceiling_no y)
-      judge b is = rw (verdict-is b is) at (demand.decides.impossible y opens long few)
+      judge b is = rw (verdict-is b is) at (demand.impossible y opens long few)
 
       go : (b : Bool) → can_place y ≡ b → TellsRefusal 12 (watch_text file e ticks from) ↔ Impossible y (EngineOf y) (ceiling_no y)
       go false is = ((λ r. (judge false is).0 refl), (λ none. rw (text false is) (number-told 12)))
@@ -245,7 +245,7 @@ module _ (file : List ℕ) (e ticks from : ℕ) (y : System) (opens : read_file 
     where
       go : (b : Bool) → can_place y ≡ b → TellsPlanned file y e ticks from (watch_text file e ticks from)
       go true is = rw (verdict-is true is) (planned-told is)
-      go false is = absurd ((rw (verdict-is false is) at (demand.decides.impossible y opens long few)).0 refl χ p)
+      go false is = absurd ((rw (verdict-is false is) at (demand.impossible y opens long few)).0 refl χ p)
 
 pub tells-watch : (file : List ℕ) (e ticks from : ℕ) → TellsWatch file e ticks from (watch_text file e ticks from)
 unfolding reading_verdict verdict_text

@@ -1,12 +1,14 @@
 -- Each answer is that of the definition: a file that was refused, a part too short, both parts filled for the first of two kinds, and both parts filled.
-use mathlib.Core.Path.{◌≡◌, sym, ap, subst, ◌∙◌}
+use mathlib.Core.Path.{◌≡◌, refl, sym, ap, subst, ◌∙◌}
 use mathlib.Core.Bool.{true}
 use mathlib.Core.Logic.{⊎_elim}
 use native.Mathlib.Nat.{le_refl}
 use native.Mathlib.Omega.{arith}
 use borrow.Author.Rules.{rules}
 use Rattle.system.specs.declared.Answer.TheVariants.{Accepted}
-use Rattle.system.specs.declared.Second.TheVariants.{OneKind}
+use Rattle.system.specs.declared.Kind.{Kind}
+use Rattle.system.specs.declared.Second.{Second}
+use Rattle.system.specs.declared.Second.TheVariants.{OneKind, TwoKinds}
 use Rattle.system.specs.declared.System.{System}
 use Rattle.system.specs.Limits.{keeps_card}
 use Rattle.system.specs.Layout.{read_card}
@@ -51,7 +53,7 @@ returns-in_default c =
     let r = c.read_card-opened in
     file-fills start.args.file.now _ (parts start) _
     (fill-refused (read_card start.args.file.now) r.result r.ensures (parts start)
-    (λ e. ⊎_elim (λ t. absurd (omega (arith, rw e at t))) (λ t. absurd (omega (arith, rw e at t))) c.in_default.keys2))
+    c.in_default.not-Accepted)
 
 -- the file opened, and its card keeps the limits
 is-accepted : (c : In-Fails) → c.read_card-opened.result.answer ≡ Accepted
@@ -93,10 +95,9 @@ pub returns-in-Fails : goal.returns-in-Fails
 returns-in-Fails c =
     let start = c in
     let r = c.read_card-opened in
-    let p = c.check-1.given in
     file-fills start.args.file.now _ (parts-2 start) _
-    (fill-short (read_card start.args.file.now) r.result r.ensures (parts-2 start) (is-accepted c) p.0.0
-    (ap checked_of (sym p.1) ∙ c.table_check-check.ensures))
+    (fill-short (read_card start.args.file.now) r.result r.ensures (parts-2 start) (is-accepted c) c.in-Fails.why
+    (ap checked_of (sym c.in-Fails.is) ∙ c.table_check-check.ensures))
 
 -- the check passed, so that both parts have an entry for each column
 passed : (c : After-first_kind) → passes ≡ table_check c.read_card-opened.result.system (parts-3 c)
@@ -114,15 +115,20 @@ passed-3 c = ap checked_of (sym c.in_default-check.is) ∙ c.table_check-check.e
 passed-4 : (c : After-slice_known-4-1) → passes ≡ table_check c.read_card-opened.result.system (parts-6 c)
 passed-4 c = ap checked_of (sym c.in_default-check.is) ∙ c.table_check-check.ensures
 
+-- where there is not one kind, there are two
+other-kind : (s : Second) → (s ≡ OneKind → ⊥) → (k : Kind) × (s ≡ TwoKinds k)
+other-kind OneKind e = absurd (e refl)
+other-kind (TwoKinds k) e = (k, refl)
+
 pub fill_parts-requires : goal.fill_parts-requires
 fill_parts-requires c =
     let told = c in
     let opened = told in
     let y = opened.read_card-opened.result.system in
     let room = parts-room y (parts-3 opened) (check-passed (long_enough y (parts-3 opened)) from_input 11 (passed told)) in
-    let p = told.enum_told-in_default-second-1.given in
+    let (k, two) = other-kind y.second told.in_default-second.not-OneKind in
     rw (c.first_kind.ensures, first-columns y)
-    (first-keeps y p.0.0 (keeps-2 opened) p.1, le_refl y.engines, room.0, room.1)
+    (first-keeps y k (keeps-2 opened) two, le_refl y.engines, room.0, room.1)
 
 pub returns-in_default-second : goal.returns-in_default-second
 returns-in_default-second c =
@@ -131,12 +137,12 @@ returns-in_default-second c =
     let start = opened in
     let r = opened.read_card-opened in
     let done = c.fill_parts in
-    let p = told.enum_told-in_default-second-1.given in
-    let left : lent done.new.0 done.new.1.0 ≡ filled_to c.first_kind.result r.result.system.engines (parts-4 start) = λ i. lent (done.ensures.0 i) (done.ensures.1 i) in
+    let (k, two) = other-kind r.result.system.second told.in_default-second.not-OneKind in
+    let left : lent done.new.rows done.new.predecessors ≡ filled_to c.first_kind.result r.result.system.engines (parts-4 start) = λ i. lent (done.ensures.0 i) (done.ensures.1 i) in
     file-fills start.args.file.now _ (parts-4 start) _
-    (fill-two (read_card start.args.file.now) r.result r.ensures (parts-4 start) (is-accepted-2 opened) p.0.0 p.1 (passed-2 told)
-    (lent done.new.0 done.new.1.0)
-    (subst (λ (z : System). lent done.new.0 done.new.1.0 ≡ filled_to z r.result.system.engines (parts-4 start)) c.first_kind.ensures left))
+    (fill-two (read_card start.args.file.now) r.result r.ensures (parts-4 start) (is-accepted-2 opened) k two (passed-2 told)
+    (lent done.new.rows done.new.predecessors)
+    (subst (λ (z : System). lent done.new.rows done.new.predecessors ≡ filled_to z r.result.system.engines (parts-4 start)) c.first_kind.ensures left))
 
 -- there is one kind
 is_one : (c : After-fill_parts-arg-3-1) → c.read_card-opened.result.system.second ≡ OneKind
@@ -163,7 +169,7 @@ returns c =
     let done = c.fill_parts-2 in
     file-fills start.args.file.now _ (parts-6 start) _
     (fill_done (read_card start.args.file.now) r.result r.ensures (parts-6 start) (is-accepted-3 opened) (is_one-2 told) (passed-4 told)
-    (lent done.new.0 done.new.1.0)
+    (lent done.new.rows done.new.predecessors)
     (λ i. lent (done.ensures.0 i) (done.ensures.1 i))
     done.result
     done.ensures.2)

@@ -37,7 +37,7 @@ placed_by-found-requires c =
     let predecessors = start.args.predecessors.now in
     let room = parts-room y (lent rows predecessors) start.requires.room in
     let shown =
-    filled-show y start.args.engines.count rows predecessors filled.new.0 filled.new.1.0
+    filled-show y start.args.engines.count rows predecessors filled.new.rows filled.new.predecessors
     start.requires.limits
     start.requires.few
     room.0
@@ -72,6 +72,6 @@ returns c =
     let found = c.placed_by-found in
     let sixteen = sixteen-at start in
     let count : length (listed engines) ≡ engines.count = length-take-le engines.count engines.numbers (omega (arith, sixteen, start.requires.engines.few)) in (
-      both-filled y (listed engines) engines.count start.args.rows.now start.args.predecessors.now done.new.0 done.new.1.0 count done.ensures.0 done.ensures.1,
+      both-filled y (listed engines) engines.count start.args.rows.now start.args.predecessors.now done.new.rows done.new.predecessors count done.ensures.0 done.ensures.1,
       rows-on-engines y (listed engines) start.args.counts found.result c.on_engines.result (found.ensures ∙ rw count) c.on_engines.ensures,
     )

@@ -1,6 +1,5 @@
 -- `costs_size`: none where u and s on the second kind are not given; else the bytes of a whole field.
 use mathlib.Core.Path.{sym, ap, ◌∙◌}
-use borrow.Author.Rules.{rules}
 use lib.ListN.{length}
 use Rattle.system.specs.declared.There.{There}
 use Rattle.system.specs.Rules.{rule_of}

@@ -1,7 +1,6 @@
 -- `data_size`: none for a d of 0; else the bytes of a whole field.
 use mathlib.Core.Path.{sym}
 use native.Mathlib.Omega.{arith}
-use borrow.Author.Rules.{rules}
 use Rattle.system.specs.Rules.{rule_of}
 use Rattle.writer.proofs.Bytes.{data-none, data-some}
 use Rattle.writer_code.proofs.data_size.Goals as goal

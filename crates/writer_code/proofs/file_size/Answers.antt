@@ -1,6 +1,5 @@
 -- `file_size`: the platform, any second kind, then the types.
 use native.Mathlib.Omega.{arith}
-use borrow.Author.Rules.{rules}
 use lib.ListN.{take, length-append}
 use Rattle.system.specs.Rules.{rule_of}
 use Rattle.writer.specs.File.{field_bytes, second_bytes, types_bytes, file_of}
@@ -10,21 +9,17 @@ use Rattle.writer_code.proofs.file_size.Goals as goal
 pub overflow_add-result : goal.overflow_add-result
 unfolding rule_of
 overflow_add-result c =
-    let sized = c in
-    omega (arith, sized.field_size.ensures, c.second_size.ensures, second-longest sized.args.y.second)
+    omega (arith, c.field_size.ensures, c.second_size.ensures, second-longest c.args.y.second)
 
 pub overflow_add-result-2 : goal.overflow_add-result-2
 unfolding rule_of
 overflow_add-result-2 c =
-    let equipped = c in
-    let sized = equipped in
-    let start = sized in
-    let y = start.args.y in
+    let y = c.args.y in
     omega (
       arith,
-      start.requires,
-      sized.field_size.ensures,
-      equipped.second_size.ensures,
+      c.requires,
+      c.field_size.ensures,
+      c.second_size.ensures,
       c.types_size.ensures,
       second-longest y.second,
       first-longest y.types y.typecount,
@@ -33,13 +28,11 @@ overflow_add-result-2 c =
 pub returns : goal.returns
 unfolding file_of field_bytes rule_of
 returns c =
-    let equipped = c in
-    let sized = equipped in
-    let y = sized.args.y in
+    let y = c.args.y in
     omega (
       arith,
-      sized.field_size.ensures,
-      equipped.second_size.ensures,
+      c.field_size.ensures,
+      c.second_size.ensures,
       c.types_size.ensures,
       length-append (second_bytes y.second) (types_bytes (take y.typecount y.types)),
     )

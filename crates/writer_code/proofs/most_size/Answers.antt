@@ -1,6 +1,5 @@
 -- `most_size`: none for a q that is not given; else the bytes of a whole field.
 use mathlib.Core.Path.{sym, ap, ◌∙◌}
-use borrow.Author.Rules.{rules}
 use lib.ListN.{length}
 use Rattle.system.specs.declared.Most.{Most}
 use Rattle.system.specs.Rules.{rule_of}

@@ -1,13 +1,12 @@
--- `mosts_fault`: the answers.
-use Prim.Native.Nat.{◌-◌, ◌≤◌, ◌<◌}
-use mathlib.Core.Path.{◌≡◌, sym}
+-- `mosts_fault`: the first q at fault decides; past the last there is none.
+use Prim.Native.Nat.{◌<◌}
+use mathlib.Core.Path.{sym}
 use native.Mathlib.Omega.{arith}
 use borrow.Author.Rules.{rules}
-use lib.ListN.{length, drop}
+use lib.ListN.{length}
 use Rattle.system.specs.Values.{no_task}
-use Rattle.system.specs.Limits.{type_limit}
 use Rattle.writer.specs.Writing.{mosts_fault}
-use Rattle.writer.proofs.Faults.{first_of, replica_fault, mosts-first}
+use Rattle.writer.proofs.Faults.{replica_fault, mosts-first}
 use Rattle.writer_code.proofs.Steps.{first-faulty, first_on, first-end}
 use Rattle.writer_code.proofs.mosts_fault.Goals as goal
 

@@ -1,14 +1,10 @@
 -- `mosts_fault`. The loop's invariant: the types from i on decide.
-use Prim.Native.Nat.{◌-◌, ◌≤◌, ◌<◌}
-use mathlib.Core.Path.{◌≡◌, sym}
-use native.Mathlib.Omega.{arith}
-use borrow.Author.Rules.{rules}
+use Prim.Native.Nat.{◌-◌, ◌≤◌}
+use mathlib.Core.Path.{◌≡◌}
 use lib.ListN.{length, drop}
-use Rattle.system.specs.Values.{no_task}
 use Rattle.system.specs.Limits.{type_limit}
 use Rattle.writer.specs.Writing.{mosts_fault}
-use Rattle.writer.proofs.Faults.{first_of, replica_fault, mosts-first}
-use Rattle.writer_code.proofs.Steps.{first-faulty, first_on, first-end}
+use Rattle.writer.proofs.Faults.{first_of, replica_fault}
 use Rattle.writer_code.proofs.mosts_fault.Given as goal
 
 abbrev pub invariant-loop-i : goal.invariant-loop-i

@@ -1,6 +1,5 @@
 -- `pace_size`: none where C and T are not given; else the bytes of a whole field.
 use mathlib.Core.Path.{sym, ap, ◌∙◌}
-use borrow.Author.Rules.{rules}
 use lib.ListN.{length}
 use Rattle.system.specs.declared.Pace.{Pace}
 use Rattle.system.specs.Rules.{rule_of}

@@ -2,7 +2,6 @@
 use Prim.Native.Nat.{◌≤◌}
 use native.Mathlib.Omega.{arith}
 use lib.ListN.{length}
-use borrow.Author.Rules.{rules}
 use borrow.Author.Tests.{eq-eqb, ne_eqb}
 use Rattle.system.specs.Rules.{rule_of}
 use Rattle.buffer.proofs.Laws.{puts_then, puts_none}
@@ -17,23 +16,15 @@ returns-then-d-eq0 c =
 
 pub put_head-headed-requires : goal.put_head-headed-requires
 put_head-headed-requires c =
-    let start = c in
-    omega (arith, start.requires, data-some start.args.d c.if-d-eq0.false)
+    omega (arith, c.requires, data-some c.args.d c.if-d-eq0.false)
 
 pub put_four-requires : goal.put_four-requires
 unfolding rule_of
 put_four-requires c =
-    let headed = c in
-    let tested = headed in
-    let start = tested in
-    omega (arith, start.requires, data-some start.args.d tested.if-d-eq0.false, headed.put_head-headed.ensures.next, headed.put_head-headed.auto.out)
+    omega (arith, c.requires, data-some c.args.d c.if-d-eq0.false, c.put_head-headed.ensures.next, c.put_head-headed.auto.out)
 
 pub returns : goal.returns
 unfolding field_bytes rule_of
 returns c =
-    let given = c in
-    let headed = given in
-    let tested = headed in
-    let start = tested in
-    let room : start.args.at ≤ length start.args.out.now = omega (arith, start.requires) in
-    rw (ne_eqb start.args.d 0 tested.if-d-eq0.false) (puts_then room headed.put_head-headed.ensures given.put_four.ensures)
+    let room : c.args.at ≤ length c.args.out.now = omega (arith, c.requires) in
+    rw (ne_eqb c.args.d 0 c.if-d-eq0.false) (puts_then room c.put_head-headed.ensures c.put_four.ensures)

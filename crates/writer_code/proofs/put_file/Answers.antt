@@ -4,7 +4,6 @@ use native.Mathlib.Omega.{arith}
 use mathlib.Core.Path.{◌≡◌}
 use mathlib.Core.List.{◌++◌}
 use lib.ListN.{length, take, length-append}
-use borrow.Author.Rules.{rules}
 use Rattle.buffer.proofs.Laws.{puts_then}
 use Rattle.system.specs.declared.System.{System}
 use Rattle.system.specs.Rules.{rule_of}
@@ -21,31 +20,22 @@ parts y =
 
 pub put_platform-equipped-requires : goal.put_platform-equipped-requires
 put_platform-equipped-requires c =
-    let start = c in
-    (omega (arith, start.requires.3, parts start.args.y), start.requires.0)
+    (omega (arith, c.requires.3, parts c.args.y), c.requires.0)
 
 pub put_second-next-requires : goal.put_second-next-requires
 put_second-next-requires c =
-    let platform = c in
-    let start = platform in
-    let y = start.args.y in
-    let kept = platform.put_platform-equipped.auto.out in
-    (start.requires.1, omega (arith, start.requires.3, platform.put_platform-equipped.ensures.next, platform-size y, parts y))
+    let y = c.args.y in
+    let kept = c.put_platform-equipped.auto.out in
+    (c.requires.1, omega (arith, c.requires.3, c.put_platform-equipped.ensures.next, platform-size y, parts y))
 
 pub put_types-requires : goal.put_types-requires
 put_types-requires c =
-    let second = c in
-    let platform = second in
-    let start = platform in
-    let y = start.args.y in
-    let kept = platform.put_platform-equipped.auto.out in
-    let left = second.put_second-next.auto.out in
-    (start.requires.2, omega (arith, start.requires.3, platform.put_platform-equipped.ensures.next, second.put_second-next.ensures.next, platform-size y, parts y))
+    let y = c.args.y in
+    let kept = c.put_platform-equipped.auto.out in
+    let left = c.put_second-next.auto.out in
+    (c.requires.2, omega (arith, c.requires.3, c.put_platform-equipped.ensures.next, c.put_second-next.ensures.next, platform-size y, parts y))
 
 pub returns : goal.returns
 unfolding file_of field_bytes rule_of
 returns c =
-    let types = c in
-    let kind = types in
-    let platform = kind in
-    puts_then zero-le (puts_then zero-le platform.put_platform-equipped.ensures kind.put_second-next.ensures) types.put_types.ensures
+    puts_then zero-le (puts_then zero-le c.put_platform-equipped.ensures c.put_second-next.ensures) c.put_types.ensures

@@ -2,7 +2,6 @@
 use Prim.Native.Nat.{◌≤◌}
 use native.Mathlib.Omega.{arith}
 use lib.ListN.{length}
-use borrow.Author.Rules.{rules}
 use Rattle.buffer.proofs.Laws.{puts_then, puts_none}
 use Rattle.writer_code.proofs.Steps.{body-short}
 use Rattle.writer_code.proofs.put_head.Goals as goal
@@ -15,16 +14,10 @@ returns-in_default c =
 
 pub overflow_cast-rule : goal.overflow_cast-rule
 overflow_cast-rule c =
-    let head = c in
-    let start = head in
-    let short = body-short start.args.tag head.rule_of-found.ensures head.in-Known.is in
+    let short = body-short c.args.tag c.rule_of-found.ensures c.in-Known.is in
     record { fits = short }
 
 pub returns : goal.returns
 returns c =
-    let sized = c in
-    let tagged = sized in
-    let head = tagged in
-    let start = head in
-    let room : start.args.at ≤ length start.args.out.now = omega (arith, start.requires) in
-    rw (← head.rule_of-found.ensures, head.in-Known.is) (puts_then room tagged.put_byte-next.ensures sized.put_two.ensures)
+    let room : c.args.at ≤ length c.args.out.now = omega (arith, c.requires) in
+    rw (← c.rule_of-found.ensures, c.in-Known.is) (puts_then room c.put_byte-next.ensures c.put_two.ensures)

@@ -3,7 +3,6 @@ use Prim.Native.Nat.{◌≤◌}
 use mathlib.Core.Path.{ap, ◌∙◌}
 use native.Mathlib.Omega.{arith}
 use lib.ListN.{length}
-use borrow.Author.Rules.{rules}
 use Rattle.system.specs.declared.Most.{Most}
 use Rattle.system.specs.Rules.{rule_of}
 use Rattle.buffer.proofs.Laws.{puts_then, puts_none}
@@ -18,23 +17,15 @@ returns-in_default c =
 
 pub put_head-headed-requires : goal.put_head-headed-requires
 put_head-headed-requires c =
-    let start = c in
-    omega (arith, start.requires, ap (λ (m : Most). length (most_bytes m)) c.in-AtMost.is ∙ most-some _)
+    omega (arith, c.requires, ap (λ (m : Most). length (most_bytes m)) c.in-AtMost.is ∙ most-some _)
 
 pub put_two-requires : goal.put_two-requires
 unfolding rule_of
 put_two-requires c =
-    let headed = c in
-    let given = headed in
-    let start = given in
-    omega (arith, start.requires, ap (λ (m : Most). length (most_bytes m)) given.in-AtMost.is ∙ most-some _, headed.put_head-headed.ensures.next, headed.put_head-headed.auto.out)
+    omega (arith, c.requires, ap (λ (m : Most). length (most_bytes m)) c.in-AtMost.is ∙ most-some _, c.put_head-headed.ensures.next, c.put_head-headed.auto.out)
 
 pub returns : goal.returns
 unfolding field_bytes rule_of
 returns c =
-    let put = c in
-    let headed = put in
-    let given = headed in
-    let start = given in
-    let room : start.args.at ≤ length start.args.out.now = omega (arith, start.requires) in
-    rw given.in-AtMost.is (puts_then room headed.put_head-headed.ensures put.put_two.ensures)
+    let room : c.args.at ≤ length c.args.out.now = omega (arith, c.requires) in
+    rw c.in-AtMost.is (puts_then room c.put_head-headed.ensures c.put_two.ensures)

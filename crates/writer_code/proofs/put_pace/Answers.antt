@@ -2,7 +2,6 @@
 use Prim.Native.Nat.{◌≤◌}
 use native.Mathlib.Omega.{arith}
 use lib.ListN.{length}
-use borrow.Author.Rules.{rules}
 use Rattle.system.specs.Rules.{rule_of}
 use Rattle.buffer.proofs.Laws.{puts_then, puts_none}
 use Rattle.writer.specs.File.{field_bytes}
@@ -16,42 +15,28 @@ returns-in_default c =
 
 pub put_head-headed-requires : goal.put_head-headed-requires
 put_head-headed-requires c =
-    let given = c in
-    let start = given in
-    omega (arith, start.requires, pace-some start.args.pace given.in-Paced.is)
+    omega (arith, c.requires, pace-some c.args.pace c.in-Paced.is)
 
 pub put_four-run-requires : goal.put_four-run-requires
 unfolding rule_of
 put_four-run-requires c =
-    let headed = c in
-    let given = headed in
-    let start = given in
-    omega (arith, start.requires, pace-some start.args.pace given.in-Paced.is, headed.put_head-headed.ensures.next, headed.put_head-headed.auto.out)
+    omega (arith, c.requires, pace-some c.args.pace c.in-Paced.is, c.put_head-headed.ensures.next, c.put_head-headed.auto.out)
 
 pub put_four-requires : goal.put_four-requires
 unfolding rule_of
 put_four-requires c =
-    let ran = c in
-    let headed = ran in
-    let given = headed in
-    let start = given in
     omega (
       arith,
-      start.requires,
-      pace-some start.args.pace given.in-Paced.is,
-      headed.put_head-headed.ensures.next,
-      headed.put_head-headed.auto.out,
-      ran.put_four-run.ensures.next,
-      ran.put_four-run.auto.out,
+      c.requires,
+      pace-some c.args.pace c.in-Paced.is,
+      c.put_head-headed.ensures.next,
+      c.put_head-headed.auto.out,
+      c.put_four-run.ensures.next,
+      c.put_four-run.auto.out,
     )
 
 pub returns : goal.returns
 unfolding field_bytes rule_of
 returns c =
-    let stored = c in
-    let ran = stored in
-    let headed = ran in
-    let given = headed in
-    let start = given in
-    let room : start.args.at ≤ length start.args.out.now = omega (arith, start.requires) in
-    rw given.in-Paced.is (puts_then room (puts_then room headed.put_head-headed.ensures ran.put_four-run.ensures) stored.put_four.ensures)
+    let room : c.args.at ≤ length c.args.out.now = omega (arith, c.requires) in
+    rw c.in-Paced.is (puts_then room (puts_then room c.put_head-headed.ensures c.put_four-run.ensures) c.put_four.ensures)

@@ -25,10 +25,5 @@ put_four-requires c = search rules
 pub returns : goal.returns
 unfolding rule_of field_bytes
 returns c =
-    let stored = c in
-    let timed = stored in
-    let ruled = timed in
-    let counted = ruled in
-    let headed = counted in
-    let first = puts_then zero-le headed.put_head-headed.ensures counted.put_byte-counted.ensures in
-    puts_then zero-le (puts_then zero-le (puts_then zero-le first ruled.put_byte-ruled.ensures) timed.put_four-timed.ensures) stored.put_four.ensures
+    let first = puts_then zero-le c.put_head-headed.ensures c.put_byte-counted.ensures in
+    puts_then zero-le (puts_then zero-le (puts_then zero-le first c.put_byte-ruled.ensures) c.put_four-timed.ensures) c.put_four.ensures

@@ -1,12 +1,11 @@
--- `put_types`: the answers.
-use Prim.Native.Nat.{◌-◌, ◌≤◌, ◌<◌}
+-- `put_types`: each turn adds the bytes of one type, so the fields of all stand at `at` after the last.
+use Prim.Native.Nat.{◌≤◌, ◌<◌}
 use mathlib.Core.Path.{◌≡◌, refl, ◌∙◌}
 use native.Mathlib.Omega.{arith}
-use lib.ListN.{length, take}
+use lib.ListN.{length}
 use borrow.Author.Rules.{rules}
 use Rattle.system.specs.Values.{no_task}
 use Rattle.system.specs.Limits.{type_limit}
-use Rattle.buffer.specs.Written.{Puts}
 use Rattle.buffer.proofs.Laws.{puts_then, puts_none}
 use Rattle.writer.specs.File.{types_bytes}
 use Rattle.writer_code.proofs.Steps.{types-suc, types-within}
@@ -18,24 +17,19 @@ loop-i-init c = (search rules, refl, puts_none c.args.at c.args.out.now)
 
 pub put_type-next-requires : goal.put_type-next-requires
 put_type-next-requires c =
-    let turn = c in
-    let start = turn in
-    let l : length start.args.types ≡ type_limit = search rules in
-    let few = start.requires.0 in
-    omega (arith, turn.loop-i.invariant.2.next, types-within start.args.types turn.loop-i.i start.args.typecount no_task (omega arith) (omega arith), start.requires.1)
+    let l : length c.args.types ≡ type_limit = search rules in
+    let few = c.requires.0 in
+    omega (arith, c.loop-i.invariant.2.next, types-within c.args.types c.loop-i.i c.args.typecount no_task (omega arith) (omega arith), c.requires.1)
 
 pub loop-i-preserved : goal.loop-i-preserved
 loop-i-preserved c =
-    let put = c in
-    let turn = put in
-    let start = turn in
-    let l : length start.args.types ≡ type_limit = search rules in
-    let few = start.requires.0 in
-    let more : turn.loop-i.i < length start.args.types = omega arith in
-    let room : start.args.at ≤ length start.args.out.now = omega (arith, start.requires.1) in (
+    let l : length c.args.types ≡ type_limit = search rules in
+    let few = c.requires.0 in
+    let more : c.loop-i.i < length c.args.types = omega arith in
+    let room : c.args.at ≤ length c.args.out.now = omega (arith, c.requires.1) in (
       omega arith,
-      put.put_type-next.auto.out ∙ turn.loop-i.invariant.1,
-      rw (types-suc start.args.types turn.loop-i.i no_task more) (puts_then room turn.loop-i.invariant.2 put.put_type-next.ensures),
+      c.put_type-next.auto.out ∙ c.loop-i.invariant.1,
+      rw (types-suc c.args.types c.loop-i.i no_task more) (puts_then room c.loop-i.invariant.2 c.put_type-next.ensures),
     )
 
 pub returns : goal.returns

@@ -1,6 +1,5 @@
 -- `second_size`: none where there is no second kind; else the bytes of a whole field.
 use mathlib.Core.Path.{sym, ap, ◌∙◌}
-use borrow.Author.Rules.{rules}
 use lib.ListN.{length}
 use Rattle.system.specs.declared.Second.{Second}
 use Rattle.system.specs.Rules.{rule_of}

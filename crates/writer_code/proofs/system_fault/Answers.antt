@@ -1,6 +1,5 @@
 -- `system_fault`: the first test that finds a fault decides.
 use mathlib.Core.Path.{ap, ap₂, ◌∙◌}
-use Rattle.system.specs.Values.{cleared}
 use Rattle.writer.specs.Writing.{engines_fault, types_limits}
 use Rattle.writer_code.proofs.Steps.{fault-of-count, fault-of-kinds, fault-of-engines, fault-of-types}
 use Rattle.writer_code.proofs.system_fault.Goals as goal

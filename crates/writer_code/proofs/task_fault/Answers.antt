@@ -1,5 +1,4 @@
 -- `task_fault`: u, s and d first, then u and s on the second kind.
-use borrow.Author.Rules.{rules}
 use Rattle.writer_code.proofs.Steps.{or-first, or-on}
 use Rattle.writer_code.proofs.task_fault.Goals as goal
 

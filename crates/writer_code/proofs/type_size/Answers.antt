@@ -1,6 +1,5 @@
 -- `type_size`: 13 bytes, and those of its d, its q, its C and T, and its u and s on the second kind.
 use native.Mathlib.Omega.{arith}
-use borrow.Author.Rules.{rules}
 use Rattle.system.specs.Rules.{rule_of}
 use Rattle.writer.proofs.Bytes.{data-longest, most-longest, pace-longest, costs-longest, type-size}
 use Rattle.writer_code.proofs.type_size.Goals as goal
@@ -12,21 +11,18 @@ overflow_add-result c = let t = c.args.t in omega (arith, c.field_size.ensures, 
 pub overflow_add-result-2 : goal.overflow_add-result-2
 unfolding rule_of
 overflow_add-result-2 c =
-    let sized = c in
-    let t = sized.args.t in
-    omega (arith, sized.field_size.ensures, c.data_size.ensures, c.most_size.ensures, data-longest t.data, most-longest t.most)
+    let t = c.args.t in
+    omega (arith, c.field_size.ensures, c.data_size.ensures, c.most_size.ensures, data-longest t.data, most-longest t.most)
 
 pub overflow_add-result-3 : goal.overflow_add-result-3
 unfolding rule_of
 overflow_add-result-3 c =
-    let limited = c in
-    let sized = limited in
-    let t = sized.args.t in
+    let t = c.args.t in
     omega (
       arith,
-      sized.field_size.ensures,
-      limited.data_size.ensures,
-      limited.most_size.ensures,
+      c.field_size.ensures,
+      c.data_size.ensures,
+      c.most_size.ensures,
       c.pace_size.ensures,
       data-longest t.data,
       most-longest t.most,
@@ -36,16 +32,13 @@ overflow_add-result-3 c =
 pub overflow_add-result-4 : goal.overflow_add-result-4
 unfolding rule_of
 overflow_add-result-4 c =
-    let paced = c in
-    let apart = paced in
-    let sized = apart in
-    let t = sized.args.t in
+    let t = c.args.t in
     omega (
       arith,
-      sized.field_size.ensures,
-      apart.data_size.ensures,
-      apart.most_size.ensures,
-      paced.pace_size.ensures,
+      c.field_size.ensures,
+      c.data_size.ensures,
+      c.most_size.ensures,
+      c.pace_size.ensures,
       c.costs_size.ensures,
       data-longest t.data,
       most-longest t.most,
@@ -56,15 +49,12 @@ overflow_add-result-4 c =
 pub returns : goal.returns
 unfolding rule_of
 returns c =
-    let paced = c in
-    let kept = paced in
-    let sized = kept in
     omega (
       arith,
-      sized.field_size.ensures,
-      kept.data_size.ensures,
-      kept.most_size.ensures,
-      paced.pace_size.ensures,
+      c.field_size.ensures,
+      c.data_size.ensures,
+      c.most_size.ensures,
+      c.pace_size.ensures,
       c.costs_size.ensures,
-      type-size sized.args.t,
+      type-size c.args.t,
     )

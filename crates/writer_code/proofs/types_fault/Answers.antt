@@ -1,13 +1,12 @@
--- `types_fault`: the answers.
-use Prim.Native.Nat.{◌-◌, ◌≤◌, ◌<◌}
-use mathlib.Core.Path.{◌≡◌, sym}
+-- `types_fault`: the first type at fault decides; past the last there is none.
+use Prim.Native.Nat.{◌<◌}
+use mathlib.Core.Path.{sym}
 use native.Mathlib.Omega.{arith}
 use borrow.Author.Rules.{rules}
-use lib.ListN.{length, drop}
+use lib.ListN.{length}
 use Rattle.system.specs.Values.{no_task}
-use Rattle.system.specs.Limits.{type_limit}
 use Rattle.writer.specs.Writing.{task_fault, types_fault}
-use Rattle.writer.proofs.Faults.{first_of, types-first}
+use Rattle.writer.proofs.Faults.{types-first}
 use Rattle.writer_code.proofs.Steps.{first-faulty, first_on, first-end}
 use Rattle.writer_code.proofs.types_fault.Goals as goal
 

@@ -1,14 +1,9 @@
 -- `types_size`. The loop's invariant: the bytes of the first i types.
-use Prim.Native.Nat.{◌-◌, ◌≤◌, ◌<◌}
+use Prim.Native.Nat.{◌-◌, ◌≤◌}
 use mathlib.Core.Path.{◌≡◌}
-use native.Mathlib.Omega.{arith}
 use lib.ListN.{length, take}
-use borrow.Author.Rules.{rules}
-use Rattle.system.specs.Values.{no_task}
 use Rattle.system.specs.Limits.{type_limit}
 use Rattle.writer.specs.File.{types_bytes}
-use Rattle.writer.proofs.Bytes.{first-longest}
-use Rattle.writer_code.proofs.Steps.{types-suc-size, types-within}
 use Rattle.writer_code.proofs.types_size.Given as goal
 
 abbrev pub invariant-loop-i : goal.invariant-loop-i

@@ -1,6 +1,5 @@
 -- `write_fault`: the system's fault first, then the room.
 use mathlib.Core.Path.{refl, sym, ◌∙◌}
-use borrow.Author.Rules.{rules}
 use borrow.Author.Tests.{lt-ltb, le-ltb}
 use Rattle.writer.specs.Writing.{write_fault}
 use Rattle.writer.proofs.Writable.{faultless-of}
@@ -17,11 +16,9 @@ file_size-requires c = (faultless-of c.args.y (sym c.system_fault-fault.ensures 
 pub returns-then-room-file_size : goal.returns-then-room-file_size
 unfolding write_fault
 returns-then-room-file_size c =
-    let judged = c in
-    or-on _ _ _ judged.system_fault-fault.ensures judged.if-fault-ne0.false (rw (← c.file_size.ensures, lt-ltb _ _ c.if-room-file_size.true) refl)
+    or-on _ _ _ c.system_fault-fault.ensures c.if-fault-ne0.false (rw (← c.file_size.ensures, lt-ltb _ _ c.if-room-file_size.true) refl)
 
 pub returns : goal.returns
 unfolding write_fault
 returns c =
-    let judged = c in
-    or-on _ _ _ judged.system_fault-fault.ensures judged.if-fault-ne0.false (rw (← c.file_size.ensures, le-ltb _ _ c.if-room-file_size.false) refl)
+    or-on _ _ _ c.system_fault-fault.ensures c.if-fault-ne0.false (rw (← c.file_size.ensures, le-ltb _ _ c.if-room-file_size.false) refl)

@@ -1,10 +1,9 @@
 -- `chosen`: the answers.
-use Prim.Native.Nat.{ℕ, ◌+◌, ◌-◌, ◌*◌, ◌≤◌, ◌<◌}
-use mathlib.Core.Path.{◌≡◌, refl, sym, ap, ◌∙◌}
+use Prim.Native.Nat.{◌+◌, ◌-◌, ◌*◌, ◌≤◌}
+use mathlib.Core.Path.{◌≡◌, ◌∙◌}
 use native.Mathlib.Omega.{arith}
 use borrow.Author.Rules.{rules}
-use lib.ListN.{length, get_or, set, replicate, length-set, length-replicate}
-use Rattle.counting.specs.Walk.{Choices}
+use lib.ListN.{length, get_or, length-set}
 use Rattle.counting.proofs.Turns.{ways_at, set-turn, triangle-starts, triangle-next, triangle-small, triangle-entry}
 use Rattle.counting_code.proofs.chosen.chosen.Goals.{In-loop-i}
 use Rattle.counting_code.proofs.chosen.chosen.Goals as goal

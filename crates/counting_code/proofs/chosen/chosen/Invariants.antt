@@ -1,11 +1,8 @@
 -- The loop's invariant: the entries before i are the ways to choose. The entry before the first of a row is the last of the row before, which is 0 there.
-use Prim.Native.Nat.{ℕ, ◌+◌, ◌-◌, ◌*◌, ◌≤◌, ◌<◌}
-use mathlib.Core.Path.{◌≡◌, refl, sym, ap, ◌∙◌}
-use native.Mathlib.Omega.{arith}
-use borrow.Author.Rules.{rules}
-use lib.ListN.{length, get_or, set, replicate, length-set, length-replicate}
-use Rattle.counting.specs.Walk.{Choices}
-use Rattle.counting.proofs.Turns.{ways_at, set-turn, triangle-starts, triangle-next, triangle-small, triangle-entry}
+use Prim.Native.Nat.{ℕ, ◌-◌, ◌≤◌, ◌<◌}
+use mathlib.Core.Path.{◌≡◌}
+use lib.ListN.{length, get_or}
+use Rattle.counting.proofs.Turns.{ways_at}
 use Rattle.counting_code.proofs.chosen.chosen.Given as goal
 
 abbrev pub invariant-loop-i : goal.invariant-loop-i

@@ -1,12 +1,8 @@
 -- `first_row`: the answers.
-use Prim.Native.Nat.{ℕ, ◌+◌, ◌-◌, ◌*◌, ◌≤◌, ◌<◌}
+use Prim.Native.Nat.{ℕ, ◌+◌, ◌*◌, ◌≤◌, ◌<◌}
 use mathlib.Core.Path.{◌≡◌, refl, sym, ap, ◌∙◌}
-use mathlib.Core.Bool.{true, false}
-use mathlib.Core.Logic.{⊎_elim}
 use native.Mathlib.Omega.{arith}
-use borrow.Author.Rules.{rules}
-use lib.ListN.{length, get_or, drop, length-set}
-use Rattle.system.specs.declared.System.{System}
+use lib.ListN.{length, get_or, length-set}
 use Rattle.system.specs.Values.{ceilings_of}
 use Rattle.system.specs.Limits.{columns}
 use Rattle.loads.specs.Load.{fits_engine}
@@ -14,7 +10,7 @@ use Rattle.loads.specs.Column.{load_of}
 use Rattle.counting.specs.Tally.{bit}
 use Rattle.counting.proofs.Turns.{length_both, first-turn, second-turn, past-both}
 use Rattle.counting.proofs.Rows.{tally-one}
-use Rattle.counting_code.proofs.passes.first_row.Goals.{Joined-fits_engine}
+use Rattle.counting_code.proofs.passes.first_row.Goals.{Joined-fits_engine, then-fits_engine, else-fits_engine}
 use Rattle.counting_code.proofs.passes.first_row.Goals as goal
 
 pub loop-column-init : goal.loop-column-init
@@ -40,7 +36,10 @@ found : (c : Joined-fits_engine) →
 found c =
     let e = sym (c.fits_engine.ensures ∙ ap (fits_engine c.args.y) c.load_of-load.ensures) in
     rw e
-    (⊎_elim (λ v. v.1 ∙ rw v.0.taken) (λ v. v.1 ∙ rw v.0.left) c.if-fits_engine.branch)
+    elim c.if-fits_engine.branch [
+      | then-fits_engine w ↦ w.bit-is ∙ rw w.if-fits_engine.true refl
+      | else-fits_engine w ↦ w.bit-is ∙ rw w.if-fits_engine.false refl
+    ]
 
 pub bounds-part-column : goal.bounds-part-column
 bounds-part-column c = omega (arith, room c)

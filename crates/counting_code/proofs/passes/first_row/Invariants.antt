@@ -1,19 +1,11 @@
 -- The loop's invariant: both halves are filled up to the column, and past them the part is as it was.
-use Prim.Native.Nat.{ℕ, ◌+◌, ◌-◌, ◌*◌, ◌≤◌, ◌<◌}
-use mathlib.Core.Path.{◌≡◌, refl, sym, ap, ◌∙◌}
-use mathlib.Core.Bool.{true, false}
-use mathlib.Core.Logic.{⊎_elim}
-use native.Mathlib.Omega.{arith}
-use borrow.Author.Rules.{rules}
-use lib.ListN.{length, get_or, drop, length-set}
-use Rattle.system.specs.declared.System.{System}
+use Prim.Native.Nat.{ℕ, ◌+◌, ◌-◌, ◌≤◌, ◌<◌}
+use mathlib.Core.Path.{◌≡◌}
+use lib.ListN.{length, get_or, drop}
 use Rattle.system.specs.Values.{ceilings_of}
-use Rattle.system.specs.Limits.{columns}
 use Rattle.loads.specs.Load.{fits_engine}
 use Rattle.loads.specs.Column.{load_of}
 use Rattle.counting.specs.Tally.{bit}
-use Rattle.counting.proofs.Turns.{length_both, first-turn, second-turn, past-both}
-use Rattle.counting.proofs.Rows.{tally-one}
 use Rattle.counting_code.proofs.passes.first_row.Given as goal
 
 abbrev pub invariant-loop-column : goal.invariant-loop-column

@@ -1,14 +1,9 @@
 -- The loop's invariant: the sum is that of the first j terms. Each term and each partial sum is at most the whole, which is a number of 64 bits.
-use Prim.Native.Nat.{ℕ, ◌+◌, ◌-◌, ◌*◌, ◌≤◌, ◌<◌}
-use mathlib.Core.Path.{◌≡◌, refl, sym, ap, ◌∙◌}
-use native.Mathlib.Omega.{arith}
-use borrow.Author.Rules.{rules}
-use lib.ListN.{length, get_or}
-use Rattle.counting.specs.Counts.{greatest}
-use Rattle.counting.specs.Tally.{choose}
-use Rattle.counting.specs.Walk.{held_ways, over_one}
+use Prim.Native.Nat.{ℕ, ◌+◌, ◌-◌, ◌≤◌}
+use mathlib.Core.Path.{◌≡◌}
+use Rattle.counting.specs.Walk.{held_ways}
 use Rattle.counting.proofs.Sums.{first_terms}
-use Rattle.counting.proofs.Walked.{ways_of, Term, term-at, terms-more, terms-all}
+use Rattle.counting.proofs.Walked.{ways_of}
 use Rattle.counting_code.proofs.passes.over_first.Given as goal
 
 abbrev pub invariant-loop-j : goal.invariant-loop-j

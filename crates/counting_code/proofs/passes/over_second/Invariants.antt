@@ -1,10 +1,8 @@
 -- The loop's invariant: the sum is that of the first j terms. Each term and each partial sum is at most the whole, which is a number of 64 bits, and so is each sum over type 1.
-use Prim.Native.Nat.{ℕ, ◌+◌, ◌-◌, ◌*◌, ◌≤◌, ◌<◌}
-use mathlib.Core.Path.{◌≡◌, refl, ◌∙◌}
-use native.Mathlib.Omega.{arith}
-use Rattle.counting.specs.Walk.{over_two, SumIn}
+use Prim.Native.Nat.{◌+◌, ◌-◌, ◌≤◌}
+use mathlib.Core.Path.{◌≡◌}
 use Rattle.counting.proofs.Sums.{first_terms}
-use Rattle.counting.proofs.Walked.{ways_of, first_at, Term, term-at, terms-all, more-at, sum_first}
+use Rattle.counting.proofs.Walked.{ways_of, first_at}
 use Rattle.counting_code.proofs.passes.over_second.Given as goal
 
 abbrev pub invariant-loop-j : goal.invariant-loop-j

@@ -1,16 +1,9 @@
 -- The loop's invariant: the columns from this one on have the new number, those below it and all past the first half are as they were.
-use Prim.Native.Nat.{ℕ, ◌+◌, ◌-◌, ◌*◌, ◌≤◌, ◌<◌}
-use mathlib.Core.Path.{◌≡◌, refl, sym, ap, subst, ◌∙◌}
-use native.Mathlib.Omega.{arith}
-use borrow.Author.Rules.{rules}
-use lib.ListN.{length, get_or, length-set, length-map}
-use Rattle.system.specs.declared.TaskType.{TaskType}
-use Rattle.system.specs.Values.{ceilings_of}
+use Prim.Native.Nat.{ℕ, ◌≤◌, ◌<◌}
+use mathlib.Core.Path.{◌≡◌}
+use lib.ListN.{length, get_or}
 use Rattle.system.specs.Limits.{columns}
-use Rattle.system.proofs.Laws.{limits_of}
-use Rattle.loads.specs.Column.{load_of}
 use Rattle.counting.specs.Walk.{passed_cell}
-use Rattle.counting.proofs.Rows.{cell-wanted, cell-stored, pass-cells, pass-lower, pass-others}
 use Rattle.counting_code.proofs.passes.pass.Given as goal
 
 abbrev pub invariant-loop-column : goal.invariant-loop-column

@@ -1,17 +1,9 @@
 -- The loop's invariant: the strides up to the type are made, and the stride at hand is that of the type.
-use Prim.Native.Nat.{ℕ, suc, ◌+◌, ◌-◌, ◌*◌, ◌≤◌, ◌<◌}
-use mathlib.Core.Path.{◌≡◌, refl, sym, ap, ◌∙◌}
-use native.Mathlib.Nat.{le_trans}
-use native.Mathlib.Numerals.{add-one}
-use native.Mathlib.Omega.{arith}
-use borrow.Author.Rules.{rules}
-use lib.ListN.{length, get_or, length-set}
-use Rattle.system.specs.Limits.{column_limit}
-use Rattle.system.proofs.Laws.{limits_of}
+use Prim.Native.Nat.{ℕ, ◌-◌, ◌≤◌, ◌<◌}
+use mathlib.Core.Path.{◌≡◌}
+use lib.ListN.{length, get_or}
 use Rattle.loads.proofs.Steps.{ceilings}
 use Rattle.counting.specs.Tally.{stride_at}
-use Rattle.counting.proofs.Strides.{stride_at-zero, stride_at-suc, stride_at-le}
-use Rattle.counting.proofs.Turns.{set-turn, ceiling-at}
 use Rattle.counting_code.proofs.passes.strides_of.Given as goal
 
 abbrev pub invariant-loop-t : goal.invariant-loop-t

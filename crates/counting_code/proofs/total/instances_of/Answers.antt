@@ -1,12 +1,10 @@
 -- `instances_of`: the answers.
-use Prim.Native.Nat.{ℕ, ◌+◌, ◌-◌, ◌*◌, ◌≤◌}
-use mathlib.Core.Path.{◌≡◌, refl, sym, ap, ◌∙◌}
+use mathlib.Core.Path.{◌≡◌}
 use native.Mathlib.Nat.{zero-add}
 use native.Mathlib.Omega.{arith}
 use borrow.Author.Rules.{rules}
-use lib.ListN.{length, drop}
-use Rattle.loads.proofs.Steps.{ceilings, length-mapped}
-use Rattle.partition.specs.Listing.{instances}
+use lib.ListN.{length}
+use Rattle.loads.proofs.Steps.{length-mapped}
 use Rattle.counting.proofs.Turns.{instances-turn, instances-end}
 use Rattle.counting_code.proofs.total.instances_of.Goals as goal
 

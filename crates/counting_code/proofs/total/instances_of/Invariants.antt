@@ -1,13 +1,9 @@
 -- The loop's invariant: the instances summed and those of the types left are all.
-use Prim.Native.Nat.{ℕ, ◌+◌, ◌-◌, ◌*◌, ◌≤◌}
-use mathlib.Core.Path.{◌≡◌, refl, sym, ap, ◌∙◌}
-use native.Mathlib.Nat.{zero-add}
-use native.Mathlib.Omega.{arith}
-use borrow.Author.Rules.{rules}
-use lib.ListN.{length, drop}
-use Rattle.loads.proofs.Steps.{ceilings, length-mapped}
+use Prim.Native.Nat.{◌+◌, ◌-◌, ◌*◌, ◌≤◌}
+use mathlib.Core.Path.{◌≡◌}
+use lib.ListN.{drop}
+use Rattle.loads.proofs.Steps.{ceilings}
 use Rattle.partition.specs.Listing.{instances}
-use Rattle.counting.proofs.Turns.{instances-turn, instances-end}
 use Rattle.counting_code.proofs.total.instances_of.Given as goal
 
 abbrev pub invariant-loop-t : goal.invariant-loop-t

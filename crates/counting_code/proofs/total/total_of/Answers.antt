@@ -1,6 +1,5 @@
 -- A system that keeps the limits has at least one engine.
-use mathlib.Core.Path.{◌≡◌, ap, ◌∙◌}
-use borrow.Author.Rules.{rules}
+use mathlib.Core.Path.{ap, ◌∙◌}
 use Rattle.system.proofs.Laws.{limits_of}
 use Rattle.counting.specs.Walk.{power_of}
 use Rattle.counting_code.proofs.total.total_of.Goals as goal

@@ -3,7 +3,6 @@ use mathlib.Core.Path.{ap}
 use Rattle.system.specs.Values.{with_platform}
 use Rattle.system.specs.declared.System.{System}
 use Rattle.making.specs.Making.{drawn_to}
-use borrow.Author.Rules.{rules}
 use Rattle.making_code.proofs.drawn.drawn_platform.Goals as goal
 
 pub returns : goal.returns

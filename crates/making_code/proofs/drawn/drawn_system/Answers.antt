@@ -1,10 +1,9 @@
--- `drawn_system`: the answers.
+-- `drawn_system`: each turn draws one type more, and after the last they are all drawn.
 use Rattle.system.specs.declared.System.{System}
-use Prim.Native.Nat.{ℕ, ◌-◌, ◌*◌, ◌≤◌}
+use Prim.Native.Nat.{ℕ}
 use mathlib.Core.Path.{◌≡◌, refl, sym, ap, ◌∙◌}
 use native.Mathlib.Numerals.{add-one}
 use native.Mathlib.Omega.{arith}
-use borrow.Author.Rules.{rules}
 use Rattle.making.specs.Generator.{step, value_after}
 use Rattle.making.specs.Making.{drawn_from, drawn_to}
 use Rattle.making.proofs.Turns.{drawn-count, drawn-more, value-more}
@@ -19,13 +18,11 @@ draw_type-draw-requires c = c.requires
 
 pub offset_bounds-y-t : goal.offset_bounds-y-t
 offset_bounds-y-t c =
-    let start = c in
-    omega (arith, start.requires.few)
+    omega (arith, c.requires.few)
 
 pub bounds-y-t : goal.bounds-y-t
 bounds-y-t c =
-    let start = c in
-    omega (arith, start.requires.few)
+    omega (arith, c.requires.few)
 
 pub loop-t-preserved : goal.loop-t-preserved
 loop-t-preserved c =

@@ -1,6 +1,5 @@
 -- A remainder and 1 more is at most its divisor, which has 32 bits.
 use native.Mathlib.Omega.{arith}
-use borrow.Author.Rules.{rules}
 use Rattle.making.proofs.Turns.{drawn-small}
 use Rattle.making_code.proofs.drawn.one_to.Goals as goal
 

@@ -1,6 +1,5 @@
 -- A remainder is below its divisor, which is at most 4,096.
 use native.Mathlib.Omega.{arith}
-use borrow.Author.Rules.{rules}
 use Rattle.making.proofs.Turns.{drawn-below}
 use Rattle.making_code.proofs.drawn.zero_to.Goals as goal
 

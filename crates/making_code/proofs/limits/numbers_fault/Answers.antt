@@ -1,6 +1,5 @@
 -- The tests are the definition's, one after the other.
 use Rattle.making.specs.Making.{numbers_fault}
-use borrow.Author.Rules.{rules}
 use Rattle.making_code.proofs.limits.numbers_fault.Goals as goal
 
 pub returns-then-not-some-platform : goal.returns-then-not-some-platform

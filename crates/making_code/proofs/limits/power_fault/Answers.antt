@@ -1,5 +1,4 @@
 -- The test is the definition's.
-use borrow.Author.Rules.{rules}
 use Rattle.making_code.proofs.limits.power_fault.Goals as goal
 
 pub returns-then-not-power_within : goal.returns-then-not-power_within

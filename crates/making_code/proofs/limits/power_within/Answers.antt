@@ -1,5 +1,5 @@
--- `power_within`: the answers.
-use Prim.Native.Nat.{◌+◌, ◌-◌, ◌*◌, ◌^◌, ◌≤◌}
+-- `power_within`: each turn makes the next power where it is within the limit; where it is not, no later one is.
+use Prim.Native.Nat.{◌+◌, ◌*◌, ◌^◌, ◌≤◌}
 use mathlib.Core.Path.{◌≡◌, refl, sym}
 use native.Mathlib.Nat.{pow-zero, pow-suc, div-le_self}
 use native.Mathlib.Numerals.{add-one}

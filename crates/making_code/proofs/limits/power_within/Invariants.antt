@@ -1,12 +1,7 @@
 -- The loop's invariant: the product is the power so far, and within the limit. The next one is not made where it passes it.
-use Prim.Native.Nat.{◌+◌, ◌-◌, ◌*◌, ◌^◌, ◌≤◌}
-use mathlib.Core.Path.{◌≡◌, refl, sym}
-use native.Mathlib.Nat.{pow-zero, pow-suc, div-le_self}
-use native.Mathlib.Numerals.{add-one}
-use native.Mathlib.Omega.{arith}
-use borrow.Author.Tests.{le-leb}
+use Prim.Native.Nat.{◌+◌, ◌-◌, ◌^◌, ◌≤◌}
+use mathlib.Core.Path.{◌≡◌}
 use Rattle.system.specs.Limits.{column_limit}
-use Rattle.making.proofs.Turns.{next_past, next_small, power-past}
 use Rattle.making_code.proofs.limits.power_within.Given as goal
 
 abbrev pub invariant-loop-t : goal.invariant-loop-t

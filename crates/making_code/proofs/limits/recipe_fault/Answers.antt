@@ -1,5 +1,4 @@
 -- The first test that finds a fault decides.
-use borrow.Author.Rules.{rules}
 use Rattle.writer_code.proofs.Steps.{or-first, or-on}
 use Rattle.making.specs.Making.{recipe_fault}
 use Rattle.making_code.proofs.limits.recipe_fault.Goals as goal
@@ -11,5 +10,4 @@ returns-then-fault-ne0 c = or-first _ _ _ c.numbers_fault-fault.ensures c.if-fau
 pub returns : goal.returns
 unfolding recipe_fault
 returns c =
-    let kept = c in
-    or-on _ _ _ kept.numbers_fault-fault.ensures kept.if-fault-ne0.false c.power_fault.ensures
+    or-on _ _ _ c.numbers_fault-fault.ensures c.if-fault-ne0.false c.power_fault.ensures

@@ -11,6 +11,7 @@ use Rattle.table.specs.Scan.{ScanIn, PartsFit, entry_of}
 use Rattle.table.proofs.Scanned.{scan-in, scan-parts}
 use Rattle.table.proofs.Entries.{few-under, first_found, first-lost, not-one, last-lost, second-found, small-rows, small-counted}
 use Rattle.table_code.proofs.fill.by_scans.Goals.{After-none, After-struct_known-2-1, After-struct_known-then-found-1, Else-row-engines, Then-row-gt1}
+use Rattle.table_code.proofs.fill.by_scans.Goals.{then-row-gt1+else-found, else-row-gt1}
 use Rattle.table_code.proofs.fill.by_scans.Goals as goal
 
 -- what a scan asks for
@@ -52,13 +53,19 @@ returns-then-found c = by_first c
 past_first : (c : After-none) → let a = c.args in a.most < lowest_for a.y a.engines a.column
 past_first c =
     let p = c.requires in
-    ⊎_elim (λ v. first-lost p v.1.result v.1.ensures v.3.left) (λ v. not-one p v.left) c.if-row-gt1.branch
+    elim c.if-row-gt1.branch [
+        | then-row-gt1+else-found w ↦ first-lost p w.scan-found.result w.scan-found.ensures w.if-found.false
+        | else-row-gt1 w ↦ not-one p w.if-row-gt1.false
+    ]
 
 -- where it finds nothing, or is not made, the row is past `most`
 past_first-2 : (c : After-struct_known-2-1) → let a = c.args in a.most < lowest_for a.y a.engines a.column
 past_first-2 c =
     let p = c.requires in
-    ⊎_elim (λ v. first-lost p v.1.result v.1.ensures v.3.left) (λ v. not-one p v.left) c.if-row-gt1.branch
+    elim c.if-row-gt1.branch [
+        | then-row-gt1+else-found w ↦ first-lost p w.scan-found.result w.scan-found.ensures w.if-found.false
+        | else-row-gt1 w ↦ not-one p w.if-row-gt1.false
+    ]
 
 pub none-requires : goal.none-requires
 none-requires c =

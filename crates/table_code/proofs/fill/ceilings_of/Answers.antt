@@ -11,11 +11,8 @@ use Rattle.system.specs.declared.TaskType.{TaskType}
 use Rattle.system.specs.Values.{no_task}
 use Rattle.loads.proofs.Steps.{length-mapped, filled-turn, filled-end}
 use Rattle.loads.proofs.Steps as steps
+use Rattle.table_code.proofs.fill.ceilings_of.Invariants.{ceilings_in}
 use Rattle.table_code.proofs.fill.ceilings_of.Goals as goal
-
--- the ceilings of some types: of the next one, and of none
-abbrev ceilings_in : List TaskType → List ℕ
-ceilings_in ts = steps.ceilings ts
 
 ceilings-turn : (ts : List TaskType) (i : ℕ) → i < length ts → ceilings_in (drop i ts) ≡ (get_or ts i no_task).ceiling ∷ ceilings_in (drop (i + 1) ts)
 ceilings-turn ts i h = rw (add-one i, drop-cons ts i no_task)

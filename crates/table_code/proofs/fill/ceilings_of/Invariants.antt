@@ -13,6 +13,10 @@ use Rattle.loads.proofs.Steps.{length-mapped, filled-turn, filled-end}
 use Rattle.loads.proofs.Steps as steps
 use Rattle.table_code.proofs.fill.ceilings_of.Given as goal
 
+-- the ceilings of some types: of the next one, and of none
+abbrev pub ceilings_in : List TaskType → List ℕ
+ceilings_in ts = steps.ceilings ts
+
 abbrev pub invariant-loop-i : goal.invariant-loop-i
 invariant-loop-i l = (l.i ≤ 6) × (length l.ceilings ≡ 6) × (take l.i l.ceilings ++ ceilings_in (drop l.i l.types) ≡ ceilings_in l.types)
 

@@ -13,6 +13,7 @@ use Rattle.loads.specs.Load.{fits_engine}
 use Rattle.table.proofs.Scanned.{scan-in}
 use Rattle.table.proofs.Entries.{few-under, past-engines, one-unfit, no-engine, unfit-past-one, one-fit, not_tested}
 use Rattle.table_code.proofs.fill.entry_past.Goals.{After-none-then-most-eq0, Else-most-eq0, Then-most-engines, Then-most-eq0}
+use Rattle.table_code.proofs.fill.entry_past.Goals.{then-most-engines-2+else-fits_engine, else-most-engines-2}
 use Rattle.table_code.proofs.fill.entry_past.Goals as goal
 
 pub columns_under-under-requires : goal.columns_under-under-requires
@@ -63,14 +64,14 @@ not-one : (c : After-none-then-most-eq0) →
 not-one c =
     let start = c in
     let most = c.most_below-most in
-    ⊎_elim
-    (λ v. inl (sym v.1.ensures ∙ v.2.left))
-    (λ v.
-    ⊎_elim
-    (λ z. inr z)
-    (λ two. inl (unfit-past-one start.requires.0 most.result most.ensures two c.if-most-engines.false))
-    (not_tested most.result start.args.engines v.left))
-    c.if-most-engines-2.branch
+    elim c.if-most-engines-2.branch [
+        | then-most-engines-2+else-fits_engine w ↦ inl (sym w.fits_engine.ensures ∙ w.if-fits_engine.false)
+        | else-most-engines-2 w ↦
+            ⊎_elim
+            (λ z. inr z)
+            (λ two. inl (unfit-past-one start.requires.0 most.result most.ensures two c.if-most-engines.false))
+            (not_tested most.result start.args.engines w.if-most-engines-2.false)
+    ]
 
 -- else it does not fit, or there is no engine
 not-one-2 : (c : Else-most-eq0) →
@@ -79,14 +80,14 @@ not-one-2 : (c : Else-most-eq0) →
 not-one-2 c =
     let start = c in
     let most = c.most_below-most in
-    ⊎_elim
-    (λ v. inl (sym v.1.ensures ∙ v.2.left))
-    (λ v.
-    ⊎_elim
-    (λ z. inr z)
-    (λ two. inl (unfit-past-one start.requires.0 most.result most.ensures two c.if-most-engines.false))
-    (not_tested most.result start.args.engines v.left))
-    c.if-most-engines-2.branch
+    elim c.if-most-engines-2.branch [
+        | then-most-engines-2+else-fits_engine w ↦ inl (sym w.fits_engine.ensures ∙ w.if-fits_engine.false)
+        | else-most-engines-2 w ↦
+            ⊎_elim
+            (λ z. inr z)
+            (λ two. inl (unfit-past-one start.requires.0 most.result most.ensures two c.if-most-engines.false))
+            (not_tested most.result start.args.engines w.if-most-engines-2.false)
+    ]
 
 pub none-requires-then-most-eq0 : goal.none-requires-then-most-eq0
 none-requires-then-most-eq0 c = may-say-none-2 c

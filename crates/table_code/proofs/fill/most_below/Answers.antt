@@ -12,6 +12,7 @@ use Rattle.table.specs.Scan.{most_below, larger}
 use Rattle.table.proofs.Stepping.{next-stride, next-stride-le}
 use Rattle.table.proofs.Below.{column-later, stride-inside, most-without, most-rises, most-stays, most-start, most-end}
 use Rattle.table_code.proofs.fill.most_below.Goals.{After-shared_slice_known-then-load-t-ne0-1-unread, After-wide, Then-load-t-ne0}
+use Rattle.table_code.proofs.fill.most_below.Goals.{then-load-t-ne0+then-most-row, then-load-t-ne0+else-most-row, else-load-t-ne0}
 use Rattle.table_code.proofs.fill.most_below.Goals as goal
 
 pub loop-t-init : goal.loop-t-init
@@ -76,12 +77,11 @@ loop-t-preserved c =
       omega arith,
       (stride-next c (omega arith)).0,
       column-later a.rows.now a.column here.stride here.most a.ceilings a.load here.t hn hx here.invariant.2,
-      ⊎_elim
-          (λ v. rw v.3 (most-rises a.rows.now a.column here.stride here.most a.ceilings a.load here.t hn hx v.0.taken v.2.taken))
-          (⊎_elim
-          (λ v. rw v.3 (most-stays a.rows.now a.column here.stride here.most a.ceilings a.load here.t hn hx v.0.taken v.2.left))
-          (λ v. rw v.1 (most-without a.rows.now a.column here.stride here.most a.ceilings a.load here.t hn hx v.0.left)))
-          c.if-load-t-ne0.branch
+      elim c.if-load-t-ne0.branch [
+          | then-load-t-ne0+then-most-row w ↦ rw w.most-is (most-rises a.rows.now a.column here.stride here.most a.ceilings a.load here.t hn hx w.if-load-t-ne0.true w.if-most-row.true)
+          | then-load-t-ne0+else-most-row w ↦ rw w.most-is (most-stays a.rows.now a.column here.stride here.most a.ceilings a.load here.t hn hx w.if-load-t-ne0.true w.if-most-row.false)
+          | else-load-t-ne0 w ↦ rw w.most-is (most-without a.rows.now a.column here.stride here.most a.ceilings a.load here.t hn hx w.if-load-t-ne0.false)
+      ]
           ∙ here.invariant.3,
     )
 

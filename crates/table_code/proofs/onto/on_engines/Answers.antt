@@ -14,59 +14,30 @@ use Rattle.partition.specs.Shares.{distinct, on_engines}
 use Rattle.table.proofs.Spread.{no_rows, listed-bounds, one-row-more}
 use Rattle.table_code.proofs.onto.on_engines.Goals as goal
 
--- the rows before i, on the first n of the numbers
-abbrev Spread : ℕ → List ℕ → List EngineLoad → ℕ → List EngineLoad → Type 0
-Spread used numbers rows i loads =
-    (n : ℕ) → used ≤ n → n ≤ length numbers → distinct (take n numbers) ≡ true → every (among (engines_to engine_limit)) (take n numbers) ≡ true
-    → loads ≡ on_engines idle_engine engine_limit (take n numbers) (take i rows)
-
 pub loop-i-init : goal.loop-i-init
 loop-i-init c =
     (omega arith, refl, λ n a b d k. ap (replicate engine_limit) c.idle_engine-loads.ensures ∙ sym (no_rows idle_engine (take n c.args.engines.numbers)))
 
 -- the engine at index i is one of the sixteen
-module _ (c : tie.In-loop invariant-loop decreases-loop) where
-  abbrev start : tie.Start invariant-loop decreases-loop
-  start = c.before.before.before.before
-
-  sixteen : length start.args.engines.numbers ≡ engine_limit
-  sixteen = search rules
-
-  small : c.before.loop.i < start.args.engines.count
-  small = omega (arith, c.before.loop.invariant.0, start.pre.enough)
-
-  bounds : (1 ≤ get_or start.args.engines.numbers c.before.loop.i 0) × (get_or start.args.engines.numbers c.before.loop.i 0 ≤ engine_limit)
-  bounds =
-      listed-bounds start.args.engines.numbers start.args.engines.count c.before.loop.i start.pre.apart start.pre.known (omega (arith, sixteen, start.pre.few)) small
-
-pub offset_bounds-numbers-i : goal.offset_bounds-numbers-i
-offset_bounds-numbers-i c = omega (arith, small c, (start c).requires.few)
-
-pub bounds-numbers-i : goal.bounds-numbers-i
-bounds-numbers-i c = omega (arith, small c, (start c).requires.few)
-
 pub overflow_sub-at : goal.overflow_sub-at
-overflow_sub-at c = (bounds c).0
-
-pub offset_bounds-rows-i : goal.offset_bounds-rows-i
-offset_bounds-rows-i c = omega (arith, small c, (start c).requires.few)
-
-pub bounds-rows-i : goal.bounds-rows-i
-bounds-rows-i c = omega (arith, small c, (start c).requires.few)
+overflow_sub-at c =
+    let sixteen : length c.args.engines.numbers ≡ engine_limit = search rules in
+    (listed-bounds c.args.engines.numbers c.args.engines.count c.loop-i.i c.requires.apart c.requires.known (omega (arith, sixteen, c.requires.few)) (omega (arith, c.requires.enough))).0
 
 pub offset_bounds-loads-at : goal.offset_bounds-loads-at
-offset_bounds-loads-at c = omega (arith, bounds c)
+offset_bounds-loads-at c =
+    let sixteen : length c.args.engines.numbers ≡ engine_limit = search rules in
+    omega (arith, listed-bounds c.args.engines.numbers c.args.engines.count c.loop-i.i c.requires.apart c.requires.known (omega (arith, sixteen, c.requires.few)) (omega (arith, c.requires.enough)))
 
 pub bounds-loads-at : goal.bounds-loads-at
-bounds-loads-at c = omega (arith, bounds c)
-
-pub overflow_step-i : goal.overflow_step-i
-overflow_step-i c = omega (arith, small c, (start c).pre.few)
+bounds-loads-at c =
+    let sixteen : length c.args.engines.numbers ≡ engine_limit = search rules in
+    omega (arith, listed-bounds c.args.engines.numbers c.args.engines.count c.loop-i.i c.requires.apart c.requires.known (omega (arith, sixteen, c.requires.few)) (omega (arith, c.requires.enough)))
 
 pub loop-i-preserved : goal.loop-i-preserved
 loop-i-preserved c =
     let here = c.loop-i in
-    let pre = start c in
+    let pre = c in
     let rows = pre.args.rows in
     let more : length rows ≡ engine_limit = search rules in
     let put = get_or rows here.i (record { time = 0; memory = 0; counts = [] }) in (
@@ -74,7 +45,7 @@ loop-i-preserved c =
       length-set here.loads (get_or pre.args.engines.numbers here.i 0 - 1) put ∙ here.invariant.1,
       λ n a b d k.
           one-row-more pre.args.engines.numbers n here.i d k b (omega (arith, here.invariant.0)) idle_engine (record { time = 0; memory = 0; counts = [] }) rows here.loads
-          (omega (arith, more, small c, pre.pre.few))
+          (omega (arith, more, pre.requires.enough, pre.requires.few))
           (here.invariant.2 n a b d k),
     )
 

@@ -14,6 +14,12 @@ use Rattle.partition.specs.Shares.{distinct, on_engines}
 use Rattle.table.proofs.Spread.{no_rows, listed-bounds, one-row-more}
 use Rattle.table_code.proofs.onto.on_engines.Given as goal
 
+-- the rows before i, on the first n of the numbers
+abbrev pub Spread : ℕ → List ℕ → List EngineLoad → ℕ → List EngineLoad → Type 0
+Spread used numbers rows i loads =
+    (n : ℕ) → used ≤ n → n ≤ length numbers → distinct (take n numbers) ≡ true → every (among (engines_to engine_limit)) (take n numbers) ≡ true
+    → loads ≡ on_engines idle_engine engine_limit (take n numbers) (take i rows)
+
 abbrev pub invariant-loop-i : goal.invariant-loop-i
 invariant-loop-i l = (l.i ≤ l.used) × (length l.loads ≡ engine_limit) × Spread l.used l.numbers l.rows l.i l.loads
 

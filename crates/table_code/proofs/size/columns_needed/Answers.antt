@@ -17,7 +17,7 @@ returns-in_default c =
     let r = c.read_card-opened in
     file-needs start.args.file.now _
     (needed-refused (read_card start.args.file.now) r.result r.ensures
-    (λ e. ⊎_elim (λ t. absurd (omega (arith, rw e at t))) (λ t. absurd (omega (arith, rw e at t))) c.in_default.keys2))
+    c.in_default.not-Accepted)
 
 is-accepted : (c : After-columns_of-arg-1) → c.read_card-opened.result.answer ≡ Accepted
 is-accepted c = search rules
