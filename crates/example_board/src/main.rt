@@ -27,7 +27,8 @@ fn main(rt: HostRuntime) {
     let mut rows = [0u16; 12];
     let mut predecessors = [0u16; 12];
     // What a fill costs is told by the pairs that it tries: at most 2 × (4 × 5 / 2) × (3 × 4 / 2) here.
-    say_number(&rt, 
+    say_number(
+        &rt,
         b"table: pairs tried",
         fill_table(file, &mut rows, &mut predecessors),
     );
@@ -70,7 +71,13 @@ fn with_failure(rt: &HostRuntime, b: Board) -> Board {
 }
 
 // Admits one instance of type t, says what was answered, and hands on the board.
-fn admitted(rt: &HostRuntime, b: Board, t: usize, rows: &mut [u16], predecessors: &mut [u16]) -> Board {
+fn admitted(
+    rt: &HostRuntime,
+    b: Board,
+    t: usize,
+    rows: &mut [u16],
+    predecessors: &mut [u16],
+) -> Board {
     let turn = admit(b, t, rows, predecessors);
     let answer = turn.answer;
     say_named(rt, b"admit", t);
@@ -80,7 +87,13 @@ fn admitted(rt: &HostRuntime, b: Board, t: usize, rows: &mut [u16], predecessors
 }
 
 // Seats one instance of type t, which may move others.
-fn seated(rt: &HostRuntime, b: Board, t: usize, rows: &mut [u16], predecessors: &mut [u16]) -> Board {
+fn seated(
+    rt: &HostRuntime,
+    b: Board,
+    t: usize,
+    rows: &mut [u16],
+    predecessors: &mut [u16],
+) -> Board {
     let turn = seat(b, t, rows, predecessors);
     let answer = turn.answer;
     say_named(rt, b"seat", t);

@@ -219,7 +219,14 @@ fn no_tally(seed: u64) -> Tally {
 }
 
 // So many lists, each for a drawn system, with every entry of every filled table in one of 50.
-fn drawn_lists(rt: &HostRuntime, seed: u64, number: usize, typecount: usize, most: usize, six: bool) -> Tally {
+fn drawn_lists(
+    rt: &HostRuntime,
+    seed: u64,
+    number: usize,
+    typecount: usize,
+    most: usize,
+    six: bool,
+) -> Tally {
     let mut t = no_tally(seed);
     let mut i: usize = 0;
     while i < number {
@@ -310,24 +317,40 @@ fn say_both(rt: &HostRuntime, name: &[u8], t: Tally) {
 }
 
 pub fn say_drawn(rt: &HostRuntime) {
-    say::say(rt, 
+    say::say(
+        rt,
         b"calls: admitted, seated, retired, repacked, refused 11, 13, 14, 21, 22, 23, 24, mismatches\n",
     );
     say_tally(rt, b"one type:", drawn_lists(rt, 11, 200, 1, 5, false));
     say_tally(rt, b"two types:", drawn_lists(rt, 12, 200, 2, 3, false));
     say_tally(rt, b"three types:", drawn_lists(rt, 13, 200, 3, 2, false));
-    say_tally(rt, b"tight time:", lists_of(rt, 14, 100, tight_time(2), false));
-    say_tally(rt, b"tight memory:", lists_of(rt, 15, 100, tight_memory(2), false));
-    say_tally(rt, 
+    say_tally(
+        rt,
+        b"tight time:",
+        lists_of(rt, 14, 100, tight_time(2), false),
+    );
+    say_tally(
+        rt,
+        b"tight memory:",
+        lists_of(rt, 15, 100, tight_memory(2), false),
+    );
+    say_tally(
+        rt,
         b"tight data, own:",
         lists_of(rt, 16, 50, tight_data(2, 0, 11), false),
     );
-    say_tally(rt, 
+    say_tally(
+        rt,
         b"tight data, shared:",
         lists_of(rt, 17, 50, tight_data(2, 1, 13), false),
     );
-    say_tally(rt, b"tight q, own:", lists_of(rt, 18, 50, tight_own(2), false));
-    say_tally(rt, 
+    say_tally(
+        rt,
+        b"tight q, own:",
+        lists_of(rt, 18, 50, tight_own(2), false),
+    );
+    say_tally(
+        rt,
         b"tight q, shared:",
         lists_of(rt, 19, 50, tight_shared(2), false),
     );
@@ -335,27 +358,44 @@ pub fn say_drawn(rt: &HostRuntime) {
 
 // Lists of all six calls.
 pub fn say_drawn_marks(rt: &HostRuntime) {
-    say::say(rt, 
+    say::say(
+        rt,
         b"the same with withdraw and restore; in a second line withdrawn, restored, refused 35, 36; with an engine out, admitted past",
     );
-    say::say(rt, 
+    say::say(
+        rt,
         b" it, moved past it, refused 23, refused 24 for want of it; with all out, admits and seats refused 24, repacked, restored\n",
     );
     say_both(rt, b"one type:", drawn_lists(rt, 21, 400, 1, 5, true));
     say_both(rt, b"two types:", drawn_lists(rt, 22, 400, 2, 3, true));
     say_both(rt, b"three types:", drawn_lists(rt, 23, 400, 3, 2, true));
-    say_both(rt, b"tight time:", lists_of(rt, 24, 200, tight_time(3), true));
-    say_both(rt, b"tight memory:", lists_of(rt, 25, 200, tight_memory(3), true));
-    say_both(rt, 
+    say_both(
+        rt,
+        b"tight time:",
+        lists_of(rt, 24, 200, tight_time(3), true),
+    );
+    say_both(
+        rt,
+        b"tight memory:",
+        lists_of(rt, 25, 200, tight_memory(3), true),
+    );
+    say_both(
+        rt,
         b"tight data, own:",
         lists_of(rt, 26, 200, tight_data(3, 0, 11), true),
     );
-    say_both(rt, 
+    say_both(
+        rt,
         b"tight data, shared:",
         lists_of(rt, 27, 200, tight_data(3, 1, 13), true),
     );
-    say_both(rt, b"tight q, own:", lists_of(rt, 28, 200, tight_own(3), true));
-    say_both(rt, 
+    say_both(
+        rt,
+        b"tight q, own:",
+        lists_of(rt, 28, 200, tight_own(3), true),
+    );
+    say_both(
+        rt,
         b"tight q, shared:",
         lists_of(rt, 29, 200, tight_shared(4), true),
     );

@@ -141,12 +141,29 @@ fn say_spread(rt: &HostRuntime, name: &[u8], t: Tally) {
 }
 
 pub fn say_spreads(rt: &HostRuntime) {
-    say::say(rt, 
+    say::say(
+        rt,
         b"drawn: tried, planned, with an engine of the second kind, with engines of both, wrong\n",
     );
     say_spread(rt, b"one type, up to 4 engines:", spread_of(rt, 1, 4, 1, 6));
-    say_spread(rt, b"two types, up to 4 engines:", spread_of(rt, 2, 4, 2, 3));
-    say_spread(rt, b"three types, up to 4 engines:", spread_of(rt, 3, 4, 3, 2));
-    say_spread(rt, b"six types, up to 3 engines:", spread_of(rt, 4, 3, 6, 1));
-    say_spread(rt, b"two types, up to 8 engines:", spread_of(rt, 5, 8, 2, 2));
+    say_spread(
+        rt,
+        b"two types, up to 4 engines:",
+        spread_of(rt, 2, 4, 2, 3),
+    );
+    say_spread(
+        rt,
+        b"three types, up to 4 engines:",
+        spread_of(rt, 3, 4, 3, 2),
+    );
+    say_spread(
+        rt,
+        b"six types, up to 3 engines:",
+        spread_of(rt, 4, 3, 6, 1),
+    );
+    say_spread(
+        rt,
+        b"two types, up to 8 engines:",
+        spread_of(rt, 5, 8, 2, 2),
+    );
 }

@@ -50,7 +50,14 @@ fn say_turn(rt: &HostRuntime, turn: Turn) {
 }
 
 // A call on the fresh board of a file.
-pub fn say_board(rt: &HostRuntime, kind: u8, file: &[u8], rows: &mut [u16], predecessors: &mut [u16], t: usize) {
+pub fn say_board(
+    rt: &HostRuntime,
+    kind: u8,
+    file: &[u8],
+    rows: &mut [u16],
+    predecessors: &mut [u16],
+    t: usize,
+) {
     let opened = open_board(file);
     let answer = opened.answer;
     let board = opened.board;

@@ -71,7 +71,13 @@ fn sheet_in(
     write_sheet(file, rows, predecessors, buffer)
 }
 
-pub fn say_sheet(rt: &HostRuntime, file: &[u8], rows: &mut [u16], predecessors: &mut [u16], room: usize) {
+pub fn say_sheet(
+    rt: &HostRuntime,
+    file: &[u8],
+    rows: &mut [u16],
+    predecessors: &mut [u16],
+    room: usize,
+) {
     let mut buffer: [u8; LONG] = [OLD; LONG];
     let answer = sheet_in(file, rows, predecessors, &mut buffer, room);
     say_written(rt, answer, &buffer);

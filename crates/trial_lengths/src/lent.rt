@@ -67,7 +67,8 @@ fn say_parts(rt: &HostRuntime, rows: &[u16; LONG], predecessors: &[u16; LONG], n
 }
 
 // A call over two parts.
-fn say_by(rt: &HostRuntime, 
+fn say_by(
+    rt: &HostRuntime,
     kind: u8,
     file: &[u8],
     sheet: Wide,
@@ -89,7 +90,8 @@ fn say_by(rt: &HostRuntime,
 }
 
 // The same over the first entries of the predecessor part, or all where it has fewer.
-fn say_front(rt: &HostRuntime, 
+fn say_front(
+    rt: &HostRuntime,
     kind: u8,
     file: &[u8],
     sheet: Wide,
@@ -99,7 +101,15 @@ fn say_front(rt: &HostRuntime,
     number: usize,
 ) {
     if lent < predecessors.len() {
-        say_by(rt, kind, file, sheet, rows, &mut predecessors[0..lent], number);
+        say_by(
+            rt,
+            kind,
+            file,
+            sheet,
+            rows,
+            &mut predecessors[0..lent],
+            number,
+        );
     } else {
         say_by(rt, kind, file, sheet, rows, predecessors, number);
     }
@@ -112,7 +122,8 @@ pub fn say_over(rt: &HostRuntime, kind: u8, file: &[u8], sheet: Wide, n: Lengths
     let first = n.rows;
     let second = n.predecessors;
     if first < LONG {
-        say_front(rt, 
+        say_front(
+            rt,
             kind,
             file,
             sheet,
@@ -122,7 +133,8 @@ pub fn say_over(rt: &HostRuntime, kind: u8, file: &[u8], sheet: Wide, n: Lengths
             number,
         );
     } else {
-        say_front(rt, 
+        say_front(
+            rt,
             kind,
             file,
             sheet,

@@ -123,7 +123,8 @@ fn say_filed(rt: &HostRuntime, c: Case) {
     let numbers = c.numbers;
     let file = wide_of(given);
     let bytes = file.bytes;
-    say_call(rt, 
+    say_call(
+        rt,
         c.kind,
         first_of(&bytes, numbers.size),
         wide_of(stated),
@@ -149,7 +150,12 @@ pub fn say_cases(rt: &HostRuntime, text: &[u8]) {
     for line in 0..text.len() {
         if at < text.len() {
             let c = case_at(text, at);
-            say_case(rt, part(text, at, c.named), part(text, c.stated, c.ended), c);
+            say_case(
+                rt,
+                part(text, at, c.named),
+                part(text, c.stated, c.ended),
+                c,
+            );
             at = c.next;
         }
     }

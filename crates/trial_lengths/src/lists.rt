@@ -56,7 +56,13 @@ fn say_records(rt: &HostRuntime, front: Front) {
     }
 }
 
-pub fn say_into(rt: &HostRuntime, file: &[u8], rows: &mut [u16], predecessors: &mut [u16], room: usize) {
+pub fn say_into(
+    rt: &HostRuntime,
+    file: &[u8],
+    rows: &mut [u16],
+    predecessors: &mut [u16],
+    room: usize,
+) {
     if MOST < room {
         return;
     }

@@ -11,7 +11,12 @@ use table_code::{columns_needed, fill_table};
 use trial::say;
 
 // The loads of the used engines, with their numbers.
-fn say_loads(rt: &HostRuntime, numbers: [usize; ENGINE_LIMIT], loads: [EngineLoad; ENGINE_LIMIT], used: usize) {
+fn say_loads(
+    rt: &HostRuntime,
+    numbers: [usize; ENGINE_LIMIT],
+    loads: [EngineLoad; ENGINE_LIMIT],
+    used: usize,
+) {
     for i in 0..ENGINE_LIMIT {
         let load = loads[i];
         if i < used {
@@ -30,7 +35,13 @@ fn planned(kind: u8, file: &[u8], rows: &mut [u16], predecessors: &mut [u16]) ->
     plan_of(file, rows, predecessors)
 }
 
-pub fn say_plan(rt: &HostRuntime, kind: u8, file: &[u8], rows: &mut [u16], predecessors: &mut [u16]) {
+pub fn say_plan(
+    rt: &HostRuntime,
+    kind: u8,
+    file: &[u8],
+    rows: &mut [u16],
+    predecessors: &mut [u16],
+) {
     let plan = planned(kind, file, rows, predecessors);
     let answer = plan.answer;
     let numbers = plan.numbers;

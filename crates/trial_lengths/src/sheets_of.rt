@@ -23,7 +23,8 @@ fn say_checked(rt: &HostRuntime, a: SheetAnswer) {
     say::say(rt, b"\n");
 }
 
-pub fn say_check(rt: &HostRuntime, 
+pub fn say_check(
+    rt: &HostRuntime,
     file: &[u8],
     sheet: Wide,
     rows: &mut [u16],

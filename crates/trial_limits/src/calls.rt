@@ -100,7 +100,8 @@ fn say_kind(rt: &HostRuntime, kind: u8) {
 }
 
 // The call of a script at a place, where it has one: its kind, its type, and the engine that it leaves or that is shown after it.
-fn say_call(rt: &HostRuntime, 
+fn say_call(
+    rt: &HostRuntime,
     b: Board,
     script: &[u8],
     at: usize,
@@ -126,7 +127,13 @@ fn say_call(rt: &HostRuntime,
 }
 
 // The calls of a script of at most 64, four bytes each, of which the last is a space, or the end.
-fn say_calls(rt: &HostRuntime, b: Board, script: &[u8], rows: &mut [u16], predecessors: &mut [u16]) {
+fn say_calls(
+    rt: &HostRuntime,
+    b: Board,
+    script: &[u8],
+    rows: &mut [u16],
+    predecessors: &mut [u16],
+) {
     let mut board = b;
     for i in 0..64usize {
         let next = say_call(rt, board, script, i * 4, rows, predecessors);
@@ -135,7 +142,14 @@ fn say_calls(rt: &HostRuntime, b: Board, script: &[u8], rows: &mut [u16], predec
 }
 
 // The same over the first entries of the predecessor part, or all where it has fewer.
-fn say_front(rt: &HostRuntime, b: Board, script: &[u8], rows: &mut [u16], predecessors: &mut [u16], lent: usize) {
+fn say_front(
+    rt: &HostRuntime,
+    b: Board,
+    script: &[u8],
+    rows: &mut [u16],
+    predecessors: &mut [u16],
+    lent: usize,
+) {
     if lent < predecessors.len() {
         say_calls(rt, b, script, rows, &mut predecessors[0..lent]);
     } else {
@@ -157,7 +171,8 @@ pub fn say_script(rt: &HostRuntime, file: &[u8], lent: Lengths, script: &[u8]) {
     say::say(rt, b"\n");
     let first = lent.rows;
     if first < LONG {
-        say_front(rt, 
+        say_front(
+            rt,
             board,
             script,
             &mut rows[0..first],
@@ -165,7 +180,8 @@ pub fn say_script(rt: &HostRuntime, file: &[u8], lent: Lengths, script: &[u8]) {
             lent.predecessors,
         );
     } else {
-        say_front(rt, 
+        say_front(
+            rt,
             board,
             script,
             &mut rows,

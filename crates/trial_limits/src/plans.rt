@@ -60,7 +60,14 @@ fn say_by(rt: &HostRuntime, way: u8, file: &[u8], rows: &mut [u16], predecessors
 }
 
 // The same over the first entries of the predecessor part, or all where it has fewer.
-fn say_front(rt: &HostRuntime, way: u8, file: &[u8], rows: &mut [u16], predecessors: &mut [u16], lent: usize) {
+fn say_front(
+    rt: &HostRuntime,
+    way: u8,
+    file: &[u8],
+    rows: &mut [u16],
+    predecessors: &mut [u16],
+    lent: usize,
+) {
     if lent < predecessors.len() {
         say_by(rt, way, file, rows, &mut predecessors[0..lent]);
     } else {
@@ -77,7 +84,8 @@ fn say_way(rt: &HostRuntime, name: &[u8], way: u8, file: &[u8], lent: Lengths) {
     say::say_also(rt, lent.predecessors);
     let first = lent.rows;
     if first < LONG {
-        say_front(rt, 
+        say_front(
+            rt,
             way,
             file,
             &mut rows[0..first],
@@ -85,7 +93,14 @@ fn say_way(rt: &HostRuntime, name: &[u8], way: u8, file: &[u8], lent: Lengths) {
             lent.predecessors,
         );
     } else {
-        say_front(rt, way, file, &mut rows, &mut predecessors, lent.predecessors);
+        say_front(
+            rt,
+            way,
+            file,
+            &mut rows,
+            &mut predecessors,
+            lent.predecessors,
+        );
     }
     say::say(rt, b"\n");
     say_table(rt, &rows, &predecessors, file);

@@ -134,17 +134,23 @@ fn say_refusals(rt: &HostRuntime) {
     say_system(rt, b"m 17", systems::system_a(17));
     say_changed(rt, b"rule 2", 4, 2);
     say_changed(rt, b"U 16777226", 5, 1);
-    say_system(rt, 
+    say_system(
+        rt,
         b"d 1000001",
         systems::with_data(systems::system_a(3), 1000001),
     );
     say_system(rt, b"q 0", systems::with_most(systems::system_a(3), 0));
-    say_system(rt, b"C 2, T 6", systems::with_pace(systems::system_a(3), 2, 6));
+    say_system(
+        rt,
+        b"C 2, T 6",
+        systems::with_pace(systems::system_a(3), 2, 6),
+    );
     say_file(rt, b"empty", a, 0);
     say_file(rt, b"no type", a, 13);
     say_system(rt, b"n 4096", systems::single(1, 0, 0, 0, 4096));
     say_system(rt, b"no good assignment", systems::system_b(3, 0));
-    say_system(rt, 
+    say_system(
+        rt,
         b"no good assignment that keeps q",
         systems::with_most(systems::system_b(3, 1), 1),
     );
@@ -232,15 +238,18 @@ fn say_lengths(rt: &HostRuntime) {
 
 // Plans that a q parts.
 fn say_mosts(rt: &HostRuntime) {
-    say_system(rt, 
+    say_system(
+        rt,
         b"system A with q 1",
         systems::with_most(systems::system_a(3), 1),
     );
-    say_system(rt, 
+    say_system(
+        rt,
         b"system B, shared, q 1",
         systems::with_most(systems::system_b(4, 1), 1),
     );
-    say_system(rt, 
+    say_system(
+        rt,
         b"system B, shared, q 3",
         systems::with_most(systems::system_b(4, 1), 3),
     );
@@ -254,23 +263,34 @@ fn say_paces(rt: &HostRuntime) {
         Pace::Paced(Cycle { run: 2, period: 5 }),
     );
     say_system(rt, b"system A with C and T of type 1", one);
-    say_system(rt, 
+    say_system(
+        rt,
         b"system A with C and T",
         systems::with_pace(one, 19660, 65535),
     );
-    say_system(rt, 
+    say_system(
+        rt,
         b"no good assignment, C and T",
         systems::with_pace(systems::system_b(3, 0), 1, 5),
     );
-    say_system(rt, b"longest with C and T, rule 0", systems::system_paced(0));
+    say_system(
+        rt,
+        b"longest with C and T, rule 0",
+        systems::system_paced(0),
+    );
 }
 
 // One more column than there might be before request 2026-10, and as many as there may be.
 fn say_widest(rt: &HostRuntime) {
     say_system(rt, b"n 1024, m 1", systems::single(1, 0, 0, 0, 1024));
-    say_system(rt, b"n 4095, m 16", systems::single(16, 0, 1000000, 3906, 4095));
+    say_system(
+        rt,
+        b"n 4095, m 16",
+        systems::single(16, 0, 1000000, 3906, 4095),
+    );
     say_system(rt, b"n 4095, m 1", systems::single(1, 1, 1000000, 0, 4095));
-    say_system(rt, 
+    say_system(
+        rt,
         b"n 4095, too many",
         systems::single(16, 0, 1000000, 3922, 4095),
     );
@@ -282,11 +302,13 @@ fn main(rt: HostRuntime) {
     say_system(&rt, b"all n 0, m 1", systems::six_of(1, [0; TYPE_LIMIT]));
     say_system(&rt, b"all n 0, m 16", systems::six_of(16, [0; TYPE_LIMIT]));
     say_system(&rt, b"costs nothing", systems::six_of(16, [1; TYPE_LIMIT]));
-    say_system(&rt, 
+    say_system(
+        &rt,
         b"system A with d 1",
         systems::with_data(systems::system_a(3), 1),
     );
-    say_system(&rt, 
+    say_system(
+        &rt,
         b"system B, shared, d 2",
         systems::with_data(systems::system_b(4, 1), 2),
     );
@@ -294,12 +316,14 @@ fn main(rt: HostRuntime) {
     say_system(&rt, b"1024 columns, rule 0", systems::system_full(0));
     say_system(&rt, b"1024 columns, rule 1", systems::system_full(1));
     say_system(&rt, b"longest, rule 0", systems::system_longest(0));
-    say_system(&rt, 
+    say_system(
+        &rt,
         b"n 1023, m 16",
         systems::single(16, 0, 1000000, 15625, 1023),
     );
     say_system(&rt, b"n 1023, m 1", systems::single(1, 1, 1000000, 0, 1023));
-    say_system(&rt, 
+    say_system(
+        &rt,
         b"n 1023, too many",
         systems::single(16, 1, 1000000, 1000000, 1023),
     );

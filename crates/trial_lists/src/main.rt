@@ -72,7 +72,13 @@ fn say_records(rt: &HostRuntime, list: [EngineRecord; MOST]) {
 }
 
 // A plan into the first `room` records: its answer, and all records of the list after it.
-fn say_planned(rt: &HostRuntime, file: &[u8], rows: &mut [u16], predecessors: &mut [u16], room: usize) {
+fn say_planned(
+    rt: &HostRuntime,
+    file: &[u8],
+    rows: &mut [u16],
+    predecessors: &mut [u16],
+    room: usize,
+) {
     if MOST < room {
         return;
     }
@@ -84,7 +90,14 @@ fn say_planned(rt: &HostRuntime, file: &[u8], rows: &mut [u16], predecessors: &m
 }
 
 // The same over the first entries of the predecessor part.
-fn say_front(rt: &HostRuntime, file: &[u8], rows: &mut [u16], predecessors: &mut [u16], lent: usize, room: usize) {
+fn say_front(
+    rt: &HostRuntime,
+    file: &[u8],
+    rows: &mut [u16],
+    predecessors: &mut [u16],
+    lent: usize,
+    room: usize,
+) {
     if lent < predecessors.len() {
         say_planned(rt, file, rows, &mut predecessors[0..lent], room);
     } else {
@@ -128,7 +141,14 @@ fn say_list(rt: &HostRuntime, y: System, lent: Lengths, room: usize) {
     say::say_number(rt, room);
     let first = lent.0;
     if first < LONG {
-        say_front(rt, file, &mut rows[0..first], &mut predecessors, lent.1, room);
+        say_front(
+            rt,
+            file,
+            &mut rows[0..first],
+            &mut predecessors,
+            lent.1,
+            room,
+        );
     } else {
         say_front(rt, file, &mut rows, &mut predecessors, lent.1, room);
     }

@@ -8,7 +8,8 @@ use trial::{say, systems};
 fn say_case(rt: &HostRuntime, name: &[u8], y: System) {
     let r = fills::trial_of(y, systems::system_full(0));
     let right = if r.right { 1 } else { 0 };
-    say::say_row(rt, 
+    say::say_row(
+        rt,
         name,
         [right, r.pairs, r.bound, 0, 0, 0, 0, 0, 0, 0, 0, 0],
         3,
@@ -52,13 +53,22 @@ fn six_types() -> System {
 // is then left of it would fit.
 fn say_widest(rt: &HostRuntime) {
     say_case(rt, b"n 4095, u over U, m 1:", widest_of(1, 9, 10));
-    say_case(rt, 
+    say_case(
+        rt,
         b"n 4095, s and d over S, m 1:",
         stored_of(1, 1000000, 1000000, 310720),
     );
     say_case(rt, b"n 4095, u at U, m 2:", widest_of(2, 9, 9));
-    say_case(rt, b"n 4095, 2047 on an engine, m 2:", widest_of(2, 20479, 10));
-    say_case(rt, b"n 4095, 2048 on an engine, m 2:", widest_of(2, 20480, 10));
+    say_case(
+        rt,
+        b"n 4095, 2047 on an engine, m 2:",
+        widest_of(2, 20479, 10),
+    );
+    say_case(
+        rt,
+        b"n 4095, 2048 on an engine, m 2:",
+        widest_of(2, 20480, 10),
+    );
     say_case(rt, b"n 4095, 256 on an engine:", widest_of(16, 2560, 10));
     say_case(rt, b"n 4095, costs nothing:", widest_of(16, 0, 0));
     say_case(rt, b"n 63 twice, U 30, m 2:", square(2, 0, 30, 63));
@@ -74,9 +84,18 @@ fn say_wide(rt: &HostRuntime) {
     say_case(rt, b"n 1023, s and d over S:", most_of(1, 9, 9, 0, 5, 5));
     say_case(rt, b"n 1023, u at U:", most_of(0, 9, 9, 9, 0, 0));
     say_case(rt, b"n 1023, s and d at S:", most_of(1, 9, 9, 0, 5, 4));
-    say_case(rt, b"n 1023, 60 on an engine:", most_of(0, 600, 9, 10, 0, 0));
-    say_case(rt, b"n 1023, 64 on an engine:", most_of(0, 640, 9, 10, 0, 0));
-    say_case(rt, 
+    say_case(
+        rt,
+        b"n 1023, 60 on an engine:",
+        most_of(0, 600, 9, 10, 0, 0),
+    );
+    say_case(
+        rt,
+        b"n 1023, 64 on an engine:",
+        most_of(0, 640, 9, 10, 0, 0),
+    );
+    say_case(
+        rt,
         b"n 1023, q 50:",
         systems::with_most(most_of(1, 9, 9, 0, 9, 0), 50),
     );
@@ -93,7 +112,8 @@ pub fn say_cases(rt: &HostRuntime) {
     say_case(rt, b"A:", systems::system_a(3));
     say_case(rt, b"B, m 3:", systems::system_b(3, 0));
     say_case(rt, b"B, shared:", systems::system_b(4, 1));
-    say_case(rt, 
+    say_case(
+        rt,
         b"B, shared, q 1:",
         systems::with_most(systems::system_b(4, 1), 1),
     );

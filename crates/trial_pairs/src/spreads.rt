@@ -65,7 +65,8 @@ fn say_drawn(rt: &HostRuntime, name: &[u8], number: usize, typecount: usize, mos
 }
 
 pub fn say_spreads(rt: &HostRuntime) {
-    say::say(rt, 
+    say::say(
+        rt,
         b"systems: tried, right, no type fits, at the bound but for column 0, one for a column, pairs, bound\n",
     );
     say_drawn(rt, b"one type:", 400, 1, 63);

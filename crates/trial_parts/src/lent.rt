@@ -37,7 +37,14 @@ fn dirt(i: usize, first: u16) -> u16 {
 }
 
 // The call of a case: f for filling, p for a plan, l for a list of calls.
-fn say_call(rt: &HostRuntime, kind: u8, file: &[u8], text: &[u8], rows: &mut [u16], predecessors: &mut [u16]) {
+fn say_call(
+    rt: &HostRuntime,
+    kind: u8,
+    file: &[u8],
+    text: &[u8],
+    rows: &mut [u16],
+    predecessors: &mut [u16],
+) {
     match kind {
         b'f' => fills::say_fill(rt, file, rows, predecessors),
         b'p' => plans::say_plan(rt, file, text, rows, predecessors),
@@ -46,7 +53,8 @@ fn say_call(rt: &HostRuntime, kind: u8, file: &[u8], text: &[u8], rows: &mut [u1
 }
 
 // The same over the first n entries of the predecessor part, or all where it has fewer.
-fn say_front(rt: &HostRuntime, 
+fn say_front(
+    rt: &HostRuntime,
     kind: u8,
     file: &[u8],
     text: &[u8],
@@ -62,7 +70,8 @@ fn say_front(rt: &HostRuntime,
 }
 
 // The same over the first entries of both parts, or all where they have fewer.
-fn say_fronts(rt: &HostRuntime, 
+fn say_fronts(
+    rt: &HostRuntime,
     kind: u8,
     file: &[u8],
     text: &[u8],
@@ -72,7 +81,8 @@ fn say_fronts(rt: &HostRuntime,
 ) {
     let first = n.rows;
     if first < rows.len() {
-        say_front(rt, 
+        say_front(
+            rt,
             kind,
             file,
             text,

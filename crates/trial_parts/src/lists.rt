@@ -50,7 +50,14 @@ fn called(
 }
 
 // The call of a list at a place, where it has one; the board after it.
-fn say_call(rt: &HostRuntime, b: Board, list: &[u8], at: usize, rows: &mut [u16], predecessors: &mut [u16]) -> Board {
+fn say_call(
+    rt: &HostRuntime,
+    b: Board,
+    list: &[u8],
+    at: usize,
+    rows: &mut [u16],
+    predecessors: &mut [u16],
+) -> Board {
     if list.len() <= at {
         return b;
     }
@@ -63,7 +70,13 @@ fn say_call(rt: &HostRuntime, b: Board, list: &[u8], at: usize, rows: &mut [u16]
 }
 
 // All calls of a list; the board after them.
-fn say_calls(rt: &HostRuntime, b: Board, list: &[u8], rows: &mut [u16], predecessors: &mut [u16]) -> Board {
+fn say_calls(
+    rt: &HostRuntime,
+    b: Board,
+    list: &[u8],
+    rows: &mut [u16],
+    predecessors: &mut [u16],
+) -> Board {
     let mut board = b;
     for i in 0..CALLS {
         let next = say_call(rt, board, list, i * 4, rows, predecessors);
@@ -94,7 +107,13 @@ fn say_engines(rt: &HostRuntime, b: Board) {
 }
 
 // The text is the list.
-pub fn say_list(rt: &HostRuntime, file: &[u8], text: &[u8], rows: &mut [u16], predecessors: &mut [u16]) {
+pub fn say_list(
+    rt: &HostRuntime,
+    file: &[u8],
+    text: &[u8],
+    rows: &mut [u16],
+    predecessors: &mut [u16],
+) {
     let turn = open_board(file);
     let answer = turn.answer;
     say::say_also(rt, code_of(answer));

@@ -74,7 +74,13 @@ fn say_records(rt: &HostRuntime, list: [EngineRecord; MOST]) {
 }
 
 // The text is how many records are lent.
-pub fn say_plan(rt: &HostRuntime, file: &[u8], text: &[u8], rows: &mut [u16], predecessors: &mut [u16]) {
+pub fn say_plan(
+    rt: &HostRuntime,
+    file: &[u8],
+    text: &[u8],
+    rows: &mut [u16],
+    predecessors: &mut [u16],
+) {
     let room = number_in(text, 0, word_end(text, 0));
     if MOST < room {
         return;

@@ -76,31 +76,38 @@ fn say_worked(rt: &HostRuntime) {
 // System B on four engines with data memory: under rule 1 as many share an engine as leave room for the d of each, under rule 0 each
 // instance has s and d.
 fn say_data(rt: &HostRuntime) {
-    say_case(rt, 
+    say_case(
+        rt,
         b"B own, d 3:",
         systems::with_data(systems::system_b(4, 0), 3),
     );
-    say_case(rt, 
+    say_case(
+        rt,
         b"B own, d 4:",
         systems::with_data(systems::system_b(4, 0), 4),
     );
-    say_case(rt, 
+    say_case(
+        rt,
         b"B shared, d 0:",
         systems::with_data(systems::system_b(4, 1), 0),
     );
-    say_case(rt, 
+    say_case(
+        rt,
         b"B shared, d 1:",
         systems::with_data(systems::system_b(4, 1), 1),
     );
-    say_case(rt, 
+    say_case(
+        rt,
         b"B shared, d 2:",
         systems::with_data(systems::system_b(4, 1), 2),
     );
-    say_case(rt, 
+    say_case(
+        rt,
         b"B shared, d 3:",
         systems::with_data(systems::system_b(4, 1), 3),
     );
-    say_case(rt, 
+    say_case(
+        rt,
         b"B shared, d 4:",
         systems::with_data(systems::system_b(4, 1), 4),
     );
@@ -138,11 +145,13 @@ fn say_other_mosts(rt: &HostRuntime) {
     let own = systems::with_type(systems::platform_of(2, 0, 10, 8), 2, 2, 4);
     let none = systems::with_type(systems::platform_of(2, 0, 10, 8), 4, 3, 0);
     say_case(rt, b"A, q 1 of type 2:", systems::with_most(a, 1));
-    say_case(rt, 
+    say_case(
+        rt,
         b"A, q 1 of type 1:",
         systems::with_most_at(a, 0, Most::AtMost(1)),
     );
-    say_case(rt, 
+    say_case(
+        rt,
         b"A, q 1 of both:",
         systems::with_most_at(systems::with_most(a, 1), 0, Most::AtMost(1)),
     );

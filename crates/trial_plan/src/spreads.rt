@@ -47,7 +47,8 @@ fn no_tally() -> Tally {
 // A line of a spread: the systems tried, planned, refused 12 and answered wrongly.
 fn say_tally(rt: &HostRuntime, name: &[u8], t: Tally) {
     let refused = wrapping_sub_usize(t.tried, t.planned);
-    say::say_row(rt, 
+    say::say_row(
+        rt,
         name,
         [t.tried, t.planned, refused, t.wrong, 0, 0, 0, 0, 0, 0, 0, 0],
         4,
@@ -83,7 +84,14 @@ fn one_types(rt: &HostRuntime) -> Tally {
 }
 
 // So many systems drawn one after another, with every cell of one in 16.
-fn drawn(rt: &HostRuntime, seed: u64, number: usize, engines: usize, typecount: usize, most: usize) -> Tally {
+fn drawn(
+    rt: &HostRuntime,
+    seed: u64,
+    number: usize,
+    engines: usize,
+    typecount: usize,
+    most: usize,
+) -> Tally {
     let mut t = no_tally();
     let mut at = seed;
     let mut i: usize = 0;

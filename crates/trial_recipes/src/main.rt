@@ -5,10 +5,10 @@
 #![tactic(auto)]
 
 use buffer::put_bytes;
-use trial::input::read_full;
 use recipes_code::{make_of, make_read};
 use system::FILE_BYTES;
 use trial::files::first_of;
+use trial::input::read_full;
 use trial::say::{say, say_hex};
 use trial::words::{Bytes, CASE_BYTES, after, byte_of, bytes_in, part, word_end};
 

@@ -4,7 +4,7 @@ use crate::text::Case;
 use crate::{calls, text};
 use std::num::{wrapping_add_u8, wrapping_add_usize};
 use system::Answer;
-use trial::say::{say, say_also, say_number, say_hex};
+use trial::say::{say, say_also, say_hex, say_number};
 use trial::words::{Bytes, CASE_BYTES, part};
 
 fn say_check(rt: &HostRuntime, answer: usize) {
@@ -53,14 +53,17 @@ fn say_own(rt: &HostRuntime, c: Case, w: WriteCall, size: usize) {
     }
     say_table(rt, w.table);
     say(rt, b" |");
-    say_checked(rt, calls::checked(
-        file,
-        Bytes {
-            bytes: buffer,
-            size,
-        },
-        lent,
-    ));
+    say_checked(
+        rt,
+        calls::checked(
+            file,
+            Bytes {
+                bytes: buffer,
+                size,
+            },
+            lent,
+        ),
+    );
 }
 
 fn say_unwritten(rt: &HostRuntime, w: WriteCall, number: usize) {

@@ -6,10 +6,10 @@
 #![tactic(auto)]
 
 use buffer::put_bytes;
-use trial::input::read_full;
 use system::FILE_BYTES;
 use tightness_code::{tight_of, tight_read};
 use trial::files::first_of;
+use trial::input::read_full;
 use trial::say::say;
 use trial::words::{Bytes, CASE_BYTES, after, bytes_in, part, word_end};
 

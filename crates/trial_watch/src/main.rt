@@ -12,10 +12,10 @@
 ghost use Rattle.timeline.specs.Meaning.{WatchPromises, ReadPromises};
 
 use buffer::{put_byte, put_bytes, put_four};
-use trial::input::read_full;
 use system::FILE_BYTES;
 use timeline_code::{WATCH_BYTES, WATCH_FRONT, watch_of, watch_read};
 use trial::files::first_of;
+use trial::input::read_full;
 use trial::say::say;
 use trial::words::{
     Bytes, CASE_BYTES, after, byte_of, bytes_in, line_end, number_in, part, word_end,

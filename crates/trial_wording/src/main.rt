@@ -5,9 +5,9 @@
 #![tactic(auto)]
 
 use buffer::put_bytes;
-use trial::input::read_full;
 use system::FILE_BYTES;
 use trial::files::first_of;
+use trial::input::read_full;
 use trial::say::say;
 use trial::words::{Bytes, CASE_BYTES, after, bytes_in, part, word_end};
 use wording_code::{why_of, why_read};

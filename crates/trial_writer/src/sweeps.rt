@@ -265,9 +265,15 @@ pub fn say_longest(rt: &HostRuntime, name: &[u8], y: System) -> usize {
 pub fn say_sweeps(rt: &HostRuntime, wrong: usize) {
     let ends = wrapping_add_usize(wrong, say_tally(rt, b"ends of the limits:", edges(rt)));
     let one = wrapping_add_usize(ends, say_tally(rt, b"drawn:", drawn(rt)));
-    let paired = wrapping_add_usize(one, say_kinds(rt, b"ends of the limits, two kinds:", kinds(rt)));
+    let paired = wrapping_add_usize(
+        one,
+        say_kinds(rt, b"ends of the limits, two kinds:", kinds(rt)),
+    );
     let mixes = wrapping_add_usize(paired, say_kinds(rt, b"drawn, two kinds:", mixed(rt)));
-    let run = wrapping_add_usize(mixes, say_paces(rt, b"ends of the limits, C and T:", paces(rt)));
+    let run = wrapping_add_usize(
+        mixes,
+        say_paces(rt, b"ends of the limits, C and T:", paces(rt)),
+    );
     let all = wrapping_add_usize(
         run,
         say_paces(rt, b"ends of the limits, two kinds, C and T:", both(rt)),
