@@ -41,6 +41,15 @@ fn sum_by_place(bytes: &[u8]) -> usize {
     sum
 }
 
+// Whether two bodies are the same.
+pub fn same_bytes(a: &[u8], b: &[u8]) -> bool {
+    let mut same = a.len() == b.len();
+    for i in 0..a.len() {
+        same = same & (byte_of(a, i) == byte_of(b, i));
+    }
+    same
+}
+
 // A body's bytes, nothing where it has none.
 pub fn say_body(rt: &HostRuntime, body: &[u8]) {
     let size = body.len();

@@ -1,13 +1,23 @@
-// The field step at some places of a file: the tag and the length that stand there (0 past the end), the place after the field (the same one where it is not
-// whole), how long the part is that is handed on as its body, and its bytes.
-use crate::bodies::say_body;
+// The field step at some places of a file: the tag and the length that stand there (0 past the end), whether both are there (`headed`, else `bare`), whether
+// the whole field is (`whole`, else `cut`), where its body starts, the place after it, how long the part is that is handed on as its body, and its bytes.
+// Tag, length, body and next place are also asked for one by one, and `but by parts` is said where one of them is another.
+use crate::bodies::{same_bytes, say_body};
 use std::num::wrapping_add_usize;
-use system::Cursor;
+use system::{Cursor, Field};
 use trial::files::first_of;
 use trial::say::{say, say_also};
 
 // The bytes of the longest file here: a field of 65,535 bytes, the most that its length can say, and one of 2.
 const FILE_BYTES: usize = 65543;
+
+// One of two words.
+fn say_either(rt: &HostRuntime, first: bool, word: &[u8], other: &[u8]) {
+    if first {
+        say(rt, word);
+    } else {
+        say(rt, other);
+    }
+}
 
 // A word and a number.
 fn say_named(rt: &HostRuntime, word: &[u8], n: usize) {
@@ -15,17 +25,35 @@ fn say_named(rt: &HostRuntime, word: &[u8], n: usize) {
     say_also(rt, n);
 }
 
-// The field step at a place: the tag, the length, the next place, and the part of the file that is handed on.
-fn step(rt: &HostRuntime, name: &[u8], file: &[u8], at: usize) {
+// Whether the four answers at a place are those of the step there, and of the part that it hands on.
+fn same_by_parts(file: &[u8], at: usize, field: Field, body: &[u8]) -> bool {
     let c = Cursor { at };
     let next = system_code::next_at(file, c);
-    let body = system_code::body_at(file, c);
+    let size = system_code::length_at(file, c) as usize;
+    let same = (system_code::tag_at(file, c) == field.tag) & (size == field.size);
+    same & (next.at == field.next.at) & same_bytes(system_code::body_at(file, c), body)
+}
+
+// The field step at a place: its answer, and the part of the file that it hands on.
+fn step(rt: &HostRuntime, name: &[u8], file: &[u8], at: usize) {
+    let c = Cursor { at };
+    let field = system_code::field_at(file, c);
+    let body = system_code::body_part(file, field);
     say(rt, name);
-    say_named(rt, b" tag", system_code::tag_at(file, c) as usize);
-    say_named(rt, b" length", system_code::length_at(file, c) as usize);
-    say_named(rt, b" next", next.at);
+    say_named(rt, b" tag", field.tag as usize);
+    say_named(rt, b" length", field.size);
+    say_either(rt, field.headed, b" headed", b" bare");
+    say_either(rt, field.whole, b" whole", b" cut");
+    say_named(rt, b" start", field.start);
+    say_named(rt, b" next", field.next.at);
     say_named(rt, b" body", body.len());
     say_body(rt, body);
+    say_either(
+        rt,
+        same_by_parts(file, at, field, body),
+        b"",
+        b" but by parts",
+    );
     say(rt, b"\n");
 }
 
