@@ -1,4 +1,5 @@
--- Laws of time, memory, q and fit: of the empty load, of a smaller load, of two loads together, and of one instance more or less.
+-- Laws of time, memory, q and fit: of one instance, of two loads together, and of one instance more or less. Those of one type, of the empty load and of a
+-- smaller load are LawsOfOne's.
 use Prim.Native.Nat.{ℕ, zero, suc, ◌+◌, ◌-◌, ◌≤◌, ◌<◌, zero-le}
 use mathlib.Core.Path.{◌≡◌}
 use mathlib.Core.List.{List, [], ◌∷◌}

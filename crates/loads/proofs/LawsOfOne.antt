@@ -1,4 +1,5 @@
 -- Laws of time, memory, q and fit: what one type takes, the sum over the types, the empty load and a smaller load.
+-- Those of time and memory are proved once, of the sum over the types.
 use Prim.Native.Nat.{ℕ, zero, suc, ◌+◌, ◌-◌, ◌*◌, ◌≤◌, ◌<◌, zero-le}
 use mathlib.Core.Path.{◌≡◌, refl, sym, ap, ◌∙◌}
 use mathlib.Core.List.{List, [], ◌∷◌}

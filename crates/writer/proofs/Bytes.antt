@@ -1,16 +1,13 @@
 -- The bytes of a file, as the writer's code is described, are document 01's layout byte by byte, without a zero tag 3; a platform has 13 of them, a second kind 12, a type 13, its d 7, its q 5,
 -- its C and T 11, and its u and s on the second kind 11.
--- A number's four bytes agree as quotients and remainders; the fields of types agree by one type more at the end.
-use Prim.Native.Nat.{ℕ, zero, suc, ◌+◌, ◌-◌, ◌*◌, ◌/◌, ◌%◌, ◌≤◌}
-use mathlib.Core.Path.{◌≡◌, refl, sym, ap, ap₂, ◌∙◌}
-use mathlib.Core.List.{List, [], ◌∷◌, ◌++◌, append-nil, append_assoc}
-use mathlib.Core.Bool.{Bool, true, false, cond, and-true}
+use Prim.Native.Nat.{ℕ, ◌+◌, ◌-◌, ◌*◌, ◌≤◌}
+use mathlib.Core.Path.{◌≡◌, refl, ap, ◌∙◌}
+use mathlib.Core.List.{List, [], ◌∷◌, ◌++◌}
+use mathlib.Core.Bool.{Bool, true, false}
 use native.Mathlib.Omega.{arith}
 use borrow.Author.Tests.{eqb-true, eqb-false, eq-eqb, ne_eqb}
-use lib.ListN.{length, get_or, take, length-append, length-take}
-use lib.Seq.{take-suc}
+use lib.ListN.{length, take, length-append, length-take}
 use lib.Dec.{eqb}
-use Rattle.buffer.specs.Bytes.{bytes4}
 use Rattle.system.specs.declared.Most.{Most}
 use Rattle.system.specs.declared.Most.TheVariants.{NotGiven, AtMost}
 use Rattle.system.specs.declared.Cycle.{Cycle}
@@ -25,80 +22,10 @@ use Rattle.system.specs.declared.Second.TheVariants.{OneKind, TwoKinds}
 use Rattle.system.specs.declared.TaskType.{TaskType}
 use Rattle.system.specs.declared.System.{System}
 use Rattle.system.specs.Limits.{type_limit}
-use Rattle.system.specs.Values.{no_task}
 use Rattle.system.specs.Rules.{rule_of, longest_file}
-use Rattle.partition.specs.Plain.{type_no}
 use Rattle.writer.specs.File.{field_bytes, platform_bytes, second_bytes, data_bytes, most_bytes, pace_bytes, costs_bytes, type_bytes, types_bytes, file_of}
-use Rattle.writer.specs.Meaning.{two_out, four_out, platform_out, second_out, data_out, most_out, pace_out, costs_out, type_out, types_out, file_out}
-
--- intermediate: one field
-
-pub four-out : (n : ℕ) → bytes4 n ≡ four_out n
-four-out n =
-    let first : n / 65536 / 256 ≡ n / 16777216 = omega arith in
-    let third : n % 65536 / 256 ≡ n / 256 % 256 = omega arith in
-    let last : n % 65536 % 256 ≡ n % 256 = omega arith in
-    λ i. first i ∷ (n / 65536 % 256) ∷ third i ∷ last i ∷ []
-
-platform-out : (y : System) → platform_bytes y ≡ platform_out y
-unfolding field_bytes rule_of
-platform-out y = λ i. 1 ∷ 0 ∷ 10 ∷ y.engines ∷ y.rule ∷ (four-out y.timecap i ++ four-out y.memorycap i)
-
-data-out : (d : ℕ) → data_bytes d ≡ data_out false d
-unfolding field_bytes rule_of
-data-out d = λ i. cond (sym (and-true (eqb d 0)) i) [] (3 ∷ 0 ∷ 4 ∷ four-out d i)
-
-most-out : (m : Most) → most_bytes m ≡ most_out m
-unfolding field_bytes rule_of
-most-out NotGiven = refl
-most-out (AtMost q) = refl
-
-pace-out : (p : Pace) → pace_bytes p ≡ pace_out p
-unfolding field_bytes rule_of
-pace-out Unpaced = refl
-pace-out (Paced c) = λ i. 5 ∷ 0 ∷ 8 ∷ (four-out c.run i ++ four-out c.period i)
-
-second-out : (s : Second) → second_bytes s ≡ second_out s
-unfolding field_bytes rule_of
-second-out OneKind = refl
-second-out (TwoKinds k) = λ i. 6 ∷ 0 ∷ 9 ∷ k.number ∷ (four-out k.timecap i ++ four-out k.memorycap i)
-
-costs-out : (c : There) → costs_bytes c ≡ costs_out c
-unfolding field_bytes rule_of
-costs-out Absent = refl
-costs-out (Takes c) = λ i. 7 ∷ 0 ∷ 8 ∷ (four-out c.time i ++ four-out c.memory i)
-
-type-out : (t : TaskType) → type_bytes t ≡ type_out false t
-unfolding field_bytes rule_of
-type-out t =
-    λ i. 2 ∷ 0 ∷ 10 ∷ (four-out t.time i ++ (four-out t.memory i ++ (two_out t.ceiling ++ (data-out t.data i ++ (most-out t.most i ++ (pace-out t.pace i ++ costs-out t.there i))))))
-
--- intermediate: one type more
-
-types-append : (a b : List TaskType) → types_bytes (a ++ b) ≡ types_bytes a ++ types_bytes b
-unfolding types_bytes
-types-append [] b = refl
-types-append (t ∷ a) b = ap (λ (l : List ℕ). type_bytes t ++ l) (types-append a b) ∙ sym (append_assoc (type_bytes t) (types_bytes a) (types_bytes b))
-
-pub types_more : (ts : List TaskType) (t : TaskType) → types_bytes (ts ++ (t ∷ [])) ≡ types_bytes ts ++ type_bytes t
-unfolding types_bytes
-types_more ts t = types-append ts (t ∷ []) ∙ ap (λ (l : List ℕ). types_bytes ts ++ l) (append-nil (type_bytes t))
-
-types-out : (y : System) (k : ℕ) → k ≤ length y.types → types_bytes (take k y.types) ≡ types_out (λ (t : ℕ). false) y k
-unfolding types_bytes types_out
-types-out y zero h = refl
-types-out y (suc k) h =
-    let back : k ≡ suc k - 1 = omega arith in
-    ap types_bytes (take-suc y.types k no_task h)
-    ∙ types_more (take k y.types) (get_or y.types k no_task)
-    ∙ ap₂ (λ (a b : List ℕ). a ++ b) (types-out y k (omega arith))
-    (ap (λ (j : ℕ). type_bytes (get_or y.types j no_task)) back ∙ type-out (type_no y (suc k)))
-
--- main: the file is document 01's layout, byte by byte
-
-pub file-out : (y : System) → y.typecount ≤ length y.types → file_of y ≡ file_out y
-unfolding file_of
-file-out y h = λ i. platform-out y i ++ (second-out y.second i ++ types-out y y.typecount h i)
+pub use Rattle.writer.proofs.BytesOfType.{four-out, platform-out, second-out, type-out, types_more}
+pub use Rattle.writer.proofs.BytesOfFile.{file-out}
 
 -- main: sizes
 

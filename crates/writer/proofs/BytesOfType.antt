@@ -1,0 +1,74 @@
+-- A type's bytes, and each field's, are the layout's of document 01. A number's four bytes agree as quotients and remainders.
+use Prim.Native.Nat.{ℕ, ◌+◌, ◌-◌, ◌/◌, ◌%◌}
+use mathlib.Core.Path.{◌≡◌, refl, sym, ap, ◌∙◌}
+use mathlib.Core.List.{List, [], ◌∷◌, ◌++◌, append-nil, append_assoc}
+use mathlib.Core.Bool.{false, cond, and-true}
+use native.Mathlib.Omega.{arith}
+use lib.Dec.{eqb}
+use Rattle.buffer.specs.Bytes.{bytes4}
+use Rattle.system.specs.declared.Most.{Most}
+use Rattle.system.specs.declared.Most.TheVariants.{NotGiven, AtMost}
+use Rattle.system.specs.declared.Pace.{Pace}
+use Rattle.system.specs.declared.Pace.TheVariants.{Unpaced, Paced}
+use Rattle.system.specs.declared.There.{There}
+use Rattle.system.specs.declared.There.TheVariants.{Absent, Takes}
+use Rattle.system.specs.declared.Second.{Second}
+use Rattle.system.specs.declared.Second.TheVariants.{OneKind, TwoKinds}
+use Rattle.system.specs.declared.TaskType.{TaskType}
+use Rattle.system.specs.declared.System.{System}
+use Rattle.system.specs.Rules.{rule_of}
+use Rattle.writer.specs.File.{field_bytes, platform_bytes, second_bytes, data_bytes, most_bytes, pace_bytes, costs_bytes, type_bytes, types_bytes}
+use Rattle.writer.specs.Meaning.{two_out, four_out, platform_out, second_out, data_out, most_out, pace_out, costs_out, type_out}
+
+-- intermediate: one field
+
+pub four-out : (n : ℕ) → bytes4 n ≡ four_out n
+four-out n =
+    let first : n / 65536 / 256 ≡ n / 16777216 = omega arith in
+    let third : n % 65536 / 256 ≡ n / 256 % 256 = omega arith in
+    let last : n % 65536 % 256 ≡ n % 256 = omega arith in
+    λ i. first i ∷ (n / 65536 % 256) ∷ third i ∷ last i ∷ []
+
+pub platform-out : (y : System) → platform_bytes y ≡ platform_out y
+unfolding field_bytes rule_of
+platform-out y = λ i. 1 ∷ 0 ∷ 10 ∷ y.engines ∷ y.rule ∷ (four-out y.timecap i ++ four-out y.memorycap i)
+
+data-out : (d : ℕ) → data_bytes d ≡ data_out false d
+unfolding field_bytes rule_of
+data-out d = λ i. cond (sym (and-true (eqb d 0)) i) [] (3 ∷ 0 ∷ 4 ∷ four-out d i)
+
+most-out : (m : Most) → most_bytes m ≡ most_out m
+unfolding field_bytes rule_of
+most-out NotGiven = refl
+most-out (AtMost q) = refl
+
+pace-out : (p : Pace) → pace_bytes p ≡ pace_out p
+unfolding field_bytes rule_of
+pace-out Unpaced = refl
+pace-out (Paced c) = λ i. 5 ∷ 0 ∷ 8 ∷ (four-out c.run i ++ four-out c.period i)
+
+pub second-out : (s : Second) → second_bytes s ≡ second_out s
+unfolding field_bytes rule_of
+second-out OneKind = refl
+second-out (TwoKinds k) = λ i. 6 ∷ 0 ∷ 9 ∷ k.number ∷ (four-out k.timecap i ++ four-out k.memorycap i)
+
+costs-out : (c : There) → costs_bytes c ≡ costs_out c
+unfolding field_bytes rule_of
+costs-out Absent = refl
+costs-out (Takes c) = λ i. 7 ∷ 0 ∷ 8 ∷ (four-out c.time i ++ four-out c.memory i)
+
+pub type-out : (t : TaskType) → type_bytes t ≡ type_out false t
+unfolding field_bytes rule_of
+type-out t =
+    λ i. 2 ∷ 0 ∷ 10 ∷ (four-out t.time i ++ (four-out t.memory i ++ (two_out t.ceiling ++ (data-out t.data i ++ (most-out t.most i ++ (pace-out t.pace i ++ costs-out t.there i))))))
+
+-- intermediate: one type more
+
+types-append : (a b : List TaskType) → types_bytes (a ++ b) ≡ types_bytes a ++ types_bytes b
+unfolding types_bytes
+types-append [] b = refl
+types-append (t ∷ a) b = ap (λ (l : List ℕ). type_bytes t ++ l) (types-append a b) ∙ sym (append_assoc (type_bytes t) (types_bytes a) (types_bytes b))
+
+pub types_more : (ts : List TaskType) (t : TaskType) → types_bytes (ts ++ (t ∷ [])) ≡ types_bytes ts ++ type_bytes t
+unfolding types_bytes
+types_more ts t = types-append ts (t ∷ []) ∙ ap (λ (l : List ℕ). types_bytes ts ++ l) (append-nil (type_bytes t))
