@@ -1,11 +1,11 @@
 -- `best_split`: the answers.
 use Prim.Native.Nat.{◌+◌, ◌-◌, ◌≤◌}
 use mathlib.Core.Path.{◌≡◌, refl, ◌∙◌}
-use mathlib.Core.Logic.{⊎_elim}
 use native.Mathlib.Omega.{arith}
 use Rattle.partition.specs.Kinds.{least_at}
 use Rattle.kinds.specs.Inner.{cost_at}
 use Rattle.kinds.proofs.Splits.{turn-taken, turn-left}
+use Rattle.kinds_code.proofs.split.best_split.Goals.{then-cost-least, else-cost-least}
 use Rattle.kinds_code.proofs.split.best_split.Goals as goal
 
 pub cost_at-least-requires : goal.cost_at-least-requires
@@ -27,9 +27,10 @@ loop-p-preserved c =
     let cost = cost_at start.rows.now start.rows2.now start.last start.m start.n in
     let now = c.cost_at-cost in
     let turned : (c.if-cost-least.best ≡ least_at cost (here.p + 1)) × (c.if-cost-least.least ≡ cost c.if-cost-least.best) =
-    ⊎_elim (λ w. turn-taken cost here.p here.best here.least now.result c.if-cost-least.best c.if-cost-least.least here.invariant.1 here.invariant.2 now.ensures w.0.taken w.1 w.2)
-    (λ w. turn-left cost here.p here.best here.least now.result c.if-cost-least.best c.if-cost-least.least here.invariant.1 here.invariant.2 now.ensures w.0.left w.1 w.2)
-    c.if-cost-least.branch in
+        elim c.if-cost-least.branch [
+          | then-cost-least w ↦ turn-taken cost here.p here.best here.least now.result c.if-cost-least.best c.if-cost-least.least here.invariant.1 here.invariant.2 now.ensures w.if-cost-least.true w.best-is w.least-is
+          | else-cost-least w ↦ turn-left cost here.p here.best here.least now.result c.if-cost-least.best c.if-cost-least.least here.invariant.1 here.invariant.2 now.ensures w.if-cost-least.false w.best-is w.least-is
+        ] in
     (omega arith, turned.0, turned.1)
 
 pub returns : goal.returns
