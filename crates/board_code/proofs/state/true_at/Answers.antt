@@ -1,10 +1,9 @@
 -- The test of the branch picks the case of the definition.
 use borrow.Author.Tests.{lt-ltb, le-ltb}
-use borrow.Author.Rules.{rules}
 use Rattle.board_code.proofs.state.true_at.Goals as goal
 
 pub returns-then-i-y : goal.returns-then-i-y
-returns-then-i-y c = rw (lt-ltb _ _ c.if-i-y.taken) c.true_engine.ensures
+returns-then-i-y c = rw (lt-ltb _ _ c.if-i-y.true) c.true_engine.ensures
 
 pub returns : goal.returns
-returns c = rw (le-ltb _ _ c.if-i-y.left) c.zero_engine.ensures
+returns c = rw (le-ltb _ _ c.if-i-y.false) c.zero_engine.ensures

@@ -10,12 +10,16 @@ use Rattle.board.specs.Truth.{true_board}
 use Rattle.board.proofs.TrueMeans.{truth-told}
 use Rattle.board_code.proofs.state.true_board.Goals as goal
 
+both : {A B : Type 0} → A × B → record { value : A; variant : B }
+both p = record { value = p.0; variant = p.1 }
+
 pub returns : goal.returns
 unfolding true_board
 returns c =
     let b = c.args.b in
     let l : length b.loads ≡ 16 = search (rules, length-mapped) in
-    truth-told b _
+    both
+    (truth-told b _
     (rw (
       eq-eqb _ _ l,
       and-true (keeps_limits b.system),
@@ -24,4 +28,4 @@ returns c =
       c.under_ceilings.ensures,
       c.total-sum.ensures,
       c.true_marks.ensures,
-    ))
+    )))

@@ -1,9 +1,7 @@
 -- `engines_of`: the answers.
 use Prim.Native.Nat.{◌+◌, ◌-◌, ◌≤◌, ◌<◌}
 use mathlib.Core.Path.{◌≡◌, refl, sym, ap, ◌∙◌}
-use mathlib.Core.Logic.{⊎_elim}
 use native.Mathlib.Omega.{arith}
-use borrow.Author.Tests.{not-true, not-false}
 use lib.ListN.{length, take, length-set}
 use lib.Seq.{length-take-le}
 use Rattle.system.specs.Limits.{engine_limit}
@@ -11,6 +9,7 @@ use Rattle.partition.specs.Assignment.{passing, numbers_from, engines_to}
 use Rattle.board.specs.Boards.{engines_of}
 use Rattle.board.proofs.Steps.{free, engines-skip, engines-turn}
 use Rattle.board.proofs.Ready.{engines-most}
+use Rattle.board_code.proofs.work.engines_of.Goals.{then-not-marks-i, else-not-marks-i}
 use Rattle.board_code.proofs.work.engines_of.Goals as goal
 
 pub loop-i-init : goal.loop-i-init
@@ -40,22 +39,22 @@ loop-i-preserved c =
     let here = c.loop-i in
     let b = c.args.b in
     let small : here.count < length here.numbers = omega (arith, c.loop-i-test.true, here.invariant.1, here.invariant.2, here.invariant.3) in
-    ⊎_elim
-    (λ h. (
-      omega arith,
-      here.invariant.1,
-      omega (arith, h.2, here.invariant.2),
-      ap length h.1 ∙ length-set here.numbers here.count (here.i + 1) ∙ here.invariant.3,
-      rw (h.1, h.2) (engines-turn b.marks here.i here.numbers here.count (not-true _ h.0.taken) small here.invariant.4),
-    ))
-    (λ h. (
-      omega arith,
-      here.invariant.1,
-      omega (arith, h.2, here.invariant.2),
-      ap length h.1 ∙ here.invariant.3,
-      rw (h.1, h.2) (here.invariant.4 ∙ sym (engines-skip b.marks here.i (not-false _ h.0.left))),
-    ))
-    c.if-not-marks-i.branch
+    elim c.if-not-marks-i.branch [
+      | then-not-marks-i h ↦ (
+        omega arith,
+        here.invariant.1,
+        omega (arith, h.count-is, here.invariant.2),
+        ap length h.numbers-is ∙ length-set here.numbers here.count (here.i + 1) ∙ here.invariant.3,
+        rw (h.numbers-is, h.count-is) (engines-turn b.marks here.i here.numbers here.count h.if-not-marks-i.true small here.invariant.4),
+      )
+      | else-not-marks-i h ↦ (
+        omega arith,
+        here.invariant.1,
+        omega (arith, h.count-is, here.invariant.2),
+        ap length h.numbers-is ∙ here.invariant.3,
+        rw (h.numbers-is, h.count-is) (here.invariant.4 ∙ sym (engines-skip b.marks here.i h.if-not-marks-i.false)),
+      )
+    ]
 
 pub returns : goal.returns
 returns c =

@@ -1,5 +1,5 @@
 -- `first_engine`: the answers.
-use Prim.Native.Nat.{ℕ, ◌-◌, ◌≤◌, ◌<◌}
+use Prim.Native.Nat.{ℕ, ◌+◌, ◌-◌, ◌≤◌, ◌<◌}
 use mathlib.Core.Path.{◌≡◌, refl, sym, ap, subst, ◌∙◌}
 use mathlib.Core.List.{List}
 use mathlib.Core.Bool.{true, false}
@@ -9,9 +9,12 @@ use lib.Seq.{get_or-take}
 use Rattle.system.specs.Limits.{engine_limit}
 use Rattle.partition.specs.Assignment.{among}
 use Rattle.partition.proofs.Lists.{every-among, every-get_or}
+use Rattle.table.specs.declared.Engines.{Engines}
+use Rattle.table.specs.Chain.{listed}
 use Rattle.board.specs.declared.Board.{Board}
 use Rattle.board.specs.Boards.{engines_of}
 use Rattle.board.specs.declared.Place.TheVariants.{Engine}
+use Rattle.board.specs.Truth.{true_board}
 use Rattle.board.specs.Calls.{takes, first_of, first_engine}
 use Rattle.board.specs.Inner.{OnEngine}
 use Rattle.board.proofs.Places.{engines-count}
@@ -26,54 +29,58 @@ pub loop-i-init : goal.loop-i-init
 loop-i-init c = (omega arith, refl)
 
 -- the engine at index i
-module _ (c : tie.In-loop invariant-loop decreases-loop) where
-  abbrev start : tie.Start invariant-loop decreases-loop
-  start = c.before.before.before.before
-
-  abbrev b : Board
-  b = start.args.b
-
-  abbrev i : ℕ
-  i = c.before.loop.i
-
+module _ (b : Board) (h : true_board b ≡ true) (es : Engines) (i : ℕ) (count : es.count ≡ length (engines_of b)) (same : listed es ≡ engines_of b) (k : i < es.count) where
   small : i < length (engines_of b)
-  small = omega (arith, c.before.before.before.engines-of.ensures.0, c.before.loop.invariant.0)
+  small = omega (arith, count, k)
 
   few : i < engine_limit
-  few = omega (arith, small, engines-count b, engines-most b start.pre.is_true)
+  few = omega (arith, small, engines-count b, engines-most b h)
 
-  number : get_or c.before.before.before.engines-of.result.numbers i 0 ≡ get_or (engines_of b) i 0
-  number =
-      let found = c.before.before.before.engines-of in
-      sym (get_or-take found.result.count found.result.numbers i 0 (omega (arith, small, found.ensures.0))) ∙ ap (λ (l : List ℕ). get_or l i 0) found.ensures.1
+  number : get_or es.numbers i 0 ≡ get_or (engines_of b) i 0
+  number = sym (get_or-take es.count es.numbers i 0 k) ∙ ap (λ (l : List ℕ). get_or l i 0) same
+
+  on : OnEngine b (get_or es.numbers i 0)
+  on = subst (OnEngine b) (sym number) (on-engine b h (get_or (engines_of b) i 0) (every-get_or (among (engines_of b)) (engines_of b) 0 i (every-among (engines_of b)) small))
+
+  module _ (t : ℕ) where
+    stop : takes b t (get_or es.numbers i 0) ≡ true → first_of (takes b t) (drop i (engines_of b)) ≡ first_engine b t → Engine (get_or es.numbers i 0) ≡ first_engine b t
+    stop q inv = ap Engine number ∙ sym (first-stop (takes b t) (engines_of b) i small (ap (takes b t) (sym number) ∙ q)) ∙ inv
+
+    turn : takes b t (get_or es.numbers i 0) ≡ false → first_of (takes b t) (drop i (engines_of b)) ≡ first_engine b t
+        → first_of (takes b t) (drop (i + 1) (engines_of b)) ≡ first_engine b t
+    turn q inv = sym (first-turn (takes b t) (engines_of b) i small (ap (takes b t) (sym number) ∙ q)) ∙ inv
 
 pub offset_bounds-numbers-i : goal.offset_bounds-numbers-i
-offset_bounds-numbers-i c = omega (arith, few c)
+offset_bounds-numbers-i c =
+    let f = c.engines_of-engines in
+    omega (arith, few c.args.b c.requires.is_true f.result c.loop-i.i f.ensures.0 f.ensures.1 c.loop-i-test.true)
 
 pub bounds-numbers-i : goal.bounds-numbers-i
-bounds-numbers-i c = few c
+bounds-numbers-i c =
+    let f = c.engines_of-engines in
+    few c.args.b c.requires.is_true f.result c.loop-i.i f.ensures.0 f.ensures.1 c.loop-i-test.true
 
 pub takes_it-requires : goal.takes_it-requires
 takes_it-requires c =
-    let es = engines_of (b c) in
-    ((start c).requires, subst (OnEngine (b c)) (sym (number c)) (on-engine (b c) (start c).requires.is_true (get_or es (i c) 0) (every-get_or (among es) es 0 (i c) (every-among es) (small c))))
+    let f = c.engines_of-engines in
+    (c.requires, on c.args.b c.requires.is_true f.result c.loop-i.i f.ensures.0 f.ensures.1 c.loop-i-test.true)
 
 pub returns-then-takes_it : goal.returns-then-takes_it
 returns-then-takes_it c =
-    let d = c in
-    let p = takes (b d) (start d).args.t in
-    let takes_it : p (get_or (engines_of (b d)) (i d) 0) ≡ true = ap p (sym (number d)) ∙ sym c.takes_it.ensures ∙ c.if-takes_it.true in
-    ap Engine (number d) ∙ sym (first-stop p (engines_of (b d)) (i d) (small d) takes_it) ∙ d.loop-i.invariant.1
+    let f = c.engines_of-engines in
+    stop c.args.b c.requires.is_true f.result c.loop-i.i f.ensures.0 f.ensures.1 c.loop-i-test.true c.args.t (sym c.takes_it.ensures ∙ c.if-takes_it.true) c.loop-i.invariant.1
 
 pub overflow_step-i : goal.overflow_step-i
-overflow_step-i c = omega (arith, few c)
+overflow_step-i c =
+    let f = c.engines_of-engines in
+    omega (arith, few c.args.b c.requires.is_true f.result c.loop-i.i f.ensures.0 f.ensures.1 c.loop-i-test.true)
 
 pub loop-i-preserved : goal.loop-i-preserved
 loop-i-preserved c =
-    let d = c in
-    let p = takes (b d) (start d).args.t in
-    let not' : p (get_or (engines_of (b d)) (i d) 0) ≡ false = ap p (sym (number d)) ∙ sym c.takes_it.ensures ∙ c.if-takes_it.false in
-    (omega arith, sym (first-turn p (engines_of (b d)) (i d) (small d) not') ∙ d.loop-i.invariant.1)
+    let f = c.engines_of-engines in (
+      omega arith,
+      turn c.args.b c.requires.is_true f.result c.loop-i.i f.ensures.0 f.ensures.1 c.loop-i-test.true c.args.t (sym c.takes_it.ensures ∙ c.if-takes_it.false) c.loop-i.invariant.1,
+    )
 
 pub returns : goal.returns
 returns c =
