@@ -1,4 +1,5 @@
 -- The laws of crate `making`, in the order of their proofs.
+pub mod BitsShifted
 pub mod Bits
 pub mod Turns
 pub mod Made

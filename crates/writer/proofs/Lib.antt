@@ -13,6 +13,7 @@ pub mod Tests
 pub mod Ends
 pub mod Begun
 pub mod RuleByte
+pub mod OrderTests
 pub mod Order
 pub mod Promises
 pub mod Examples
