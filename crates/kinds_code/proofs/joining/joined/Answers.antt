@@ -1,5 +1,4 @@
 -- Both ways out are those of the definition: where both kinds place their part, the numbers are those of both (`both-numbers`).
-use mathlib.Core.Bool.{◌&&◌}
 use Rattle.kinds.specs.Inner.{joined_placement}
 use Rattle.kinds.proofs.Padded.{both-numbers}
 use Rattle.kinds_code.proofs.joining.joined.Goals as goal

@@ -1,11 +1,10 @@
 -- `loads_after`: the answers.
-use Prim.Native.Nat.{◌-◌, ◌≤◌}
 use mathlib.Core.Path.{◌≡◌}
 use mathlib.Core.List.{[]}
 use native.Mathlib.Omega.{arith}
 use borrow.Author.Rules.{rules}
 use lib.ListN.{length}
-use lib.Seq.{paste, paste-zero}
+use lib.Seq.{paste-zero}
 use Rattle.system.specs.Limits.{engine_limit}
 use Rattle.kinds.proofs.Padded.{paste_more}
 use Rattle.kinds_code.proofs.joining.loads_after.Goals as goal

@@ -1,13 +1,7 @@
 -- The loop's invariant: the first i of the loads are copied (lib.Seq's `paste`).
 use Prim.Native.Nat.{◌-◌, ◌≤◌}
 use mathlib.Core.Path.{◌≡◌}
-use mathlib.Core.List.{[]}
-use native.Mathlib.Omega.{arith}
-use borrow.Author.Rules.{rules}
-use lib.ListN.{length}
-use lib.Seq.{paste, paste-zero}
-use Rattle.system.specs.Limits.{engine_limit}
-use Rattle.kinds.proofs.Padded.{paste_more}
+use lib.Seq.{paste}
 use Rattle.kinds_code.proofs.joining.loads_after.Given as goal
 
 abbrev pub invariant-loop-i : goal.invariant-loop-i

@@ -1,5 +1,4 @@
 -- The idle engine in every place is that of the definition.
-use borrow.Author.Rules.{rules}
 use Rattle.kinds_code.proofs.joining.none_placed.Goals as goal
 
 pub returns : goal.returns

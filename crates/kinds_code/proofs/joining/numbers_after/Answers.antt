@@ -1,10 +1,9 @@
 -- `numbers_after`: the answers.
-use Prim.Native.Nat.{◌-◌, ◌≤◌}
 use mathlib.Core.Path.{◌≡◌, ◌∙◌}
 use native.Mathlib.Omega.{arith}
 use borrow.Author.Rules.{rules}
 use lib.ListN.{length}
-use lib.Seq.{paste, paste-zero}
+use lib.Seq.{paste-zero}
 use Rattle.system.specs.Limits.{engine_limit}
 use Rattle.partition.specs.Assignment.{numbers_from}
 use Rattle.partition.proofs.Lists.{length-numbers_from}

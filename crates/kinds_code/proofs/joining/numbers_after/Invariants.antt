@@ -1,14 +1,8 @@
 -- The loop's invariant: the first i of the numbers are in their places (lib.Seq's `paste`).
 use Prim.Native.Nat.{◌-◌, ◌≤◌}
-use mathlib.Core.Path.{◌≡◌, ◌∙◌}
-use native.Mathlib.Omega.{arith}
-use borrow.Author.Rules.{rules}
-use lib.ListN.{length}
-use lib.Seq.{paste, paste-zero}
-use Rattle.system.specs.Limits.{engine_limit}
+use mathlib.Core.Path.{◌≡◌}
+use lib.Seq.{paste}
 use Rattle.partition.specs.Assignment.{numbers_from}
-use Rattle.partition.proofs.Lists.{length-numbers_from}
-use Rattle.kinds.proofs.Padded.{paste_more, get_or-numbers_from}
 use Rattle.kinds_code.proofs.joining.numbers_after.Given as goal
 
 abbrev pub invariant-loop-i : goal.invariant-loop-i

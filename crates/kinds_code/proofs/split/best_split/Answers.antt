@@ -1,5 +1,5 @@
 -- `best_split`: the answers.
-use Prim.Native.Nat.{◌+◌, ◌-◌, ◌≤◌}
+use Prim.Native.Nat.{◌+◌}
 use mathlib.Core.Path.{◌≡◌, refl, ◌∙◌}
 use native.Mathlib.Omega.{arith}
 use Rattle.partition.specs.Kinds.{least_at}
@@ -27,10 +27,10 @@ loop-p-preserved c =
     let cost = cost_at start.rows.now start.rows2.now start.last start.m start.n in
     let now = c.cost_at-cost in
     let turned : (c.if-cost-least.best ≡ least_at cost (here.p + 1)) × (c.if-cost-least.least ≡ cost c.if-cost-least.best) =
-        elim c.if-cost-least.branch [
-          | then-cost-least w ↦ turn-taken cost here.p here.best here.least now.result c.if-cost-least.best c.if-cost-least.least here.invariant.1 here.invariant.2 now.ensures w.if-cost-least.true w.best-is w.least-is
-          | else-cost-least w ↦ turn-left cost here.p here.best here.least now.result c.if-cost-least.best c.if-cost-least.least here.invariant.1 here.invariant.2 now.ensures w.if-cost-least.false w.best-is w.least-is
-        ] in
+    elim c.if-cost-least.branch [
+      | then-cost-least w ↦ turn-taken cost here.p here.best here.least now.result c.if-cost-least.best c.if-cost-least.least here.invariant.1 here.invariant.2 now.ensures w.if-cost-least.true w.best-is w.least-is
+      | else-cost-least w ↦ turn-left cost here.p here.best here.least now.result c.if-cost-least.best c.if-cost-least.least here.invariant.1 here.invariant.2 now.ensures w.if-cost-least.false w.best-is w.least-is
+    ] in
     (omega arith, turned.0, turned.1)
 
 pub returns : goal.returns

@@ -1,11 +1,8 @@
 -- The loop's invariant: the best of the columns before p, with its cost.
 use Prim.Native.Nat.{◌+◌, ◌-◌, ◌≤◌}
-use mathlib.Core.Path.{◌≡◌, refl, ◌∙◌}
-use mathlib.Core.Logic.{⊎_elim}
-use native.Mathlib.Omega.{arith}
+use mathlib.Core.Path.{◌≡◌}
 use Rattle.partition.specs.Kinds.{least_at}
 use Rattle.kinds.specs.Inner.{cost_at}
-use Rattle.kinds.proofs.Splits.{turn-taken, turn-left}
 use Rattle.kinds_code.proofs.split.best_split.Given as goal
 
 abbrev pub invariant-loop-p : goal.invariant-loop-p
