@@ -3,7 +3,6 @@ use Prim.Native.Nat.{ℕ}
 use mathlib.Core.Path.{◌≡◌, ap, ap₂, subst, sym, ◌∙◌}
 use mathlib.Core.List.{List}
 use mathlib.Core.Bool.{true, false}
-use borrow.Author.Rules.{rules}
 use Rattle.system.specs.Values.{ceilings_of}
 use Rattle.loads.specs.Load.{within}
 use Rattle.partition.specs.Lent.{Lent, lent}
