@@ -1,13 +1,11 @@
 -- `added`: the answers.
-use Prim.Native.Nat.{ℕ, ◌+◌, ◌-◌, ◌≤◌}
+use Prim.Native.Nat.{◌+◌}
 use mathlib.Core.Path.{◌≡◌, refl, sym, ◌∙◌}
-use mathlib.Core.List.{◌++◌}
-use lib.ListN.{length, get_or, take, drop, length-set}
+use lib.ListN.{length, get_or, drop, length-set}
 use native.Mathlib.Omega.{arith}
 use mir.Syntax.{w16}
 use mir.Val.{Fits}
 use borrow.Author.Rules.{rules}
-use Rattle.loads.specs.Load.{plus}
 use Rattle.loads.proofs.Steps.{filled-turn, filled-end}
 use Rattle.board.proofs.Steps.{plus_turn, plus-end, set-le}
 use Rattle.board_code.proofs.state.added.Goals as goal

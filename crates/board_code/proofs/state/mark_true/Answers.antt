@@ -1,7 +1,6 @@
 -- The mark decides; where it is set, the engine's number and its load do.
 use mathlib.Core.Path.{◌≡◌, sym, ◌∙◌}
 use mathlib.Core.Bool.{true, false}
-use borrow.Author.Rules.{rules}
 use Rattle.board.specs.Boards.{marked}
 use Rattle.board_code.proofs.state.mark_true.Goals as goal
 

@@ -1,8 +1,8 @@
 -- `narrowed`: the answers.
-use Prim.Native.Nat.{◌-◌, ◌+◌, ◌≤◌}
+use Prim.Native.Nat.{◌+◌}
 use mathlib.Core.Path.{◌≡◌, refl, sym, ◌∙◌}
-use mathlib.Core.List.{◌∷◌, ◌++◌}
-use lib.ListN.{length, get_or, take, drop, length-set, drop_of_length-le}
+use mathlib.Core.List.{◌∷◌}
+use lib.ListN.{length, get_or, drop, length-set, drop_of_length-le}
 use lib.Seq.{drop-cons}
 use native.Mathlib.Numerals.{add-one}
 use native.Mathlib.Omega.{arith}

@@ -1,13 +1,8 @@
 -- The loop's invariant: the counts made, followed by the totals left, are the totals.
-use Prim.Native.Nat.{◌-◌, ◌+◌, ◌≤◌}
-use mathlib.Core.Path.{◌≡◌, refl, sym, ◌∙◌}
-use mathlib.Core.List.{◌∷◌, ◌++◌}
-use lib.ListN.{length, get_or, take, drop, length-set, drop_of_length-le}
-use lib.Seq.{drop-cons}
-use native.Mathlib.Numerals.{add-one}
-use native.Mathlib.Omega.{arith}
-use borrow.Author.Rules.{rules}
-use Rattle.loads.proofs.Steps.{filled-turn, filled-end}
+use Prim.Native.Nat.{◌-◌, ◌≤◌}
+use mathlib.Core.Path.{◌≡◌}
+use mathlib.Core.List.{◌++◌}
+use lib.ListN.{length, take, drop}
 use Rattle.board_code.proofs.state.narrowed.Given as goal
 
 abbrev pub invariant-loop-t : goal.invariant-loop-t

@@ -4,7 +4,6 @@ use mathlib.Core.Path.{◌≡◌, ap, ◌∙◌}
 use mathlib.Core.List.{List}
 use lib.ListN.{get_or}
 use native.Mathlib.Omega.{arith}
-use borrow.Author.Rules.{rules}
 use Rattle.board.specs.Boards.{standing}
 use Rattle.board.proofs.Ready.{standing-small}
 use Rattle.board_code.proofs.state.standing_counts.Goals as goal

@@ -1,10 +1,9 @@
 -- `total`: the answers.
-use Prim.Native.Nat.{ℕ, ◌+◌, ◌-◌, ◌*◌, ◌≤◌}
+use Prim.Native.Nat.{ℕ, ◌+◌, ◌-◌}
 use mathlib.Core.Path.{◌≡◌, sym, ap, ◌∙◌}
-use lib.ListN.{length, get_or, drop}
+use lib.ListN.{length, drop}
 use native.Mathlib.Omega.{arith}
 use borrow.Author.Rules.{rules}
-use Rattle.board.specs.Boards.{standing_of}
 use Rattle.board.proofs.Steps.{get_or-zeros, standing-turn, standing-end}
 use Rattle.board_code.proofs.state.total.Goals as goal
 

@@ -1,11 +1,8 @@
 -- The loop's invariant: the sum so far is what stands on the engines from i on, at most a largest count for each.
-use Prim.Native.Nat.{ℕ, ◌+◌, ◌-◌, ◌*◌, ◌≤◌}
-use mathlib.Core.Path.{◌≡◌, sym, ap, ◌∙◌}
-use lib.ListN.{length, get_or, drop}
-use native.Mathlib.Omega.{arith}
-use borrow.Author.Rules.{rules}
+use Prim.Native.Nat.{ℕ, ◌-◌, ◌*◌, ◌≤◌}
+use mathlib.Core.Path.{◌≡◌}
+use lib.ListN.{get_or, drop}
 use Rattle.board.specs.Boards.{standing_of}
-use Rattle.board.proofs.Steps.{get_or-zeros, standing-turn, standing-end}
 use Rattle.board_code.proofs.state.total.Given as goal
 
 abbrev pub invariant-loop-i : goal.invariant-loop-i

@@ -10,6 +10,7 @@ use Rattle.board.specs.Truth.{true_board}
 use Rattle.board.proofs.TrueMeans.{truth-told}
 use Rattle.board_code.proofs.state.true_board.Goals as goal
 
+-- a promise of two clauses, from the pair
 both : {A B : Type 0} → A × B → record { value : A; variant : B }
 both p = record { value = p.0; variant = p.1 }
 

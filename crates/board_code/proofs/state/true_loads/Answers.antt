@@ -1,5 +1,5 @@
 -- `true_loads`: the answers.
-use Prim.Native.Nat.{◌-◌, ◌≤◌}
+use Prim.Native.Nat.{◌-◌}
 use mathlib.Core.Path.{◌≡◌, sym, ◌∙◌}
 use mathlib.Core.Bool.{◌&&◌, and-true}
 use lib.ListN.{length, drop}

@@ -1,13 +1,9 @@
 -- The loop's invariant: the engines passed are as they have to be and those left are, exactly when all are.
 use Prim.Native.Nat.{◌-◌, ◌≤◌}
-use mathlib.Core.Path.{◌≡◌, sym, ◌∙◌}
-use mathlib.Core.Bool.{◌&&◌, and-true}
-use lib.ListN.{length, drop}
-use native.Mathlib.Nat.{sub-zero}
-use native.Mathlib.Omega.{arith}
-use borrow.Author.Rules.{rules}
+use mathlib.Core.Path.{◌≡◌}
+use mathlib.Core.Bool.{◌&&◌}
+use lib.ListN.{drop}
 use Rattle.board.specs.Truth.{true_loads}
-use Rattle.board.proofs.Steps.{and-turn, true-turn, true-end}
 use Rattle.board_code.proofs.state.true_loads.Given as goal
 
 abbrev pub invariant-loop-i : goal.invariant-loop-i

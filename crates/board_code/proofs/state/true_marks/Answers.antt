@@ -1,5 +1,5 @@
 -- `true_marks`: the answers.
-use Prim.Native.Nat.{◌+◌, ◌-◌, ◌≤◌}
+use Prim.Native.Nat.{◌+◌, ◌-◌}
 use mathlib.Core.Path.{◌≡◌, refl, sym, ◌∙◌}
 use mathlib.Core.Bool.{◌&&◌, and-true}
 use native.Mathlib.Omega.{arith}

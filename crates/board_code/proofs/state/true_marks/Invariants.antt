@@ -1,14 +1,9 @@
 -- The loop's invariant: the marks passed are as they have to be and those left are, exactly when all are.
 use Prim.Native.Nat.{◌+◌, ◌-◌, ◌≤◌}
-use mathlib.Core.Path.{◌≡◌, refl, sym, ◌∙◌}
-use mathlib.Core.Bool.{◌&&◌, and-true}
-use native.Mathlib.Omega.{arith}
-use borrow.Author.Rules.{rules}
-use borrow.Author.Tests.{eq-eqb}
-use lib.ListN.{length}
+use mathlib.Core.Path.{◌≡◌}
+use mathlib.Core.Bool.{◌&&◌}
 use Rattle.partition.specs.Assignment.{every, numbers_from, engines_to}
-use Rattle.board.specs.Truth.{mark_true, true_marks}
-use Rattle.board.proofs.Steps.{and-turn, marks-turn, marks-end}
+use Rattle.board.specs.Truth.{mark_true}
 use Rattle.board_code.proofs.state.true_marks.Given as goal
 
 abbrev pub invariant-loop-i : goal.invariant-loop-i

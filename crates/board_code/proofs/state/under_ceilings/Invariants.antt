@@ -1,13 +1,10 @@
 -- The loop's invariant: the totals passed are under their ceilings and those left are, exactly when all are.
 use Prim.Native.Nat.{◌-◌, ◌≤◌}
-use mathlib.Core.Path.{◌≡◌, refl, sym, ◌∙◌}
-use mathlib.Core.Bool.{◌&&◌, and_assoc, and-true}
-use lib.ListN.{length, drop}
-use native.Mathlib.Omega.{arith}
-use borrow.Author.Rules.{rules}
+use mathlib.Core.Path.{◌≡◌}
+use mathlib.Core.Bool.{◌&&◌}
+use lib.ListN.{drop}
 use Rattle.loads.specs.Load.{within}
 use Rattle.loads.proofs.Steps.{ceilings}
-use Rattle.board.proofs.Steps.{within-turn, within_end}
 use Rattle.board_code.proofs.state.under_ceilings.Given as goal
 
 abbrev pub invariant-loop-t : goal.invariant-loop-t

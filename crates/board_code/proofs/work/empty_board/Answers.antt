@@ -2,7 +2,6 @@
 use mathlib.Core.Path.{ap}
 use mathlib.Core.Bool.{false}
 use lib.ListN.{replicate}
-use borrow.Author.Rules.{rules}
 use Rattle.loads.specs.declared.EngineLoad.{EngineLoad}
 use Rattle.board.specs.declared.Board.{Board}
 use Rattle.board_code.proofs.work.empty_board.Goals as goal

@@ -1,13 +1,12 @@
 -- `engines_of`: the answers.
-use Prim.Native.Nat.{◌+◌, ◌-◌, ◌≤◌, ◌<◌}
+use Prim.Native.Nat.{◌+◌, ◌<◌}
 use mathlib.Core.Path.{◌≡◌, refl, sym, ap, ◌∙◌}
 use native.Mathlib.Omega.{arith}
 use lib.ListN.{length, take, length-set}
 use lib.Seq.{length-take-le}
-use Rattle.system.specs.Limits.{engine_limit}
-use Rattle.partition.specs.Assignment.{passing, numbers_from, engines_to}
+use Rattle.partition.specs.Assignment.{passing, numbers_from}
 use Rattle.board.specs.Boards.{engines_of}
-use Rattle.board.proofs.Steps.{free, engines-skip, engines-turn}
+use Rattle.board.proofs.Steps.{engines-skip, engines-turn}
 use Rattle.board.proofs.Ready.{engines-most}
 use Rattle.board_code.proofs.work.engines_of.Goals.{then-not-marks-i, else-not-marks-i}
 use Rattle.board_code.proofs.work.engines_of.Goals as goal

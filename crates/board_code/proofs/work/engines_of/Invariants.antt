@@ -1,16 +1,10 @@
 -- The loop's invariant: the numbers written are those of the engines in service of 1 to i.
-use Prim.Native.Nat.{◌+◌, ◌-◌, ◌≤◌, ◌<◌}
-use mathlib.Core.Path.{◌≡◌, refl, sym, ap, ◌∙◌}
-use mathlib.Core.Logic.{⊎_elim}
-use native.Mathlib.Omega.{arith}
-use borrow.Author.Tests.{not-true, not-false}
-use lib.ListN.{length, take, length-set}
-use lib.Seq.{length-take-le}
+use Prim.Native.Nat.{◌-◌, ◌≤◌}
+use mathlib.Core.Path.{◌≡◌}
+use lib.ListN.{length, take}
 use Rattle.system.specs.Limits.{engine_limit}
-use Rattle.partition.specs.Assignment.{passing, numbers_from, engines_to}
-use Rattle.board.specs.Boards.{engines_of}
-use Rattle.board.proofs.Steps.{free, engines-skip, engines-turn}
-use Rattle.board.proofs.Ready.{engines-most}
+use Rattle.partition.specs.Assignment.{passing, engines_to}
+use Rattle.board.proofs.Steps.{free}
 use Rattle.board_code.proofs.work.engines_of.Given as goal
 
 abbrev pub invariant-loop-i : goal.invariant-loop-i

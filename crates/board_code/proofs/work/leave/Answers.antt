@@ -1,7 +1,6 @@
 -- A load with one instance less fits where the load did.
 use Prim.Native.Nat.{◌-◌}
 use mathlib.Core.Path.{refl, ap, ◌∙◌}
-use borrow.Author.Rules.{rules}
 use Rattle.loads.specs.Load.{fits_engine}
 use Rattle.loads.proofs.Laws.{fits-one-less}
 use Rattle.board.specs.Boards.{load_at, with_load}

@@ -1,6 +1,5 @@
 -- The load with the newcomer, tested.
 use mathlib.Core.Path.{ap, ◌∙◌}
-use borrow.Author.Rules.{rules}
 use Rattle.loads.specs.Load.{fits_engine}
 use Rattle.board_code.proofs.work.takes_it.Goals as goal
 

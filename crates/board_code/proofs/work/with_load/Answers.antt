@@ -2,7 +2,6 @@
 use Prim.Native.Nat.{◌-◌}
 use mathlib.Core.Path.{ap}
 use lib.ListN.{set}
-use borrow.Author.Rules.{rules}
 use Rattle.loads.specs.declared.EngineLoad.{EngineLoad}
 use Rattle.board.specs.declared.Board.{Board}
 use Rattle.board_code.proofs.work.with_load.Goals as goal
