@@ -1,39 +1,36 @@
 -- Refused by the checks, or the engine goes out of service.
-use mathlib.Core.Path.{◌≡◌, refl, ap, sym, ◌∙◌}
+use mathlib.Core.Path.{refl, ap, sym, ◌∙◌}
 use mathlib.Core.List.{[]}
-use borrow.Author.Rules.{rules}
-use Rattle.system.specs.Outcome.{outcome_of, passes, checked_of}
+use Rattle.system.specs.Outcome.{outcome_of, checked_of}
 use Rattle.partition.specs.Lent.{lent}
 use Rattle.board.specs.Calls.{check_withdraw, withdraw_of}
 use Rattle.board.proofs.Ready.{engine-in}
 use Rattle.board.proofs.Exits.{checks-fail, checks-pass, withdraw-passed}
 use Rattle.board.proofs.Promises.{withdraw-promises}
-use Rattle.board_code.proofs.calls.withdraw.Goals.{After-move_engine, In_default}
 use Rattle.board_code.proofs.calls.withdraw.Goals as goal
-
-passed : (c : In_default) → passes ≡ check_withdraw c.args.b c.args.e
-passed c = ap checked_of (sym c.in_default.is) ∙ c.check_withdraw-check.ensures
-
-passed-2 : (c : After-move_engine) → passes ≡ check_withdraw c.args.b c.args.e
-passed-2 c = ap checked_of (sym c.in_default.is) ∙ c.check_withdraw-check.ensures
 
 pub returns-in-Fails : goal.returns-in-Fails
 unfolding withdraw_of
 returns-in-Fails c =
     let a = c.args in
-    withdraw-promises a.b a.e _
-    (checks-fail a.b (lent [] []) _ c.refuse.result (check_withdraw a.b a.e) c.in-Fails.why
-    (ap checked_of (sym c.in-Fails.is) ∙ c.check_withdraw-check.ensures)
-    c.refuse.ensures.0
-    c.refuse.ensures.1)
+    let p = withdraw-promises a.b a.e c.refuse.result
+      (checks-fail a.b (lent [] []) _ c.refuse.result (check_withdraw a.b a.e) c.in-Fails.why
+      (ap checked_of (sym c.in-Fails.is) ∙ c.check_withdraw-check.ensures)
+      c.refuse.ensures.0
+      c.refuse.ensures.1) in
+    record { does = p.0; withdraw_promises = p.1 }
 
 pub move_engine-requires : goal.move_engine-requires
-move_engine-requires c = let on = withdraw-passed _ _ (passed c) in engine-in _ on.is_true _ on.known
+move_engine-requires c =
+    let on = withdraw-passed c.args.b c.args.e (ap checked_of (sym c.in_default.is) ∙ c.check_withdraw-check.ensures) in
+    engine-in _ on.is_true _ on.known
 
 pub returns : goal.returns
 unfolding withdraw_of
 returns c =
     let a = c.args in
-    withdraw-promises a.b a.e _
-    (checks-pass a.b (lent [] []) _ c.move_engine.result (check_withdraw a.b a.e) (lent [] []) (passed-2 c)
-    (record { answer = ap outcome_of c.move_engine.ensures.0; board = c.move_engine.ensures.1; table = refl }))
+    let p = withdraw-promises a.b a.e c.move_engine.result
+      (checks-pass a.b (lent [] []) _ c.move_engine.result (check_withdraw a.b a.e) (lent [] [])
+      (ap checked_of (sym c.in_default.is) ∙ c.check_withdraw-check.ensures)
+      (record { answer = ap outcome_of c.move_engine.ensures.0; board = c.move_engine.ensures.1; table = refl })) in
+    record { does = p.0; withdraw_promises = p.1 }
