@@ -1,0 +1,90 @@
+-- `planner_code::plan_one`. Each way out is the one that the plan is defined to take there (the laws of Exits), from what the callees ensure of the file, of what is lent and of the placement;
+-- a plan that is the one defined keeps the demands.
+use mathlib.Core.Path.{◌≡◌, sym, ap, ◌∙◌}
+use mathlib.Core.Bool.{true}
+use mathlib.Core.List.{List}
+use Prim.Native.Nat.{ℕ}
+use borrow.Author.Tests.{not-true, not-false}
+use Rattle.system.specs.declared.Answer.TheVariants.{Accepted}
+use Rattle.system.specs.declared.System.{System}
+use Rattle.system.specs.declared.Opened.{Opened}
+use Rattle.system.specs.Values.{ceilings_of}
+use Rattle.system.specs.Limits.{keeps_limits}
+use Rattle.system.specs.Layout.{opened, read_file, Reads}
+use Rattle.system.specs.Outcome.{passes, checked_of}
+use Rattle.system.proofs.Laws.{limits_of, read-keeps-limits, reads-opened}
+use Rattle.loads.proofs.Order.{within-refl}
+use Rattle.partition.specs.Assignment.{numbers_from}
+use Rattle.partition.specs.Lent.{Lent, lent}
+use Rattle.table.specs.Table.{filled, placement}
+use Rattle.table.proofs.Placed.{may-place-on-all}
+use Rattle.planner.specs.Plan.{plan_engines, lent_check}
+use Rattle.planner.proofs.Exits.{unread-plans, lent-plans, none-plans, placed-plans}
+use Rattle.planner.proofs.Cases.{lent-passed}
+use Rattle.planner.proofs.Demands.{promises-of}
+use Rattle.planner_code.proofs.plan_one.Goals as goal
+
+pub returns-in_default : goal.returns-in_default
+returns-in_default c =
+    let r = c.read_system-read in
+    promises-of c.args.file.now _ _ _ _ (rw c.refused_plan.ensures
+    (unread-plans (read_file c.args.file.now) r.result r.ensures (lent c.args.rows.now c.args.predecessors.now) c.args.room c.in_default.not-Accepted))
+
+-- the file reads as the system, which keeps the limits
+module _ (file : List ℕ) (r : Opened) (reads : Reads (read_file file) r) (is-accepted : r.answer ≡ Accepted) where
+  is-opened : read_file file ≡ opened r.system
+  is-opened = reads-opened (read_file file) r reads is-accepted
+
+  keeps : keeps_limits r.system ≡ true
+  keeps = read-keeps-limits file r.system is-opened
+
+pub lent_check-check-requires : goal.lent_check-check-requires
+lent_check-check-requires c = (limits_of _ (keeps c.args.file.now c.read_system-read.result c.read_system-read.ensures c.in-Accepted.is)).columns
+
+-- 11 or 15
+pub returns-in-Fails : goal.returns-in-Fails
+returns-in-Fails c =
+    let file = c.args.file.now in
+    let r = c.read_system-read in
+    promises-of file _ _ _ _ (rw c.refused_plan-in-Fails.ensures
+    (lent-plans (read_file file) r.result.system (is-opened file r.result r.ensures c.in-Accepted.is) (lent c.args.rows.now c.args.predecessors.now) c.args.room c.in-Fails.why
+    (ap checked_of (sym c.in-Fails.is) ∙ c.lent_check-check.ensures)))
+
+pub engines_to-engines-requires : goal.engines_to-engines-requires
+engines_to-engines-requires c = (limits_of _ (keeps c.args.file.now c.read_system-read.result c.read_system-read.ensures c.in-Accepted.is)).engines
+
+pub place-placement-requires : goal.place-placement-requires
+place-placement-requires c =
+    let r = c.read_system-read in
+    let y = r.result.system in
+    let parts = lent c.args.rows.now c.args.predecessors.now in
+    let engines = c.engines_to-engines.ensures in
+    let passed = ap checked_of (sym c.in_default-check.is) ∙ c.lent_check-check.ensures in
+    may-place-on-all y _ _ parts (keeps c.args.file.now r.result r.ensures c.in-Accepted.is) engines.0 engines.1 (lent-passed y parts c.args.room passed).0
+    (rw c.ceilings_of.ensures (within-refl (ceilings_of y)))
+
+-- all instances are placed: what the table and the placement are
+pub returns-then-not-placement : goal.returns-then-not-placement
+returns-then-not-placement c =
+    let file = c.args.file.now in
+    let r = c.read_system-read in
+    let parts = lent c.args.rows.now c.args.predecessors.now in
+    let passed = ap checked_of (sym c.in_default-check.is) ∙ c.lent_check-check.ensures in
+    let p = c.place-placement in
+    let table_is = rw c.engines_to-engines.ensures.1 at p.ensures.0 in
+    let placement-is = rw (c.engines_to-engines.ensures.1, c.ceilings_of.ensures) at p.ensures.1 in
+    promises-of file _ _ _ _ (rw (c.refused_plan-then-not-placement.ensures, table_is)
+    (none-plans (read_file file) r.result.system (is-opened file r.result r.ensures c.in-Accepted.is) parts c.args.room passed _ placement-is (not-true _ c.if-not-placement.true)))
+
+pub returns : goal.returns
+unfolding numbers_from
+returns c =
+    let file = c.args.file.now in
+    let r = c.read_system-read in
+    let parts = lent c.args.rows.now c.args.predecessors.now in
+    let passed = ap checked_of (sym c.in_default-check.is) ∙ c.lent_check-check.ensures in
+    let p = c.place-placement in
+    let table_is = rw c.engines_to-engines.ensures.1 at p.ensures.0 in
+    let placement-is = rw (c.engines_to-engines.ensures.1, c.ceilings_of.ensures) at p.ensures.1 in
+    promises-of file _ _ _ _ (rw table_is
+    (placed-plans (read_file file) r.result.system (is-opened file r.result r.ensures c.in-Accepted.is) parts c.args.room passed _ placement-is (not-false _ c.if-not-placement.false)))

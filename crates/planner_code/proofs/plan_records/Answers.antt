@@ -1,0 +1,10 @@
+-- `planner_code::plan_records`: the plan of `plan_for`, with its numbers and loads as records.
+use mathlib.Core.Path.{ap₂, ◌∙◌}
+use borrow.Author.Rules.{rules}
+use Rattle.planner.specs.Plan.{records_with}
+use Rattle.planner_code.proofs.plan_records.Goals as goal
+
+pub returns : goal.returns
+returns c =
+    let p = c.plan_for-plan.ensures.whole in
+    record { answer = p.answers; used = p.uses; records = c.records_of-records.ensures ∙ ap₂ records_with p.numbers p.places; left = p.leaves_table }
