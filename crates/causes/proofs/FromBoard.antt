@@ -40,7 +40,7 @@ use Rattle.board.proofs.Places.{engines-distinct, engines-known, engines-count, 
 use Rattle.board.proofs.Plain.{more-out}
 use Rattle.board.proofs.Truth.{truth-of}
 use Rattle.board.proofs.TrueMeans.{stands-said, true-means}
-use Rattle.board.proofs.Means.{admit-means, seat-means}
+use Rattle.board.proofs.MeansTrue.{admit-means, seat-means}
 use Rattle.board.proofs.Order.{seat-in-order}
 use Rattle.board.proofs.Ready.{true-keeps, newcomer-range, newcomer-within}
 use Rattle.board.proofs.Promises.{only_one}
