@@ -1,0 +1,18 @@
+-- The loop's invariant: the totals passed are their ceilings and those left are, exactly when all are.
+use Prim.Native.Nat.{◌-◌, ◌≤◌}
+use mathlib.Core.Path.{◌≡◌, refl, sym, ◌∙◌}
+use mathlib.Core.Bool.{◌&&◌, and_assoc, and-true}
+use native.Mathlib.Omega.{arith}
+use lib.ListN.{length, drop}
+use lib.Dec.{eqb}
+use borrow.Author.Rules.{rules}
+use Rattle.loads.proofs.Steps.{ceilings}
+use Rattle.partition.specs.Listing.{same_list}
+use Rattle.sheets_code.proofs.Steps.{totals-turn, totals-end}
+use Rattle.sheets_code.proofs.checking.totals_match.Given as goal
+
+abbrev pub invariant-loop-t : goal.invariant-loop-t
+invariant-loop-t l = (l.t ≤ 6) × ((l.same && same_list eqb (drop l.t l.sum) (ceilings (drop l.t l.types))) ≡ same_list eqb l.sum (ceilings l.types))
+
+abbrev pub decreases-loop-t : goal.decreases-loop-t
+decreases-loop-t l = 6 - l.t
