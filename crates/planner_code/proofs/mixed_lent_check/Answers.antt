@@ -1,6 +1,5 @@
 -- A check of the table that failed is the answer, one that passed leaves it to the list.
 use mathlib.Core.Path.{sym, ap, ◌∙◌}
-use borrow.Author.Rules.{rules}
 use Rattle.system.specs.Outcome.{checked_of}
 use Rattle.system.proofs.Checks.{fails-and_then, passes-and_then}
 use Rattle.system.proofs.Laws.{card-of}

@@ -1,5 +1,4 @@
 -- What the core answers, with its records over the front of the list, is the plan into the list (`lists-call`): it uses no more engines than a system can have, nor than the list has records (`card-within`).
-use mathlib.Core.Path.{sym, ap, ◌∙◌}
 use native.Mathlib.Omega.{arith}
 use lib.ListN.{length}
 use Rattle.partition.specs.Lent.{lent}

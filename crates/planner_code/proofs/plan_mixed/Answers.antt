@@ -1,20 +1,12 @@
 -- `planner_code::plan_mixed`. Each way out is the one that the plan is defined to take there (the laws of MixedPlans), from what the callees ensure of what is lent, of the card's two systems and of the placement.
 use mathlib.Core.Path.{◌≡◌, sym, ap, ap₂, ◌∙◌}
-use mathlib.Core.Bool.{true, false}
-use Prim.Native.Nat.{ℕ}
-use mathlib.Core.List.{List}
 use borrow.Author.Tests.{not-true, not-false}
-use Rattle.system.specs.declared.Check.{Check}
-use Rattle.system.specs.declared.Check.TheVariants.{Passes}
-use Rattle.system.specs.declared.Kind.{Kind}
 use Rattle.system.specs.declared.System.{System}
-use Rattle.system.specs.Card.{first_of, second_of}
-use Rattle.system.specs.Outcome.{passes, checked_of}
+use Rattle.system.specs.Card.{first_of}
+use Rattle.system.specs.Outcome.{checked_of}
 use Rattle.partition.specs.Lent.{Lent, lent}
 use Rattle.table.specs.Table.{filled_to}
-use Rattle.kinds.specs.declared.Mixed.{Mixed}
-use Rattle.kinds.specs.Mixing.{MayMix, mixed_placement}
-use Rattle.planner.specs.Mixed.{mixed_lent_check, mixed_plan}
+use Rattle.kinds.specs.Mixing.{mixed_placement}
 use Rattle.planner.proofs.MixedPlans.{mixed-lent, may-mix, mixed-none, mixed-placed}
 use Rattle.planner_code.proofs.plan_mixed.Goals as goal
 

@@ -6,19 +6,16 @@ use mathlib.Core.List.{List}
 use Prim.Native.Nat.{ℕ}
 use borrow.Author.Tests.{not-true, not-false}
 use Rattle.system.specs.declared.Answer.TheVariants.{Accepted}
-use Rattle.system.specs.declared.System.{System}
 use Rattle.system.specs.declared.Opened.{Opened}
 use Rattle.system.specs.Values.{ceilings_of}
 use Rattle.system.specs.Limits.{keeps_limits}
 use Rattle.system.specs.Layout.{opened, read_file, Reads}
-use Rattle.system.specs.Outcome.{passes, checked_of}
+use Rattle.system.specs.Outcome.{checked_of}
 use Rattle.system.proofs.Laws.{limits_of, read-keeps-limits, reads-opened}
 use Rattle.loads.proofs.Order.{within-refl}
 use Rattle.partition.specs.Assignment.{numbers_from}
-use Rattle.partition.specs.Lent.{Lent, lent}
-use Rattle.table.specs.Table.{filled, placement}
+use Rattle.partition.specs.Lent.{lent}
 use Rattle.table.proofs.Placed.{may-place-on-all}
-use Rattle.planner.specs.Plan.{plan_engines, lent_check}
 use Rattle.planner.proofs.Exits.{unread-plans, lent-plans, none-plans, placed-plans}
 use Rattle.planner.proofs.Cases.{lent-passed}
 use Rattle.planner.proofs.Demands.{promises-of}

@@ -1,6 +1,5 @@
 -- `planner_code::plan_records`: the plan of `plan_for`, with its numbers and loads as records.
 use mathlib.Core.Path.{ap₂, ◌∙◌}
-use borrow.Author.Rules.{rules}
 use Rattle.planner.specs.Plan.{records_with}
 use Rattle.planner_code.proofs.plan_records.Goals as goal
 

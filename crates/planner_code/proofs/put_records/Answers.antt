@@ -3,7 +3,7 @@ use mathlib.Core.Path.{◌≡◌, refl, ◌∙◌}
 use native.Mathlib.Omega.{arith}
 use borrow.Author.Rules.{rules}
 use lib.ListN.{length}
-use Rattle.planner.proofs.Front.{front, length-front-of, set_front}
+use Rattle.planner.proofs.Front.{set_front}
 use Rattle.planner_code.proofs.put_records.Goals as goal
 
 pub loop-i-init : goal.loop-i-init

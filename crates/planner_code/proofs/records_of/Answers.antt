@@ -1,5 +1,4 @@
 -- `records_of`: the answers.
-use Prim.Native.Nat.{◌≤◌, ◌-◌}
 use native.Mathlib.Omega.{arith}
 use borrow.Author.Rules.{rules}
 use mathlib.Core.Path.{◌≡◌, refl, sym, ◌∙◌}
@@ -7,7 +6,7 @@ use mathlib.Core.List.{List, []}
 use lib.ListN.{length, get_or, replicate}
 use Rattle.planner.specs.declared.EngineRecord.{EngineRecord}
 use Rattle.planner.specs.Plan.{records_with}
-use Rattle.planner.proofs.Front.{front, front-all}
+use Rattle.planner.proofs.Front.{front-all}
 use Rattle.planner.proofs.Records.{length-records_with, set-record}
 use Rattle.planner_code.proofs.records_of.Goals as goal
 

@@ -1,14 +1,8 @@
 -- `planner_code::records_of`. The loop's invariant: the first i records have the first i numbers and loads, so that after the last turn all have.
 use Prim.Native.Nat.{◌≤◌, ◌-◌}
-use native.Mathlib.Omega.{arith}
-use borrow.Author.Rules.{rules}
-use mathlib.Core.Path.{◌≡◌, refl, sym, ◌∙◌}
-use mathlib.Core.List.{List, []}
-use lib.ListN.{length, get_or, replicate}
-use Rattle.planner.specs.declared.EngineRecord.{EngineRecord}
+use mathlib.Core.Path.{◌≡◌}
 use Rattle.planner.specs.Plan.{records_with}
-use Rattle.planner.proofs.Front.{front, front-all}
-use Rattle.planner.proofs.Records.{length-records_with, set-record}
+use Rattle.planner.proofs.Front.{front}
 use Rattle.planner_code.proofs.records_of.Given as goal
 
 abbrev pub invariant-loop-i : goal.invariant-loop-i

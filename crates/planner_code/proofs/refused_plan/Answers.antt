@@ -1,5 +1,4 @@
 -- `planner_code::refused_plan`: the numbers are 1 to 16, and every engine is the idle one.
-use borrow.Author.Rules.{rules}
 use Rattle.partition.specs.Assignment.{numbers_from}
 use Rattle.planner_code.proofs.refused_plan.Goals as goal
 
