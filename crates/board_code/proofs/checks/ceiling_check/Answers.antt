@@ -2,8 +2,8 @@
 use Prim.Native.Nat.{ℕ, ◌-◌, ◌<◌}
 use mathlib.Core.Path.{◌≡◌, ap, ap₂, sym, ◌∙◌}
 use mathlib.Core.List.{List}
+use mathlib.Core.Bool.{true}
 use native.Mathlib.Omega.{arith}
-use borrow.Author.Rules.{rules}
 use borrow.Author.Tests.{lt-ltb, le-ltb}
 use lib.ListN.{get_or, get_or-map}
 use lib.Dec.{ltb}
@@ -11,16 +11,13 @@ use Rattle.system.specs.declared.TaskType.{TaskType}
 use Rattle.system.specs.Values.{no_task}
 use Rattle.board.specs.declared.Board.{Board}
 use Rattle.board.specs.Boards.{standing}
-use Rattle.board.specs.Calls.{under_ceiling}
+use Rattle.board.specs.Truth.{true_board}
+use Rattle.board.specs.Calls.{known_type, under_ceiling}
 use Rattle.board.proofs.Ready.{type-range}
-use Rattle.board_code.proofs.checks.ceiling_check.Goals.{After-standing_counts-counts, After-types-1}
 use Rattle.board_code.proofs.checks.ceiling_check.Goals as goal
 
-in-range : (s : After-types-1) → s.args.t - 1 < 6
-in-range s = let r = type-range s.args.b s.requires.0 s.args.t s.requires.1 in omega arith
-
-in-range-2 : (s : After-standing_counts-counts) → s.args.t - 1 < 6
-in-range-2 s = let r = type-range s.args.b s.requires.0 s.args.t s.requires.1 in omega arith
+in-range : (b : Board) (t : ℕ) → true_board b ≡ true → known_type b.system t ≡ true → t - 1 < 6
+in-range b t h known = let r = type-range b h t known in omega arith
 
 -- the test of the code is that of the definition
 same_test : (b : Board) (t : ℕ) (counts : List ℕ) → counts ≡ standing b → ltb (get_or counts (t - 1) 0) (get_or b.system.types (t - 1) no_task).ceiling ≡ under_ceiling b t
@@ -30,16 +27,16 @@ pub overflow_sub-i : goal.overflow_sub-i
 overflow_sub-i c = (type-range c.args.b c.requires.0 c.args.t c.requires.1).0
 
 pub offset_bounds-types-i : goal.offset_bounds-types-i
-offset_bounds-types-i c = omega (arith, in-range c)
+offset_bounds-types-i c = omega (arith, in-range c.args.b c.args.t c.requires.0 c.requires.1)
 
 pub bounds-types-i : goal.bounds-types-i
-bounds-types-i c = in-range c
+bounds-types-i c = in-range c.args.b c.args.t c.requires.0 c.requires.1
 
 pub offset_bounds-counts-i : goal.offset_bounds-counts-i
-offset_bounds-counts-i c = omega (arith, in-range-2 c)
+offset_bounds-counts-i c = omega (arith, in-range c.args.b c.args.t c.requires.0 c.requires.1)
 
 pub bounds-counts-i : goal.bounds-counts-i
-bounds-counts-i c = in-range-2 c
+bounds-counts-i c = in-range c.args.b c.args.t c.requires.0 c.requires.1
 
 pub returns-then-counts-i : goal.returns-then-counts-i
 returns-then-counts-i c =
