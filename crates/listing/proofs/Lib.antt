@@ -4,4 +4,6 @@ pub mod Examples
 pub mod Numbers
 pub mod Lines
 pub mod Demands
+pub mod Tables
+pub mod TextOfFile
 pub mod Text
