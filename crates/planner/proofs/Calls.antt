@@ -31,7 +31,7 @@ use Rattle.planner.specs.Demands.{PlanPromises, entry_no}
 use Rattle.planner.specs.MixedDemands.{MixedPromises, PlanCall, MixedListHolds, MixedListPromises, ListCall}
 use Rattle.planner.specs.Inner.{Lists, TwoKindCard, MixedPlans}
 use Rattle.planner.proofs.Front.{front, length-front-of, get_or-front-new, get_or-front-old}
-use Rattle.planner.proofs.Records.{length-records_with, get_or-records_with, records-numbered}
+use Rattle.planner.proofs.Records.{load-of, length-records_with, get_or-records_with, records-numbered}
 use Rattle.planner.proofs.Demands.{Known, length-loads-of, few-of, verdict-same}
 use Rattle.planner.proofs.Listed.{list-promises-for, list_written}
 use Rattle.planner.proofs.MixedPlans.{can_mix, MixedCase, too_short, too_small, no_place, is_planned, mixed_case_of, few-mixed, plan-sixteen, plan-fewest, plan-six, plan-past, then-table, then-list, as_lent_lem, keeps-past, impossible, answered, within}
@@ -132,7 +132,7 @@ module _ (y : System) (k : Kind) (card : TwoKindCard y k) (list : List EngineRec
             engines,
             λ i low high.
                 let is = entry-is i low (omega arith) in
-                (ap (λ (r : EngineRecord). r.number) is, ap (λ (r : EngineRecord). r.load) is, ap (λ (r : EngineRecord). length r.load.counts) is ∙ plan-six y k card can i low (omega (arith, (few-mixed y k card can).0))),
+                (ap (λ (r : EngineRecord). r.number) is, ap (λ (r : EngineRecord). r.load) is ∙ load-of (get_or (mixed_plan y k).numbers (i - 1) 0) (record_no (mixed_plan y k).loads i), ap (λ (r : EngineRecord). length r.load.counts) is ∙ plan-six y k card can i low (omega (arith, (few-mixed y k card can).0))),
           )
           );
       zero_past = λ n i t o low high past.

@@ -16,6 +16,10 @@ use Rattle.planner.proofs.Front.{front, set_front}
 abbrev pub no_record : EngineRecord
 no_record = record_of 0 idle_engine
 
+-- a record has the load that it is made of
+pub load-of : (n : ℕ) (l : EngineLoad) → (record_of n l).load ≡ l
+load-of n l = refl
+
 pub length-records_from : (a : ℕ) (ls : List EngineLoad) → length (records_from a ls) ≡ length ls
 unfolding records_from
 length-records_from a [] = refl
