@@ -14,10 +14,10 @@ returns-in-Fails c =
     let a = c.args in
     let table = lent a.rows.now a.predecessors.now in
     let p = admit-promises a.b a.t table c.refuse.result table
-      (checks-fail a.b table _ c.refuse.result (check_newcomer a.b a.t (length a.rows.now) (length a.predecessors.now)) c.in-Fails.why
-      (ap checked_of (sym c.in-Fails.is) ∙ c.check_newcomer-check.ensures)
-      c.refuse.ensures.0
-      c.refuse.ensures.1) in
+    (checks-fail a.b table _ c.refuse.result (check_newcomer a.b a.t (length a.rows.now) (length a.predecessors.now)) c.in-Fails.why
+    (ap checked_of (sym c.in-Fails.is) ∙ c.check_newcomer-check.ensures)
+    c.refuse.ensures.0
+    c.refuse.ensures.1) in
     record { does = p.0; admit_promises = p.1 }
 
 pub first_engine-requires : goal.first_engine-requires
@@ -29,7 +29,7 @@ no_engine-requires c =
     let a = c.args in
     let table = lent a.rows.now a.predecessors.now in
     let passed : passes ≡ check_newcomer a.b a.t (length a.rows.now) (length a.predecessors.now) =
-      ap checked_of (sym c.in_default.is) ∙ c.check_newcomer-check.ensures in
+    ap checked_of (sym c.in_default.is) ∙ c.check_newcomer-check.ensures in
     (newcomer-passed a.b a.t table passed, newcomer-long a.b a.t table passed)
 
 pub returns-in_default-first_engine : goal.returns-in_default-first_engine
@@ -40,11 +40,11 @@ returns-in_default-first_engine c =
     let n = c.no_engine in
     let after = lent n.new.rows n.new.predecessors in
     let p = admit-promises a.b a.t table n.result after
-      (checks-pass a.b table _ n.result (check_newcomer a.b a.t (length a.rows.now) (length a.predecessors.now)) after
-      (ap checked_of (sym c.in_default.is) ∙ c.check_newcomer-check.ensures)
-      (admitted-nowhere a.b a.t table (first_engine a.b a.t) n.result after
-      (sym c.in_default-first_engine.is ∙ c.first_engine.ensures)
-      n.ensures)) in
+    (checks-pass a.b table _ n.result (check_newcomer a.b a.t (length a.rows.now) (length a.predecessors.now)) after
+    (ap checked_of (sym c.in_default.is) ∙ c.check_newcomer-check.ensures)
+    (admitted-nowhere a.b a.t table (first_engine a.b a.t) n.result after
+    (sym c.in_default-first_engine.is ∙ c.first_engine.ensures)
+    n.ensures)) in
     record { does = p.0; admit_promises = p.1 }
 
 pub join-requires : goal.join-requires
@@ -60,10 +60,10 @@ returns c =
     let a = c.args in
     let table = lent a.rows.now a.predecessors.now in
     let p = admit-promises a.b a.t table c.join.result table
-      (checks-pass a.b table _ c.join.result (check_newcomer a.b a.t (length a.rows.now) (length a.predecessors.now)) table
-      (ap checked_of (sym c.in_default.is) ∙ c.check_newcomer-check.ensures)
-      (admitted-joins a.b a.t table (first_engine a.b a.t) c.join.result c.in-Engine.e
-      (sym c.in-Engine.is ∙ c.first_engine.ensures)
-      c.join.ensures.0
-      c.join.ensures.1)) in
+    (checks-pass a.b table _ c.join.result (check_newcomer a.b a.t (length a.rows.now) (length a.predecessors.now)) table
+    (ap checked_of (sym c.in_default.is) ∙ c.check_newcomer-check.ensures)
+    (admitted-joins a.b a.t table (first_engine a.b a.t) c.join.result c.in-Engine.e
+    (sym c.in-Engine.is ∙ c.first_engine.ensures)
+    c.join.ensures.0
+    c.join.ensures.1)) in
     record { does = p.0; admit_promises = p.1 }

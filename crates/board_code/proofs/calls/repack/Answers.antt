@@ -20,10 +20,10 @@ returns-in-Fails c =
     let a = c.args in
     let table = lent a.rows.now a.predecessors.now in
     let p = repack-promises a.b table c.refuse.result table
-      (checks-fail a.b table _ c.refuse.result (check_repack a.b (length a.rows.now) (length a.predecessors.now)) c.in-Fails.why
-      (ap checked_of (sym c.in-Fails.is) ∙ c.check_repack-check.ensures)
-      c.refuse.ensures.0
-      c.refuse.ensures.1) in
+    (checks-fail a.b table _ c.refuse.result (check_repack a.b (length a.rows.now) (length a.predecessors.now)) c.in-Fails.why
+    (ap checked_of (sym c.in-Fails.is) ∙ c.check_repack-check.ensures)
+    c.refuse.ensures.0
+    c.refuse.ensures.1) in
     record { does = p.0; repack_promises = p.1 }
 
 pub standing_counts-counts-requires : goal.standing_counts-counts-requires
@@ -47,7 +47,7 @@ returns c =
     let r = c.reseat in
     let after = lent r.new.rows r.new.predecessors in
     let p = repack-promises a.b table r.result after
-      (checks-pass a.b table _ r.result (check_repack a.b (length a.rows.now) (length a.predecessors.now)) after
-      (ap checked_of (sym c.in_default.is) ∙ c.check_repack-check.ensures)
-      (subst (λ (x : List ℕ). Does (reseated a.b x table) r.result after) c.standing_counts-counts.ensures r.ensures)) in
+    (checks-pass a.b table _ r.result (check_repack a.b (length a.rows.now) (length a.predecessors.now)) after
+    (ap checked_of (sym c.in_default.is) ∙ c.check_repack-check.ensures)
+    (subst (λ (x : List ℕ). Does (reseated a.b x table) r.result after) c.standing_counts-counts.ensures r.ensures)) in
     record { does = p.0; repack_promises = p.1 }

@@ -13,10 +13,10 @@ unfolding retire_of
 returns-in-Fails c =
     let a = c.args in
     let p = retire-promises a.b a.t a.e c.refuse.result
-      (checks-fail a.b (lent [] []) _ c.refuse.result (check_retire a.b a.t a.e) c.in-Fails.why
-      (ap checked_of (sym c.in-Fails.is) ∙ c.check_retire-check.ensures)
-      c.refuse.ensures.0
-      c.refuse.ensures.1) in
+    (checks-fail a.b (lent [] []) _ c.refuse.result (check_retire a.b a.t a.e) c.in-Fails.why
+    (ap checked_of (sym c.in-Fails.is) ∙ c.check_retire-check.ensures)
+    c.refuse.ensures.0
+    c.refuse.ensures.1) in
     record { does = p.0; retire_promises = p.1 }
 
 pub leave-requires : goal.leave-requires
@@ -27,7 +27,7 @@ unfolding retire_of
 returns c =
     let a = c.args in
     let p = retire-promises a.b a.t a.e c.leave.result
-      (checks-pass a.b (lent [] []) _ c.leave.result (check_retire a.b a.t a.e) (lent [] [])
-      (ap checked_of (sym c.in_default.is) ∙ c.check_retire-check.ensures)
-      (record { answer = ap outcome_of c.leave.ensures.0; board = c.leave.ensures.1; table = refl })) in
+    (checks-pass a.b (lent [] []) _ c.leave.result (check_retire a.b a.t a.e) (lent [] [])
+    (ap checked_of (sym c.in_default.is) ∙ c.check_retire-check.ensures)
+    (record { answer = ap outcome_of c.leave.ensures.0; board = c.leave.ensures.1; table = refl })) in
     record { does = p.0; retire_promises = p.1 }

@@ -20,10 +20,10 @@ returns-in-Fails c =
     let a = c.args in
     let table = lent a.rows.now a.predecessors.now in
     let p = seat-promises a.b a.t table c.refuse.result table
-      (checks-fail a.b table _ c.refuse.result (check_newcomer a.b a.t (length a.rows.now) (length a.predecessors.now)) c.in-Fails.why
-      (ap checked_of (sym c.in-Fails.is) ∙ c.check_newcomer-check.ensures)
-      c.refuse.ensures.0
-      c.refuse.ensures.1) in
+    (checks-fail a.b table _ c.refuse.result (check_newcomer a.b a.t (length a.rows.now) (length a.predecessors.now)) c.in-Fails.why
+    (ap checked_of (sym c.in-Fails.is) ∙ c.check_newcomer-check.ensures)
+    c.refuse.ensures.0
+    c.refuse.ensures.1) in
     record { does = p.0; seat_promises = p.1 }
 
 pub with_newcomer-counts-requires : goal.with_newcomer-counts-requires
@@ -35,7 +35,7 @@ reseat-requires c =
     let a = c.args in
     let table = lent a.rows.now a.predecessors.now in
     let passed : passes ≡ check_newcomer a.b a.t (length a.rows.now) (length a.predecessors.now) =
-      ap checked_of (sym c.in_default.is) ∙ c.check_newcomer-check.ensures in
+    ap checked_of (sym c.in_default.is) ∙ c.check_newcomer-check.ensures in
     let n = newcomer-passed a.b a.t table passed in (
       n.is_true,
       newcomer-long a.b a.t table passed,
@@ -50,7 +50,7 @@ returns c =
     let r = c.reseat in
     let after = lent r.new.rows r.new.predecessors in
     let p = seat-promises a.b a.t table r.result after
-      (checks-pass a.b table _ r.result (check_newcomer a.b a.t (length a.rows.now) (length a.predecessors.now)) after
-      (ap checked_of (sym c.in_default.is) ∙ c.check_newcomer-check.ensures)
-      (subst (λ (x : List ℕ). Does (reseated a.b x table) r.result after) c.with_newcomer-counts.ensures r.ensures)) in
+    (checks-pass a.b table _ r.result (check_newcomer a.b a.t (length a.rows.now) (length a.predecessors.now)) after
+    (ap checked_of (sym c.in_default.is) ∙ c.check_newcomer-check.ensures)
+    (subst (λ (x : List ℕ). Does (reseated a.b x table) r.result after) c.with_newcomer-counts.ensures r.ensures)) in
     record { does = p.0; seat_promises = p.1 }

@@ -14,10 +14,10 @@ unfolding withdraw_of
 returns-in-Fails c =
     let a = c.args in
     let p = withdraw-promises a.b a.e c.refuse.result
-      (checks-fail a.b (lent [] []) _ c.refuse.result (check_withdraw a.b a.e) c.in-Fails.why
-      (ap checked_of (sym c.in-Fails.is) ∙ c.check_withdraw-check.ensures)
-      c.refuse.ensures.0
-      c.refuse.ensures.1) in
+    (checks-fail a.b (lent [] []) _ c.refuse.result (check_withdraw a.b a.e) c.in-Fails.why
+    (ap checked_of (sym c.in-Fails.is) ∙ c.check_withdraw-check.ensures)
+    c.refuse.ensures.0
+    c.refuse.ensures.1) in
     record { does = p.0; withdraw_promises = p.1 }
 
 pub move_engine-requires : goal.move_engine-requires
@@ -30,7 +30,7 @@ unfolding withdraw_of
 returns c =
     let a = c.args in
     let p = withdraw-promises a.b a.e c.move_engine.result
-      (checks-pass a.b (lent [] []) _ c.move_engine.result (check_withdraw a.b a.e) (lent [] [])
-      (ap checked_of (sym c.in_default.is) ∙ c.check_withdraw-check.ensures)
-      (record { answer = ap outcome_of c.move_engine.ensures.0; board = c.move_engine.ensures.1; table = refl })) in
+    (checks-pass a.b (lent [] []) _ c.move_engine.result (check_withdraw a.b a.e) (lent [] [])
+    (ap checked_of (sym c.in_default.is) ∙ c.check_withdraw-check.ensures)
+    (record { answer = ap outcome_of c.move_engine.ensures.0; board = c.move_engine.ensures.1; table = refl })) in
     record { does = p.0; withdraw_promises = p.1 }

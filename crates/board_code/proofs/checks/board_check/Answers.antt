@@ -1,6 +1,5 @@
 -- The truth test decides.
 use mathlib.Core.Path.{sym, ◌∙◌}
-use borrow.Author.Rules.{rules}
 use Rattle.board_code.proofs.checks.board_check.Goals as goal
 
 pub returns-then-true_board : goal.returns-then-true_board

@@ -1,6 +1,5 @@
 -- The engine's load decides.
 use mathlib.Core.Path.{sym, ap, ◌∙◌}
-use borrow.Author.Rules.{rules}
 use Rattle.loads.specs.Load.{holds_none}
 use Rattle.board.proofs.Ready.{engine-in}
 use Rattle.board_code.proofs.checks.empty_check.Goals as goal
