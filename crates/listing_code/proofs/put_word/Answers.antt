@@ -14,15 +14,11 @@ loop-i-init c = (omega arith, refl, omega arith, puts_none c.args.at c.args.out.
 
 pub loop-i-preserved : goal.loop-i-preserved
 loop-i-preserved c =
-    let byte = c in
-    let letter = byte in
-    let turn = letter in
-    let args = turn.args in
-    let i = turn.loop-i.i in (
+    let i = c.loop-i.i in (
       omega arith,
-      byte.put_byte-next.auto.0 ∙ turn.loop-i.invariant.1,
-      omega (arith, byte.put_byte-next.ensures.next),
-      rw (word-suc args.start i (omega arith), ← letter.letter.ensures) (puts_then (omega arith) turn.loop-i.invariant.3 byte.put_byte-next.ensures),
+      c.put_byte-next.auto.out ∙ c.loop-i.invariant.1,
+      omega (arith, c.put_byte-next.ensures.next),
+      rw (word-suc c.args.start i (omega arith), ← c.letter.ensures) (puts_then (omega arith) c.loop-i.invariant.3 c.put_byte-next.ensures),
     )
 
 pub returns : goal.returns

@@ -21,6 +21,6 @@ pub returns : goal.returns
 returns c =
     let why = c.args.why in
     record {
-      written = rw (line_of why) at (written (omega arith) c.put_refusal.auto.0 c.put_refusal.ensures.0);
+      written = rw (line_of why) at (written (omega arith) c.put_refusal.auto.out c.put_refusal.ensures.0);
       tells = number-told (number_of why);
     }
