@@ -1,11 +1,8 @@
 -- `letter`: in `_` the place is behind all 26 bytes of the words.
-use Prim.Native.Nat.{ℕ, zero, suc, ◌≤◌}
-use mathlib.Core.Path.{◌≡◌, sym}
-use mathlib.Core.List.{[], ◌∷◌}
+use Prim.Native.Nat.{◌≤◌}
+use mathlib.Core.Path.{sym}
 use native.Mathlib.Omega.{arith}
-use lib.ListN.{get_or, get_or-eq_default}
-use types.Run.{OneOf}
-use borrow.Author.Rules.{rules}
+use lib.ListN.{get_or-eq_default}
 use Rattle.listing.proofs.Laws.{words}
 use Rattle.listing_code.proofs.letter.Goals as goal
 

@@ -3,7 +3,6 @@ use mathlib.Core.Path.{sym, ◌∙◌}
 use Rattle.partition.specs.Lent.{Lent, lent}
 use Rattle.listing.proofs.Laws.{listing-planned}
 use Rattle.listing.proofs.Demands.{listing-demand2, listing-refuses}
-use borrow.Author.Rules.{rules}
 use Rattle.listing_code.proofs.listing.Goals as goal
 
 pub returns : goal.returns

@@ -1,6 +1,6 @@
 -- `put_engines`: the answers.
 use borrow.Author.Rules.{rules}
-use Prim.Native.Nat.{ℕ, ◌+◌, ◌-◌, ◌*◌, ◌≤◌, ◌<◌, min}
+use Prim.Native.Nat.{ℕ, ◌<◌, min}
 use mathlib.Core.Path.{◌≡◌, refl, sym, ap, ◌∙◌}
 use mathlib.Core.List.{[]}
 use native.Mathlib.Nat.{min-le_right}
@@ -11,8 +11,6 @@ use Rattle.loads.specs.declared.EngineLoad.{EngineLoad}
 use Rattle.planner.proofs.Records.{length-records_with}
 use Rattle.system.specs.Limits.{engine_limit}
 use Rattle.listing.specs.Listing.{record_lines}
-use Rattle.listing.specs.Room.{engine_room}
-use Rattle.buffer.specs.Written.{Puts}
 use Rattle.buffer.proofs.Laws.{puts_then, puts_none}
 use Rattle.listing.proofs.Laws.{lines-suc, take_min}
 use Rattle.listing_code.proofs.put_engines.Goals as goal

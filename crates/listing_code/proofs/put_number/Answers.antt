@@ -1,5 +1,4 @@
 -- `put_number`: what `io::decimal` spells is the number's decimal, and has at most 20 digits.
-use borrow.Author.Rules.{rules}
 use Prim.Native.Nat.{◌≤◌}
 use mathlib.Core.Path.{◌≡◌, ◌∙◌}
 use native.Mathlib.Omega.{arith}

@@ -1,12 +1,8 @@
 -- `put_word`: the answers.
-use borrow.Author.Rules.{rules}
-use Prim.Native.Nat.{◌+◌, ◌-◌, ◌≤◌}
 use mathlib.Core.Path.{◌≡◌, refl, ◌∙◌}
 use native.Mathlib.Omega.{arith}
-use lib.ListN.{length, take, drop}
-use Rattle.buffer.specs.Written.{Puts}
 use Rattle.buffer.proofs.Laws.{puts_then, puts_none}
-use Rattle.listing.proofs.Laws.{words, word-suc}
+use Rattle.listing.proofs.Laws.{word-suc}
 use Rattle.listing_code.proofs.put_word.Goals as goal
 
 pub loop-i-init : goal.loop-i-init

@@ -1,11 +1,8 @@
 -- `write_listing`: what was put at place 0 is written at the start; a listing takes at most 3,405 bytes.
 use Prim.Native.Nat.{ℕ}
 use mathlib.Core.Path.{◌≡◌, refl}
-use mathlib.Core.List.{List, [], ◌∷◌}
+use mathlib.Core.List.{List, []}
 use native.Mathlib.Omega.{arith}
-use types.Run.{OneOf, miss}
-use denote.Enum.Declared.{tag_of}
-use Rattle.system.specs.contracts.Answer.{the_type}
 use Rattle.system.specs.declared.Answer.{Answer}
 use Rattle.system.specs.declared.Answer.TheVariants.{Accepted, Number, Refused}
 use Rattle.system.specs.declared.Refusal.{Refusal}
@@ -16,7 +13,6 @@ use Rattle.planner.specs.Plan.{records_with}
 use Rattle.listing.specs.Listing.{plan_lines, listing_of}
 use Rattle.buffer.proofs.Laws.{written}
 use Rattle.listing.proofs.Lines.{write-promised}
-use borrow.Author.Rules.{rules}
 use Rattle.listing_code.proofs.write_listing.Goals as goal
 
 -- an answer that is no refusal
