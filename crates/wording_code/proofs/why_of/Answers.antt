@@ -3,7 +3,6 @@ use Prim.Native.Nat.{ℕ}
 use native.Mathlib.Omega.{arith}
 use lib.ListN.{length-replicate}
 use Rattle.wording.proofs.Told.{why-promised}
-use borrow.Author.Rules.{rules}
 use Rattle.wording_code.proofs.why_of.Goals as goal
 
 pub returns : goal.returns

@@ -1,5 +1,4 @@
 -- `write_answer`: the line of each kind of answer.
-use borrow.Author.Rules.{rules}
 use Rattle.wording_code.proofs.write_answer.Goals as goal
 
 pub returns-in-Because : goal.returns-in-Because

@@ -2,7 +2,6 @@
 use native.Mathlib.Omega.{arith}
 use Rattle.buffer.proofs.Laws.{written}
 use Rattle.wording.specs.Line.{cause_line}
-use borrow.Author.Rules.{rules}
 use Rattle.wording_code.proofs.write_cause.Goals as goal
 
 pub returns-in-Possible : goal.returns-in-Possible
