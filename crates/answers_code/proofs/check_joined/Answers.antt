@@ -9,7 +9,6 @@ use Rattle.system.specs.Layout.{word2}
 use Rattle.answers.specs.Checks.{part_bytes}
 use Rattle.answers.proofs.Cut.{file-joined, sheet-joined, cut-promised}
 use Rattle.answers.proofs.Parts.{file-part, sheet-part, same-promised}
-use borrow.Author.Rules.{rules}
 use Rattle.answers_code.proofs.check_joined.Goals as goal
 
 pub slice_bounds-check_of-end : goal.slice_bounds-check_of-end

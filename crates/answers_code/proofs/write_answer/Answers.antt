@@ -1,6 +1,5 @@
 -- `write_answer`: the line of each kind of answer.
 use Rattle.answers.proofs.Lines.{line-of-refusal}
-use borrow.Author.Rules.{rules}
 use Rattle.answers_code.proofs.write_answer.Goals as goal
 
 pub returns-in-Right : goal.returns-in-Right
