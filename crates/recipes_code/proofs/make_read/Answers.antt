@@ -7,7 +7,7 @@ use native.Mathlib.Omega.{arith}
 use borrow.Author.Tests.{leb-true, leb-false}
 use lib.Dec.{leb}
 use lib.ListN.{length}
-use Rattle.recipes_code.proofs.Exits.{filled-promised, partly-promised}
+use Rattle.recipes_code.proofs.Exits.{partly-promised}
 use borrow.Author.Rules.{rules}
 use Rattle.recipes_code.proofs.make_read.Goals as goal
 
