@@ -1,7 +1,12 @@
 -- `repack`: what is said of 11, and of the board at a refusal, is the record's own.
 use Rattle.clients.proofs.Plainly.{board-kept}
-use borrow.Author.Rules.{rules}
 use Rattle.clients.proofs.boards.repack.Goals as goal
 
 pub returns : goal.returns
-returns c = let e = c.repack.ensures in (e.0, (e.1, (e.1.order.then_table, board-kept _ _ _ _ e.1.demand1)))
+returns c =
+    let e = c.repack.ensures in
+    record {
+      does = e.does;
+      repack_promises = e.repack_promises;
+      board_says11 = (e.repack_promises.order.then_table, board-kept _ _ _ _ e.repack_promises.demand1);
+    }

@@ -2,8 +2,12 @@
 use mathlib.Core.Path.{ap, ◌∙◌}
 use Rattle.system.specs.declared.Cursor.{Cursor}
 use Rattle.system.proofs.Begins.{field_step}
-use borrow.Author.Rules.{rules}
 use Rattle.clients.proofs.files.next_at.Goals as goal
 
 pub returns : goal.returns
-returns c = let e = c.next_at.ensures in (e, λ t n body next is. ap (λ (x : Cursor). x.at) e ∙ (field_step.answers _ _ t n body next is).3)
+returns c =
+    let e = c.next_at.ensures in
+    record {
+      value = e;
+      by_index = λ t n body next is. ap (λ (x : Cursor). x.at) e ∙ (field_step.answers _ _ t n body next is).3;
+    }

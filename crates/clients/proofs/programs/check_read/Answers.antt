@@ -3,21 +3,15 @@ use Prim.Native.Nat.{ℕ}
 use mathlib.Core.Path.{ap, ◌∙◌}
 use lib.ListN.{take}
 use Rattle.clients.proofs.Told.{check-told}
-use borrow.Author.Rules.{rules}
 use Rattle.clients.proofs.programs.check_read.Goals as goal
 
 pub returns : goal.returns
 returns c =
-    let e = c.check_read.ensures in (
-      e,
-      (
-        e.joins.of_both,
-        (
-          (λ file sheet same. check-told (e.joins.of_both file sheet same)),
-          (
-            (e.joins.of_read, check-told e.joins.of_read),
-            (λ input same. let p = e.of_input input (ap (λ (n : ℕ). take n input) e.size ∙ same) in (p, (check-told p).1)),
-          ),
-        ),
-      ),
-    )
+    let e = c.check_read.ensures in
+    record {
+      read_both_promises = e;
+      by_index = e.joins.of_both;
+      by_index_2 = (λ file sheet same. check-told (e.joins.of_both file sheet same));
+      check_promises = (e.joins.of_read, check-told e.joins.of_read);
+      by_index_3 = (λ input same. let p = e.of_input input (ap (λ (n : ℕ). take n input) e.size ∙ same) in (p, (check-told p).1));
+    }

@@ -1,7 +1,11 @@
 -- `sheet_of`: the bytes in the buffer tell what the text tells.
 use Rattle.clients.proofs.Told.{sheet-told}
-use borrow.Author.Rules.{rules}
 use Rattle.clients.proofs.programs.sheet_of.Goals as goal
 
 pub returns : goal.returns
-returns c = let e = c.sheet_of.ensures in (e, sheet-told e)
+returns c =
+    let e = c.sheet_of.ensures in
+    record {
+      sheet_promises = e;
+      kept_past_text = sheet-told e;
+    }
