@@ -4,7 +4,6 @@ use mathlib.Core.List.{List}
 use native.Mathlib.Omega.{arith}
 use lib.ListN.{length, replicate, length-replicate}
 use Rattle.listing.proofs.Text.{text-promised}
-use borrow.Author.Rules.{rules}
 use Rattle.listing_code.proofs.listing_of.Goals as goal
 
 -- each of them

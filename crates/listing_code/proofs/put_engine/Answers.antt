@@ -9,51 +9,41 @@ use Rattle.system.specs.Limits.{type_limit}
 use Rattle.buffer.proofs.Laws.{puts_then}
 use Rattle.listing.proofs.Laws.{engine_line-entries, take_min}
 use borrow.Author.Rules.{rules}
-use Rattle.listing_code.proofs.put_engine.Goals.{After-numbers-1, After-slice_known-5-1}
 use Rattle.listing_code.proofs.put_engine.Goals as goal
 
 -- the counts that are put: as many as there are types, of the six
-few : (c : After-numbers-1) → c.least-end.result ≤ type_limit
-few c = rw c.least-end.ensures (min-le_right _ type_limit)
-
--- the counts that are put: as many as there are types, of the six
-few-2 : (c : After-slice_known-5-1) → c.least-end.result ≤ type_limit
-few-2 c = rw c.least-end.ensures (min-le_right _ type_limit)
-
-six : (c : After-slice_known-5-1) → length c.wide_counts-numbers.result ≡ type_limit
-six c = search rules
-
-six-2 : (c : After-numbers-1) → length c.wide_counts-numbers.result ≡ type_limit
-six-2 c = search rules
-
-count : (c : After-numbers-1) → length (take c.least-end.result c.wide_counts-numbers.result) ≡ c.least-end.result
-count c = length-take-le c.least-end.result c.wide_counts-numbers.result (omega (arith, few c, six-2 c))
-
-count-2 : (c : After-slice_known-5-1) → length (take c.least-end.result c.wide_counts-numbers.result) ≡ c.least-end.result
-count-2 c = length-take-le c.least-end.result c.wide_counts-numbers.result (omega (arith, few-2 c, six c))
+few : (used end : ℕ) → end ≡ min used type_limit → end ≤ type_limit
+few used end e = rw e (min-le_right used type_limit)
 
 pub slice_bounds-put_numbered-end : goal.slice_bounds-put_numbered-end
-slice_bounds-put_numbered-end c = sym (count c)
+slice_bounds-put_numbered-end c =
+    let end = c.least-end.result in
+    let six : length c.wide_counts-numbers.result ≡ type_limit = search rules in
+    sym (length-take-le end c.wide_counts-numbers.result (omega (arith, few c.args.typecount end c.least-end.ensures)))
 
 pub put_numbered-requires : goal.put_numbered-requires
-put_numbered-requires c = (omega arith, omega (arith, count c, few c))
+put_numbered-requires c =
+    let end = c.least-end.result in
+    let numbers = c.wide_counts-numbers.result in
+    let six : length numbers ≡ type_limit = search rules in
+    let most = few c.args.typecount end c.least-end.ensures in
+    let count = length-take-le end numbers (omega (arith, most)) in
+    (omega arith, omega (arith, count, most))
 
 pub returns : goal.returns
 returns c =
-    let types = c in
-    let end = types in
-    let wide = end in
-    let mem = wide in
-    let util = mem in
-    let engine = util in
-    let start = engine in
-    let args = start.args in
-    let room : args.at ≤ length args.out.now = omega (arith, start.requires) in
-    let counts : take end.least-end.result wide.wide_counts-numbers.result ≡ take args.typecount args.load.counts =
-    ap (λ (n : ℕ). take n wide.wide_counts-numbers.result) (end.least-end.ensures ∙ ap (min args.typecount) (sym (six end)))
-    ∙ take_min args.typecount wide.wide_counts-numbers.result
-    ∙ ap (take args.typecount) wide.wide_counts-numbers.ensures in
-    let timed = puts_then room engine.put_entry-named.ensures.0 util.put_entry-timed.ensures.0 in
-    let sized = puts_then room timed mem.put_entry-sized.ensures.0 in
-    let whole = puts_then room sized (rw counts at types.put_numbered.ensures.0) in
-    (rw (engine_line-entries args.number args.load.time args.load.memory (take args.typecount args.load.counts)) at whole, omega (arith, count-2 end, few-2 end, engine, util, mem, types))
+    let args = c.args in
+    let end = c.least-end.result in
+    let numbers = c.wide_counts-numbers.result in
+    let six : length numbers ≡ type_limit = search rules in
+    let most = few args.typecount end c.least-end.ensures in
+    let count = length-take-le end numbers (omega (arith, most)) in
+    let room : args.at ≤ length args.out.now = omega arith in
+    let counts : take end numbers ≡ take args.typecount args.load.counts =
+    ap (λ (n : ℕ). take n numbers) (c.least-end.ensures ∙ ap (min args.typecount) (sym six))
+    ∙ take_min args.typecount numbers
+    ∙ ap (take args.typecount) c.wide_counts-numbers.ensures in
+    let timed = puts_then room c.put_entry-named.ensures.0 c.put_entry-timed.ensures.0 in
+    let sized = puts_then room timed c.put_entry-sized.ensures.0 in
+    let whole = puts_then room sized (rw counts at c.put_numbered.ensures.0) in
+    (rw (engine_line-entries args.number args.load.time args.load.memory (take args.typecount args.load.counts)) at whole, omega (arith, count, most))

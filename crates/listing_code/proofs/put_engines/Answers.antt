@@ -1,6 +1,6 @@
 -- `put_engines`: the answers.
 use borrow.Author.Rules.{rules}
-use Prim.Native.Nat.{ℕ, ◌+◌, ◌-◌, ◌*◌, ◌≤◌, ◌<◌, min}
+use Prim.Native.Nat.{ℕ, ◌<◌, min}
 use mathlib.Core.Path.{◌≡◌, refl, sym, ap, ◌∙◌}
 use mathlib.Core.List.{[]}
 use native.Mathlib.Nat.{min-le_right}
@@ -11,8 +11,6 @@ use Rattle.loads.specs.declared.EngineLoad.{EngineLoad}
 use Rattle.planner.proofs.Records.{length-records_with}
 use Rattle.system.specs.Limits.{engine_limit}
 use Rattle.listing.specs.Listing.{record_lines}
-use Rattle.listing.specs.Room.{engine_room}
-use Rattle.buffer.specs.Written.{Puts}
 use Rattle.buffer.proofs.Laws.{puts_then, puts_none}
 use Rattle.listing.proofs.Laws.{lines-suc, take_min}
 use Rattle.listing_code.proofs.put_engines.Goals as goal
@@ -27,29 +25,25 @@ loop-i-init c = (search rules, refl, search rules, puts_none c.args.at c.args.ou
 
 pub loop-i-preserved : goal.loop-i-preserved
 loop-i-preserved c =
-    let engine = c in
-    let turn = engine in
-    let start = turn in
-    let numbers = start.args.numbers in
-    let loads = start.args.loads in
+    let numbers = c.args.numbers in
+    let loads = c.args.loads in
     let named : length numbers ≡ engine_limit = search rules in
     let l : length loads ≡ engine_limit = search rules in
-    let more : turn.loop-i.i < engine_limit = omega (arith, min-le_right start.args.used engine_limit) in (
+    let more : c.loop-i.i < engine_limit = omega (arith, min-le_right c.args.used engine_limit) in (
       omega arith,
-      engine.put_engine-next.auto.0 ∙ turn.loop-i.invariant.1,
+      c.put_engine-next.auto.out ∙ c.loop-i.invariant.1,
       omega arith,
-      rw (lines-suc start.args.typecount numbers loads turn.loop-i.i past (omega arith) (omega arith)) (puts_then (omega arith) turn.loop-i.invariant.3 engine.put_engine-next.ensures.0),
+      rw (lines-suc c.args.typecount numbers loads c.loop-i.i past (omega arith) (omega arith)) (puts_then (omega arith) c.loop-i.invariant.3 c.put_engine-next.ensures.0),
     )
 
 pub returns : goal.returns
 returns c =
-    let start = c in
-    let numbers = start.args.numbers in
-    let loads = start.args.loads in
-    let turns : c.loop-i.i ≡ min start.args.used engine_limit = omega arith in
+    let numbers = c.args.numbers in
+    let loads = c.args.loads in
+    let turns : c.loop-i.i ≡ min c.args.used engine_limit = omega arith in
     let named : length numbers ≡ engine_limit = search rules in
     let l : length loads ≡ engine_limit = search rules in
     let records : length (records_with numbers loads) ≡ engine_limit = length-records_with numbers loads (named ∙ sym l) ∙ l in
-    let whole : take c.loop-i.i (records_with numbers loads) ≡ take start.args.used (records_with numbers loads) =
-    ap (λ (n : ℕ). take n (records_with numbers loads)) (turns ∙ ap (min start.args.used) (sym records)) ∙ take_min start.args.used (records_with numbers loads) in
-    (rw whole at c.loop-i.invariant.3, omega (arith, min-le_right start.args.used engine_limit))
+    let whole : take c.loop-i.i (records_with numbers loads) ≡ take c.args.used (records_with numbers loads) =
+    ap (λ (n : ℕ). take n (records_with numbers loads)) (turns ∙ ap (min c.args.used) (sym records)) ∙ take_min c.args.used (records_with numbers loads) in
+    (rw whole at c.loop-i.invariant.3, omega (arith, min-le_right c.args.used engine_limit))

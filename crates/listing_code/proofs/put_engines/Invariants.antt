@@ -1,20 +1,11 @@
 -- `put_engines`. The loop's invariant: the lines of the first i engines, each under its own number, stand at `at`, each within its room.
-use borrow.Author.Rules.{rules}
-use Prim.Native.Nat.{ℕ, ◌+◌, ◌-◌, ◌*◌, ◌≤◌, ◌<◌, min}
-use mathlib.Core.Path.{◌≡◌, refl, sym, ap, ◌∙◌}
-use mathlib.Core.List.{[]}
-use native.Mathlib.Nat.{min-le_right}
-use native.Mathlib.Omega.{arith}
+use Prim.Native.Nat.{◌+◌, ◌-◌, ◌*◌, ◌≤◌}
+use mathlib.Core.Path.{◌≡◌}
 use lib.ListN.{length, take}
 use Rattle.planner.specs.Plan.{records_with}
-use Rattle.loads.specs.declared.EngineLoad.{EngineLoad}
-use Rattle.planner.proofs.Records.{length-records_with}
-use Rattle.system.specs.Limits.{engine_limit}
 use Rattle.listing.specs.Listing.{record_lines}
 use Rattle.listing.specs.Room.{engine_room}
 use Rattle.buffer.specs.Written.{Puts}
-use Rattle.buffer.proofs.Laws.{puts_then, puts_none}
-use Rattle.listing.proofs.Laws.{lines-suc, take_min}
 use Rattle.listing_code.proofs.put_engines.Given as goal
 
 abbrev pub invariant-loop-i : goal.invariant-loop-i

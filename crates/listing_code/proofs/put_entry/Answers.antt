@@ -2,7 +2,6 @@
 use mathlib.Core.List.{append-nil}
 use native.Mathlib.Omega.{arith}
 use Rattle.listing.specs.Listing.{decimal, parted}
-use borrow.Author.Rules.{rules}
 use Rattle.listing_code.proofs.put_entry.Goals as goal
 
 pub returns : goal.returns

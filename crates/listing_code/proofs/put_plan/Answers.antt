@@ -3,7 +3,6 @@ use native.Mathlib.Omega.{arith}
 use Rattle.buffer.proofs.Laws.{puts_then}
 use Rattle.listing.specs.Listing.{engines_word}
 use Rattle.listing.proofs.Laws.{line-parts}
-use borrow.Author.Rules.{rules}
 use Rattle.listing_code.proofs.put_plan.Goals as goal
 
 pub returns : goal.returns

@@ -2,7 +2,6 @@
 use native.Mathlib.Omega.{arith}
 use Rattle.listing.specs.Listing.{refused_word, listing_of}
 use Rattle.listing.proofs.Laws.{line-parts}
-use borrow.Author.Rules.{rules}
 use Rattle.listing_code.proofs.put_refusal.Goals as goal
 
 pub returns-in-Input : goal.returns-in-Input

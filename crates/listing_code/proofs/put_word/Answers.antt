@@ -1,12 +1,8 @@
 -- `put_word`: the answers.
-use borrow.Author.Rules.{rules}
-use Prim.Native.Nat.{◌+◌, ◌-◌, ◌≤◌}
 use mathlib.Core.Path.{◌≡◌, refl, ◌∙◌}
 use native.Mathlib.Omega.{arith}
-use lib.ListN.{length, take, drop}
-use Rattle.buffer.specs.Written.{Puts}
 use Rattle.buffer.proofs.Laws.{puts_then, puts_none}
-use Rattle.listing.proofs.Laws.{words, word-suc}
+use Rattle.listing.proofs.Laws.{word-suc}
 use Rattle.listing_code.proofs.put_word.Goals as goal
 
 pub loop-i-init : goal.loop-i-init
@@ -14,15 +10,11 @@ loop-i-init c = (omega arith, refl, omega arith, puts_none c.args.at c.args.out.
 
 pub loop-i-preserved : goal.loop-i-preserved
 loop-i-preserved c =
-    let byte = c in
-    let letter = byte in
-    let turn = letter in
-    let args = turn.args in
-    let i = turn.loop-i.i in (
+    let i = c.loop-i.i in (
       omega arith,
-      byte.put_byte-next.auto.0 ∙ turn.loop-i.invariant.1,
-      omega (arith, byte.put_byte-next.ensures.next),
-      rw (word-suc args.start i (omega arith), ← letter.letter.ensures) (puts_then (omega arith) turn.loop-i.invariant.3 byte.put_byte-next.ensures),
+      c.put_byte-next.auto.out ∙ c.loop-i.invariant.1,
+      omega (arith, c.put_byte-next.ensures.next),
+      rw (word-suc c.args.start i (omega arith), ← c.letter.ensures) (puts_then (omega arith) c.loop-i.invariant.3 c.put_byte-next.ensures),
     )
 
 pub returns : goal.returns

@@ -1,12 +1,9 @@
 -- `put_word`. The loop's invariant: the first i bytes of the word stand at `at`.
-use borrow.Author.Rules.{rules}
 use Prim.Native.Nat.{◌+◌, ◌-◌, ◌≤◌}
-use mathlib.Core.Path.{◌≡◌, refl, ◌∙◌}
-use native.Mathlib.Omega.{arith}
+use mathlib.Core.Path.{◌≡◌}
 use lib.ListN.{length, take, drop}
 use Rattle.buffer.specs.Written.{Puts}
-use Rattle.buffer.proofs.Laws.{puts_then, puts_none}
-use Rattle.listing.proofs.Laws.{words, word-suc}
+use Rattle.listing.proofs.Laws.{words}
 use Rattle.listing_code.proofs.put_word.Given as goal
 
 abbrev pub invariant-loop-i : goal.invariant-loop-i

@@ -1,11 +1,11 @@
 -- `wide_counts`: the answers.
-use Prim.Native.Nat.{◌+◌, ◌-◌, ◌≤◌}
+use Prim.Native.Nat.{◌+◌}
 use mathlib.Core.Path.{◌≡◌, refl, sym, ◌∙◌}
-use mathlib.Core.List.{◌∷◌, ◌++◌}
+use mathlib.Core.List.{◌∷◌}
 use native.Mathlib.Numerals.{add-one}
 use native.Mathlib.Omega.{arith}
 use borrow.Author.Rules.{rules}
-use lib.ListN.{length, get_or, take, drop, length-set, drop_of_length-le}
+use lib.ListN.{length, get_or, drop, length-set, drop_of_length-le}
 use lib.Seq.{drop-cons}
 use Rattle.loads.proofs.Steps.{filled-turn, filled-end}
 use Rattle.listing_code.proofs.wide_counts.Goals as goal

@@ -1,11 +1,8 @@
 -- `write_listing`: what was put at place 0 is written at the start; a listing takes at most 3,405 bytes.
 use Prim.Native.Nat.{ℕ}
 use mathlib.Core.Path.{◌≡◌, refl}
-use mathlib.Core.List.{List, [], ◌∷◌}
+use mathlib.Core.List.{List, []}
 use native.Mathlib.Omega.{arith}
-use types.Run.{OneOf, miss}
-use denote.Enum.Declared.{tag_of}
-use Rattle.system.specs.contracts.Answer.{the_type}
 use Rattle.system.specs.declared.Answer.{Answer}
 use Rattle.system.specs.declared.Answer.TheVariants.{Accepted, Number, Refused}
 use Rattle.system.specs.declared.Refusal.{Refusal}
@@ -16,15 +13,14 @@ use Rattle.planner.specs.Plan.{records_with}
 use Rattle.listing.specs.Listing.{plan_lines, listing_of}
 use Rattle.buffer.proofs.Laws.{written}
 use Rattle.listing.proofs.Lines.{write-promised}
-use borrow.Author.Rules.{rules}
 use Rattle.listing_code.proofs.write_listing.Goals as goal
 
 -- an answer that is no refusal
-listing-given : (a : Answer) (used k : ℕ) (records : List EngineRecord) → OneOf (0 ∷ 1 ∷ []) (tag_of the_type a) → listing_of (outcome_of a) used k records ≡ plan_lines used k records
+listing-given : (a : Answer) (used k : ℕ) (records : List EngineRecord) → ((why : Refusal) → a ≡ Refused why → ⊥) → listing_of (outcome_of a) used k records ≡ plan_lines used k records
 unfolding listing_of
 listing-given Accepted used k records h = refl
 listing-given (Number n) used k records h = refl
-listing-given (Refused why) used k records h = absurd (miss (0 ∷ 1 ∷ []) 2 tt h)
+listing-given (Refused why) used k records h = absurd (h why refl)
 
 -- a refusal's listing says its number alone
 listing-refused : (why : Refusal) (used k : ℕ) (records : List EngineRecord) → listing_of (refusal_of why) used k records ≡ listing_of (refusal_of why) 0 0 []
@@ -34,11 +30,10 @@ listing-refused (State n) used k records = refl
 
 pub returns-in_default : goal.returns-in_default
 returns-in_default c =
-    let matched = c in
-    let p = matched.args.p in
+    let p = c.args.p in
     write-promised p
-    (rw (listing-given p.answer p.used p.typecount (records_with p.numbers p.loads) matched.in_default.keys2)
-    (written (omega arith) c.put_plan.auto.0 c.put_plan.ensures.0))
+    (rw (listing-given p.answer p.used p.typecount (records_with p.numbers p.loads) c.in_default.not-Refused)
+    (written (omega arith) c.put_plan.auto.out c.put_plan.ensures.0))
 
 pub returns : goal.returns
 unfolding listing_of
@@ -46,4 +41,4 @@ returns c =
     let p = c.args.p in
     write-promised p
     (rw (c.in-Refused.is, listing-refused _ p.used p.typecount (records_with p.numbers p.loads))
-    (written (omega arith) c.put_refusal.auto.0 c.put_refusal.ensures.0))
+    (written (omega arith) c.put_refusal.auto.out c.put_refusal.ensures.0))

@@ -9,7 +9,6 @@ use Rattle.buffer.proofs.Laws.{written}
 use Rattle.listing.specs.Listing.{refusal_line, listing_of}
 use Rattle.listing.specs.Demands.{number_of}
 use Rattle.listing.proofs.Lines.{number-told}
-use borrow.Author.Rules.{rules}
 use Rattle.listing_code.proofs.write_refusal.Goals as goal
 
 line_of : (why : Refusal) → listing_of (refusal_of why) 0 0 [] ≡ refusal_line (number_of why)
@@ -21,6 +20,6 @@ pub returns : goal.returns
 returns c =
     let why = c.args.why in
     record {
-      written = rw (line_of why) at (written (omega arith) c.put_refusal.auto.0 c.put_refusal.ensures.0);
+      written = rw (line_of why) at (written (omega arith) c.put_refusal.auto.out c.put_refusal.ensures.0);
       tells = number-told (number_of why);
     }

@@ -1,6 +1,5 @@
 -- The two bytes where a record of t types ends, and 0 past k.
 use mathlib.Core.Path.{ap, ◌∙◌}
-use borrow.Author.Rules.{rules}
 use borrow.Author.Tests.{lt-ltb, le-ltb}
 use Rattle.system.specs.Layout.{word2}
 use Rattle.sheets_code.proofs.checking.count_in.Goals as goal

@@ -1,10 +1,8 @@
 -- `counts_in`: the answers.
-use Prim.Native.Nat.{◌-◌, ◌≤◌}
 use mathlib.Core.Path.{◌≡◌, refl, sym, ap, ◌∙◌}
 use native.Mathlib.Omega.{arith}
-use lib.ListN.{length, take, length-set}
+use lib.ListN.{length, length-set}
 use lib.Seq.{take_all}
-use borrow.Author.Rules.{rules}
 use Rattle.table.specs.Parts.{up_to}
 use Rattle.sheets.specs.Sheet.{stated_count}
 use Rattle.sheets_code.proofs.Steps.{up_to-turn}

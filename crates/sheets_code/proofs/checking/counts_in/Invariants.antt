@@ -1,13 +1,9 @@
 -- The loop's invariant: the first t counts are those of the record.
 use Prim.Native.Nat.{◌-◌, ◌≤◌}
-use mathlib.Core.Path.{◌≡◌, refl, sym, ap, ◌∙◌}
-use native.Mathlib.Omega.{arith}
-use lib.ListN.{length, take, length-set}
-use lib.Seq.{take_all}
-use borrow.Author.Rules.{rules}
+use mathlib.Core.Path.{◌≡◌}
+use lib.ListN.{length, take}
 use Rattle.table.specs.Parts.{up_to}
 use Rattle.sheets.specs.Sheet.{stated_count}
-use Rattle.sheets_code.proofs.Steps.{up_to-turn}
 use Rattle.sheets_code.proofs.checking.counts_in.Given as goal
 
 abbrev pub invariant-loop-t : goal.invariant-loop-t

@@ -1,5 +1,4 @@
 -- Time, memory and counts, each where the layout has it.
-use borrow.Author.Rules.{rules}
 use Rattle.sheets_code.proofs.checking.load_in.Goals as goal
 
 pub returns : goal.returns

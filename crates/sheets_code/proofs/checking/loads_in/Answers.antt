@@ -1,11 +1,9 @@
 -- `loads_in`: the answers.
-use Prim.Native.Nat.{◌+◌, ◌-◌, ◌*◌, ◌≤◌}
+use Prim.Native.Nat.{◌+◌, ◌≤◌}
 use mathlib.Core.Path.{◌≡◌, refl, sym, ap, ◌∙◌}
-use mathlib.Core.List.{◌++◌}
 use native.Mathlib.Nat.{zero-mul}
 use native.Mathlib.Omega.{arith}
-use lib.ListN.{length, take, length-set}
-use borrow.Author.Rules.{rules}
+use lib.ListN.{length, length-set}
 use Rattle.sheets.specs.declared.Taken.{Taken}
 use Rattle.sheets.specs.Sheet.{loads_from, loads_in}
 use Rattle.sheets_code.proofs.Steps.{loads-turn, loads-end, taken-near}

@@ -1,14 +1,9 @@
 -- The loop's invariant: the engines passed have what the sheet states of them, and those left get what stands from the place on.
 use Prim.Native.Nat.{◌+◌, ◌-◌, ◌*◌, ◌≤◌}
-use mathlib.Core.Path.{◌≡◌, refl, sym, ap, ◌∙◌}
+use mathlib.Core.Path.{◌≡◌}
 use mathlib.Core.List.{◌++◌}
-use native.Mathlib.Nat.{zero-mul}
-use native.Mathlib.Omega.{arith}
-use lib.ListN.{length, take, length-set}
-use borrow.Author.Rules.{rules}
-use Rattle.sheets.specs.declared.Taken.{Taken}
+use lib.ListN.{length, take}
 use Rattle.sheets.specs.Sheet.{loads_from, loads_in}
-use Rattle.sheets_code.proofs.Steps.{loads-turn, loads-end, taken-near}
 use Rattle.sheets_code.proofs.checking.loads_in.Given as goal
 
 abbrev pub invariant-loop-i : goal.invariant-loop-i

@@ -1,6 +1,5 @@
 -- The checks in order: where one fails the sheet is refused with its number, where all before it passed the next decides.
 use mathlib.Core.Path.{◌≡◌, ap, sym, ◌∙◌}
-use borrow.Author.Rules.{rules}
 use Rattle.system.specs.Outcome.{passes, checked_of}
 use Rattle.system.proofs.Checks.{fails-and_then, passes-and_then}
 use Rattle.sheets.specs.Checking.{layout_check, sums_check, records_check}

@@ -1,5 +1,5 @@
 -- `same_bytes`: the answers.
-use Prim.Native.Nat.{◌-◌, ◌≤◌, ◌<◌}
+use Prim.Native.Nat.{◌<◌}
 use mathlib.Core.Path.{◌≡◌, refl, sym, ◌∙◌}
 use mathlib.Core.Bool.{◌&&◌, and_assoc, and-true}
 use native.Mathlib.Omega.{arith}

@@ -1,13 +1,10 @@
 -- The loop's invariant: the bytes passed are the same and those left are, exactly when all are.
-use Prim.Native.Nat.{◌-◌, ◌≤◌, ◌<◌}
-use mathlib.Core.Path.{◌≡◌, refl, sym, ◌∙◌}
-use mathlib.Core.Bool.{◌&&◌, and_assoc, and-true}
-use native.Mathlib.Omega.{arith}
+use Prim.Native.Nat.{◌-◌, ◌≤◌}
+use mathlib.Core.Path.{◌≡◌}
+use mathlib.Core.Bool.{◌&&◌}
 use lib.ListN.{length, drop}
 use lib.Dec.{eqb}
-use borrow.Author.Rules.{rules}
 use Rattle.partition.specs.Listing.{same_list}
-use Rattle.sheets_code.proofs.Steps.{same_turn, same_end, same_length}
 use Rattle.sheets_code.proofs.checking.same_bytes.Given as goal
 
 abbrev pub invariant-loop-i : goal.invariant-loop-i

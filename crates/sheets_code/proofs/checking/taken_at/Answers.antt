@@ -1,5 +1,4 @@
 -- By the test whether the record at the place is that of engine e.
-use borrow.Author.Rules.{rules}
 use Rattle.sheets_code.proofs.Steps.{taken_yes, taken-no}
 use Rattle.sheets_code.proofs.checking.taken_at.Goals as goal
 

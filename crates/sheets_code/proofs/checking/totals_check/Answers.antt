@@ -1,6 +1,5 @@
 -- By the totals and the ceilings.
 use mathlib.Core.Path.{sym, ◌∙◌}
-use borrow.Author.Rules.{rules}
 use Rattle.sheets_code.proofs.checking.totals_check.Goals as goal
 
 pub returns-then-totals_match : goal.returns-then-totals_match

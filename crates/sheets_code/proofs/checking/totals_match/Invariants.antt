@@ -1,14 +1,11 @@
 -- The loop's invariant: the totals passed are their ceilings and those left are, exactly when all are.
 use Prim.Native.Nat.{◌-◌, ◌≤◌}
-use mathlib.Core.Path.{◌≡◌, refl, sym, ◌∙◌}
-use mathlib.Core.Bool.{◌&&◌, and_assoc, and-true}
-use native.Mathlib.Omega.{arith}
-use lib.ListN.{length, drop}
+use mathlib.Core.Path.{◌≡◌}
+use mathlib.Core.Bool.{◌&&◌}
+use lib.ListN.{drop}
 use lib.Dec.{eqb}
-use borrow.Author.Rules.{rules}
 use Rattle.loads.proofs.Steps.{ceilings}
 use Rattle.partition.specs.Listing.{same_list}
-use Rattle.sheets_code.proofs.Steps.{totals-turn, totals-end}
 use Rattle.sheets_code.proofs.checking.totals_match.Given as goal
 
 abbrev pub invariant-loop-t : goal.invariant-loop-t

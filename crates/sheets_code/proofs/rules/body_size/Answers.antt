@@ -1,7 +1,6 @@
 -- The numbers of the table are small.
 use mathlib.Core.Path.{ap}
 use native.Mathlib.Omega.{arith}
-use borrow.Author.Rules.{rules}
 use Rattle.sheets.specs.declared.SheetRule.{SheetRule}
 use Rattle.sheets.specs.Sheet.{body_size}
 use Rattle.sheets.proofs.Sizes.{rule-small}

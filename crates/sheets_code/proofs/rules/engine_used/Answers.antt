@@ -1,6 +1,5 @@
 -- By whether it holds none.
 use mathlib.Core.Path.{sym, ◌∙◌}
-use borrow.Author.Rules.{rules}
 use Rattle.sheets_code.proofs.rules.engine_used.Goals as goal
 
 pub returns-then-holds_none : goal.returns-then-holds_none

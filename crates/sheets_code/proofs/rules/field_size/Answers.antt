@@ -1,6 +1,5 @@
 -- The head, then the body.
 use native.Mathlib.Omega.{arith}
-use borrow.Author.Rules.{rules}
 use Rattle.sheets.proofs.Sizes.{rule-small}
 use Rattle.sheets_code.proofs.rules.field_size.Goals as goal
 

@@ -1,5 +1,4 @@
 -- The row of the table.
-use borrow.Author.Rules.{rules}
 use Rattle.partition.proofs.Lists.{get_or-inside}
 use Rattle.sheets.specs.Sheet.{header_rule, sheet_rules}
 use Rattle.sheets_code.proofs.rules.rule_at.Goals as goal

@@ -3,7 +3,6 @@ use Prim.Native.Nat.{◌+◌, ◌*◌, ◌≤◌}
 use mathlib.Core.Path.{ap₂}
 use native.Mathlib.Nat.{zero-mul, mul-le-mul_right}
 use native.Mathlib.Omega.{arith}
-use borrow.Author.Rules.{rules}
 use Rattle.sheets_code.proofs.rules.sheet_size.Goals.{After-field_size-2}
 use Rattle.sheets_code.proofs.rules.sheet_size.Goals as goal
 

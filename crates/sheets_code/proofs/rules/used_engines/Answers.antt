@@ -1,8 +1,7 @@
 -- `used_engines`: the answers.
-use Prim.Native.Nat.{◌+◌, ◌-◌, ◌≤◌}
 use mathlib.Core.Path.{◌≡◌}
 use native.Mathlib.Omega.{arith}
-use lib.ListN.{length, drop}
+use lib.ListN.{length}
 use borrow.Author.Rules.{rules}
 use Rattle.sheets.specs.Sheet.{used_in}
 use Rattle.sheets.proofs.Sizes.{used_turn, used-end, used-few}

@@ -1,11 +1,8 @@
 -- The loop's invariant: the engines counted and those left are all.
 use Prim.Native.Nat.{◌+◌, ◌-◌, ◌≤◌}
 use mathlib.Core.Path.{◌≡◌}
-use native.Mathlib.Omega.{arith}
-use lib.ListN.{length, drop}
-use borrow.Author.Rules.{rules}
+use lib.ListN.{drop}
 use Rattle.sheets.specs.Sheet.{used_in}
-use Rattle.sheets.proofs.Sizes.{used_turn, used-end, used-few}
 use Rattle.sheets_code.proofs.rules.used_engines.Given as goal
 
 abbrev pub invariant-loop-i : goal.invariant-loop-i

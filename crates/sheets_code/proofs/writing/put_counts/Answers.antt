@@ -1,11 +1,10 @@
 -- `put_counts`: the answers.
-use Prim.Native.Nat.{◌-◌, ◌≤◌, ◌<◌}
+use Prim.Native.Nat.{◌≤◌, ◌<◌}
 use mathlib.Core.Path.{◌≡◌, refl, ◌∙◌}
 use native.Mathlib.Omega.{arith}
-use lib.ListN.{length, take}
+use lib.ListN.{length}
 use borrow.Author.Rules.{rules}
 use Rattle.system.specs.Limits.{type_limit}
-use Rattle.buffer.specs.Written.{Puts}
 use Rattle.buffer.proofs.Laws.{puts_then, puts_none}
 use Rattle.sheets.specs.Sheet.{counts_bytes}
 use Rattle.sheets.proofs.Putting.{counts-suc, counts-put}
@@ -33,7 +32,7 @@ loop-t-preserved c =
     let more : turn.loop-t.t < length start.args.counts = omega arith in
     let room : start.args.at ≤ length start.args.out.now = omega (arith, start.requires.1) in (
       omega arith,
-      put.put_two-next.auto.0 ∙ turn.loop-t.invariant.1,
+      put.put_two-next.auto.out ∙ turn.loop-t.invariant.1,
       rw (counts-suc start.args.counts turn.loop-t.t 0 more) (puts_then room turn.loop-t.invariant.2 put.put_two-next.ensures),
     )
 

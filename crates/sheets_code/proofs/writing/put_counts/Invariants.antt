@@ -1,14 +1,9 @@
 -- `put_counts`. The loop's invariant: the first t counts stand at `at`.
-use Prim.Native.Nat.{◌-◌, ◌≤◌, ◌<◌}
-use mathlib.Core.Path.{◌≡◌, refl, ◌∙◌}
-use native.Mathlib.Omega.{arith}
+use Prim.Native.Nat.{◌-◌, ◌≤◌}
+use mathlib.Core.Path.{◌≡◌}
 use lib.ListN.{length, take}
-use borrow.Author.Rules.{rules}
-use Rattle.system.specs.Limits.{type_limit}
 use Rattle.buffer.specs.Written.{Puts}
-use Rattle.buffer.proofs.Laws.{puts_then, puts_none}
 use Rattle.sheets.specs.Sheet.{counts_bytes}
-use Rattle.sheets.proofs.Putting.{counts-suc, counts-put}
 use Rattle.sheets_code.proofs.writing.put_counts.Given as goal
 
 abbrev pub invariant-loop-t : goal.invariant-loop-t

@@ -1,7 +1,6 @@
 -- `put_engine`: nothing where the engine holds no instance, else its record.
 use mathlib.Core.Path.{◌≡◌, sym, ◌∙◌}
 use mathlib.Core.Bool.{true, false}
-use borrow.Author.Rules.{rules}
 use Rattle.loads.specs.Load.{holds_none}
 use Rattle.buffer.proofs.Laws.{puts_none}
 use Rattle.sheets_code.proofs.writing.put_engine.Goals as goal

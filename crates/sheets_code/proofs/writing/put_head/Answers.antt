@@ -2,7 +2,6 @@
 use Prim.Native.Nat.{◌≤◌}
 use native.Mathlib.Omega.{arith}
 use lib.ListN.{length}
-use borrow.Author.Rules.{rules}
 use Rattle.buffer.proofs.Laws.{puts_then}
 use Rattle.sheets.proofs.Sizes.{rule-small}
 use Rattle.sheets_code.proofs.writing.put_head.Goals as goal

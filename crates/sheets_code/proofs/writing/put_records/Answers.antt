@@ -1,16 +1,15 @@
 -- `put_records`: the answers.
-use Prim.Native.Nat.{◌+◌, ◌-◌, ◌*◌, ◌≤◌, ◌<◌}
+use Prim.Native.Nat.{◌+◌, ◌≤◌, ◌<◌}
 use mathlib.Core.Path.{◌≡◌, refl, ◌∙◌}
 use mathlib.Core.List.{[]}
 use native.Mathlib.Omega.{arith}
-use lib.ListN.{length, get_or, take, drop}
+use lib.ListN.{length, get_or}
 use lib.Seq.{take_all}
 use borrow.Author.Rules.{rules}
 use Rattle.system.specs.Limits.{engine_limit}
 use Rattle.loads.specs.declared.EngineLoad.{EngineLoad}
-use Rattle.buffer.specs.Written.{Puts}
 use Rattle.buffer.proofs.Laws.{puts_then, puts_none}
-use Rattle.sheets.specs.Sheet.{record_rule, field_size, records_bytes, used_in}
+use Rattle.sheets.specs.Sheet.{records_bytes}
 use Rattle.sheets.proofs.Putting.{records-suc, engine-room, engine-inside}
 use Rattle.sheets_code.proofs.writing.put_records.Goals as goal
 
@@ -38,7 +37,7 @@ loop-i-preserved c =
     let more : turn.loop-i.i < length start.args.loads = omega arith in
     let room : start.args.at ≤ length start.args.out.now = omega (arith, start.requires.1) in (
       omega arith,
-      put.put_engine-next.auto.0 ∙ turn.loop-i.invariant.1,
+      put.put_engine-next.auto.out ∙ turn.loop-i.invariant.1,
       rw (records-suc start.args.k start.args.loads turn.loop-i.i none more) (puts_then room turn.loop-i.invariant.2 put.put_engine-next.ensures),
       omega (
         arith,

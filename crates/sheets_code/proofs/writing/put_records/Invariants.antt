@@ -1,17 +1,10 @@
 -- `put_records`. The loop's invariant: the records of the first i engines stand at `at`, and there is room for those of the others.
-use Prim.Native.Nat.{◌+◌, ◌-◌, ◌*◌, ◌≤◌, ◌<◌}
-use mathlib.Core.Path.{◌≡◌, refl, ◌∙◌}
-use mathlib.Core.List.{[]}
-use native.Mathlib.Omega.{arith}
-use lib.ListN.{length, get_or, take, drop}
-use lib.Seq.{take_all}
-use borrow.Author.Rules.{rules}
+use Prim.Native.Nat.{◌+◌, ◌-◌, ◌*◌, ◌≤◌}
+use mathlib.Core.Path.{◌≡◌}
+use lib.ListN.{length, take, drop}
 use Rattle.system.specs.Limits.{engine_limit}
-use Rattle.loads.specs.declared.EngineLoad.{EngineLoad}
 use Rattle.buffer.specs.Written.{Puts}
-use Rattle.buffer.proofs.Laws.{puts_then, puts_none}
 use Rattle.sheets.specs.Sheet.{record_rule, field_size, records_bytes, used_in}
-use Rattle.sheets.proofs.Putting.{records-suc, engine-room, engine-inside}
 use Rattle.sheets_code.proofs.writing.put_records.Given as goal
 
 abbrev pub invariant-loop-i : goal.invariant-loop-i

@@ -1,6 +1,5 @@
 -- `put_sheet`: the header with the used engines and k, then the records.
 use Prim.Native.Nat.{zero-le}
-use borrow.Author.Rules.{rules}
 use Rattle.buffer.proofs.Laws.{puts_then}
 use Rattle.sheets.specs.Sheet.{sheet_bytes}
 use Rattle.sheets_code.proofs.writing.put_sheet.Goals as goal
