@@ -1,6 +1,5 @@
 // Example: a live board, from opening it to reading what its engines hold. A program of your own can begin as a copy of this one.
 // It is proved like everything here, and needs no proof file: no call on a board has a `requires`, and there is no loop.
-// What it says has words of its own, as "unit" and "storage": those of a listing are stored in crate `listing` alone.
 #![tactic(auto)]
 
 use board::Board;
@@ -107,7 +106,7 @@ fn retired(rt: &HostRuntime, b: Board, t: usize, e: usize) -> Board {
     let turn = retire(b, t, e);
     let answer = turn.answer;
     say_named(rt, b"retire", t);
-    say_named(rt, b" from unit", e);
+    say_named(rt, b" from engine", e);
     say(rt, b":");
     say_answer(rt, answer);
     turn.board
@@ -117,7 +116,7 @@ fn retired(rt: &HostRuntime, b: Board, t: usize, e: usize) -> Board {
 fn withdrawn(rt: &HostRuntime, b: Board, e: usize) -> Board {
     let turn = withdraw(b, e);
     let answer = turn.answer;
-    say_named(rt, b"withdraw unit", e);
+    say_named(rt, b"withdraw engine", e);
     say(rt, b":");
     say_answer(rt, answer);
     turn.board
@@ -127,7 +126,7 @@ fn withdrawn(rt: &HostRuntime, b: Board, e: usize) -> Board {
 fn restored(rt: &HostRuntime, b: Board, e: usize) -> Board {
     let turn = restore(b, e);
     let answer = turn.answer;
-    say_named(rt, b"restore unit", e);
+    say_named(rt, b"restore engine", e);
     say(rt, b":");
     say_answer(rt, answer);
     turn.board
@@ -137,7 +136,7 @@ fn restored(rt: &HostRuntime, b: Board, e: usize) -> Board {
 fn say_answer(rt: &HostRuntime, a: Answer) {
     match a {
         Answer::Accepted => say(rt, b" accepted"),
-        Answer::Number(e) => say_named(rt, b" accepted on unit", e),
+        Answer::Number(e) => say_named(rt, b" accepted on engine", e),
         Answer::Refused(why) => say_refusal(rt, why),
     }
     say(rt, b"\n");
@@ -154,12 +153,12 @@ fn say_number(rt: &HostRuntime, what: &[u8], a: Answer) {
 // A refusal comes from the input (1 to 15) or from the state of the board (20 to 24, 35 and 36).
 fn say_refusal(rt: &HostRuntime, why: Refusal) {
     match why {
-        Refusal::Input(n) => say_named(rt, b" not accepted", n as usize),
-        Refusal::State(n) => say_named(rt, b" not accepted", n as usize),
+        Refusal::Input(n) => say_named(rt, b" refused", n as usize),
+        Refusal::State(n) => say_named(rt, b" refused", n as usize),
     }
 }
 
-// What the two engines hold. Engine e is at index e - 1.
+// What the two engines hold, in the words of a listing. Engine e is at index e - 1.
 fn say_board(rt: &HostRuntime, b: Board) {
     let loads = b.loads;
     say_engine(rt, 1, loads[0]);
@@ -169,10 +168,10 @@ fn say_board(rt: &HostRuntime, b: Board) {
 // An engine's number, time, memory, and how many of each of the two types it holds.
 fn say_engine(rt: &HostRuntime, e: usize, load: EngineLoad) {
     let counts = load.counts;
-    say_named(rt, b"unit", e);
-    say_named(rt, b" time", load.time as usize);
-    say_named(rt, b" storage", load.memory as usize);
-    say(rt, b" holds");
+    say_named(rt, b"engine", e);
+    say_named(rt, b" util", load.time as usize);
+    say_named(rt, b" mem", load.memory as usize);
+    say(rt, b" types");
     say_count(rt, counts[0]);
     say_count(rt, counts[1]);
     say(rt, b"\n");

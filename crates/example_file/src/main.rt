@@ -50,7 +50,7 @@ fn write_first(rt: &HostRuntime, buffer: &[u8], n: usize) {
     }
 }
 
-// One line, in words of its own: those of a listing are stored in crate `listing` alone. The writer refuses from the input only.
+// One line. The writer refuses from the input only.
 fn say_refusal(rt: &HostRuntime, why: Refusal) {
     match why {
         Refusal::Input(n) => say_number(rt, n as u64),
@@ -59,5 +59,5 @@ fn say_refusal(rt: &HostRuntime, why: Refusal) {
 }
 
 fn say_number(rt: &HostRuntime, n: u64) {
-    let _ = eprintln!(rt; "not accepted {n}");
+    let _ = eprintln!(rt; "refused {n}");
 }

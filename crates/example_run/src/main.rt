@@ -1,6 +1,5 @@
 // Example: the run of an engine, tick by tick, and whether every deadline is kept. A program of your own can begin as a copy of this one.
 // It is proved like everything here, and needs no proof file: neither call has a `requires`, and there is no loop.
-// What it says has words of its own, as "unit": those of a listing are stored in crate `listing` alone.
 #![tactic(auto)]
 
 use deadlines::RunAnswer;
@@ -24,13 +23,13 @@ fn main(rt: HostRuntime) {
     let Answer::Number(used) = answer else {
         return;
     };
-    say_named(&rt, b"units", used);
+    say_named(&rt, b"engines", used);
     say(&rt, b"\n");
     // What engine e holds is at index e - 1. No engine of a plan of one kind misses a deadline, whatever number of ticks it runs: that is proved for every
     // file.
     let loads = plan.loads;
-    say_load(&rt, b"unit 1", file, loads[0]);
-    say_load(&rt, b"unit 2", file, loads[1]);
+    say_load(&rt, b"engine 1", file, loads[0]);
+    say_load(&rt, b"engine 2", file, loads[1]);
     // The counts need not be those of a plan: how many of each type there are, the six types of a system in order.
     say_run(&rt, b"one of each type", file, [1, 1, 0, 0, 0, 0], 12);
     // 2 × 4 + 6 is more than U: the run ends with the first deadline that is missed.
@@ -75,8 +74,8 @@ fn say_report(rt: &HostRuntime, report: Report) {
 // A run is refused from the input only: as the file is read, 42 for two kinds of engine, then 44, then 45.
 fn say_refusal(rt: &HostRuntime, why: Refusal) {
     match why {
-        Refusal::Input(n) => say_named(rt, b": not accepted", n as usize),
-        Refusal::State(n) => say_named(rt, b": not accepted", n as usize),
+        Refusal::Input(n) => say_named(rt, b": refused", n as usize),
+        Refusal::State(n) => say_named(rt, b": refused", n as usize),
     }
 }
 

@@ -3,7 +3,6 @@ use Prim.Native.Nat.{◌≤◌}
 use native.Mathlib.Omega.{arith}
 use lib.ListN.{length}
 use Rattle.buffer.proofs.Laws.{puts_then, written}
-use borrow.Author.Rules.{rules}
 use Rattle.tightness_code.proofs.write_counts.Goals as goal
 
 pub returns : goal.returns

@@ -1,0 +1,8 @@
+-- The tests are the definition's.
+use mathlib.Core.Path.{refl}
+use Rattle.recipes.specs.Digits.{takes_digit}
+use Rattle.recipes_code.proofs.text.takes_digit.Goals as goal
+
+pub returns : goal.returns
+unfolding takes_digit
+returns c = refl

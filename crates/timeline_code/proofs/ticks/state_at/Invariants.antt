@@ -1,0 +1,18 @@
+-- The loop's invariant: the jobs are those at the instant that is reached.
+use Prim.Native.Nat.{◌-◌, ◌≤◌}
+use mathlib.Core.Path.{◌≡◌}
+use mathlib.Core.List.{List}
+use native.Mathlib.Omega.{arith}
+use lib.ListN.{take}
+use Rattle.runs.specs.declared.Job.{Job}
+use Rattle.runs.specs.Run.{started}
+use Rattle.runs.specs.Trace.{state_at}
+use Rattle.timeline.proofs.Laws.{state-first, state-next}
+use borrow.Author.Rules.{rules}
+use Rattle.timeline_code.proofs.ticks.state_at.Given as goal
+
+abbrev pub invariant-loop-now : goal.invariant-loop-now
+invariant-loop-now l = (l.now ≤ l.time) × ((js : List Job) → take l.count l.initial.state ≡ started js → take l.count l.state ≡ state_at l.now js)
+
+abbrev pub decreases-loop-now : goal.decreases-loop-now
+decreases-loop-now l = l.time - l.now
