@@ -1,12 +1,12 @@
 -- From what a plan call promises of any card, that no run of an engine of a plan of one kind misses a deadline.
-use Prim.Native.Nat.{ℕ, ◌≤◌}
-use mathlib.Core.List.{List, [], ◌∷◌}
+use Prim.Native.Nat.{ℕ}
+use mathlib.Core.List.{List}
 use mathlib.Core.Path.{◌≡◌, sym, subst}
 use Rattle.system.specs.declared.Answer.{Answer}
 use Rattle.system.specs.declared.System.{System}
 use Rattle.system.specs.Layout.{Reading, read_card, read_file, opened}
 use Rattle.system.specs.Card.{card_of, plain}
-use Rattle.system.specs.Outcome.{Outcome, accepted, outcome_of}
+use Rattle.system.specs.Outcome.{outcome_of}
 use Rattle.system.proofs.Laws.{file-card}
 use Rattle.system.proofs.Cards.{card-is}
 use Rattle.partition.specs.Lent.{Lent}

@@ -13,7 +13,6 @@ use Rattle.system.specs.declared.Most.TheVariants.{NotGiven}
 use Rattle.system.specs.declared.Pace.TheVariants.{Unpaced}
 use Rattle.system.specs.declared.There.TheVariants.{Absent}
 use Rattle.system.specs.declared.TaskType.{TaskType}
-use Rattle.system.specs.declared.Kind.{Kind}
 use Rattle.system.specs.declared.Second.{Second}
 use Rattle.system.specs.declared.Second.TheVariants.{OneKind, TwoKinds}
 use Rattle.system.specs.declared.System.{System}

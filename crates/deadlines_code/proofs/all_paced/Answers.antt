@@ -1,11 +1,9 @@
 -- `all_paced`: the answers.
-use Prim.Native.Nat.{◌-◌, ◌≤◌}
 use mathlib.Core.Path.{◌≡◌, refl, sym, ◌∙◌}
 use lib.ListN.{length, drop}
 use native.Mathlib.Omega.{arith}
 use borrow.Author.Rules.{rules}
 use Rattle.system.specs.Limits.{type_limit}
-use Rattle.deadlines.specs.Engine.{all_paced}
 use Rattle.deadlines_code.proofs.Steps.{paced-found, paced-more, paced-end}
 use Rattle.deadlines_code.proofs.all_paced.Goals as goal
 

@@ -1,13 +1,11 @@
 -- `instances`: the answers.
-use Prim.Native.Nat.{◌+◌, ◌-◌, ◌*◌, ◌≤◌}
 use mathlib.Core.Path.{◌≡◌}
-use lib.ListN.{length, get_or, drop}
+use lib.ListN.{length, get_or}
 use native.Mathlib.Omega.{arith}
 use mir.Syntax.{w16}
 use mir.Val.{Fits}
 use borrow.Author.Rules.{rules}
 use Rattle.system.specs.Limits.{type_limit}
-use Rattle.deadlines.specs.Engine.{instances}
 use Rattle.deadlines_code.proofs.Steps.{instances-turn, instances-end}
 use Rattle.deadlines_code.proofs.instances.Goals as goal
 

@@ -1,14 +1,9 @@
 -- The loop's invariant: the instances passed and those of the types that are left make all.
 use Prim.Native.Nat.{◌+◌, ◌-◌, ◌*◌, ◌≤◌}
 use mathlib.Core.Path.{◌≡◌}
-use lib.ListN.{length, get_or, drop}
-use native.Mathlib.Omega.{arith}
-use mir.Syntax.{w16}
-use mir.Val.{Fits}
-use borrow.Author.Rules.{rules}
+use lib.ListN.{drop}
 use Rattle.system.specs.Limits.{type_limit}
 use Rattle.deadlines.specs.Engine.{instances}
-use Rattle.deadlines_code.proofs.Steps.{instances-turn, instances-end}
 use Rattle.deadlines_code.proofs.instances.Given as goal
 
 abbrev pub invariant-loop-i : goal.invariant-loop-i

@@ -1,5 +1,4 @@
 -- Both cases of the type's pace.
-use borrow.Author.Rules.{rules}
 use Rattle.deadlines_code.proofs.job_of_type.Goals as goal
 
 pub returns-in_default : goal.returns-in_default

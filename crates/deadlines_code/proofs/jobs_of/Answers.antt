@@ -1,12 +1,10 @@
 -- `jobs_of`: the answers.
-use Prim.Native.Nat.{◌+◌, ◌-◌, ◌≤◌}
+use Prim.Native.Nat.{◌+◌, ◌≤◌}
 use mathlib.Core.Path.{◌≡◌, refl, ◌∙◌}
-use mathlib.Core.List.{◌++◌}
-use lib.ListN.{length, get_or, take, drop}
+use lib.ListN.{length, get_or}
 use native.Mathlib.Omega.{arith}
 use borrow.Author.Rules.{rules}
 use Rattle.system.specs.Limits.{type_limit}
-use Rattle.runs.specs.Run.{job_limit}
 use Rattle.deadlines.specs.Engine.{instances, jobs_of}
 use Rattle.deadlines_code.proofs.Steps.{instances-turn, instances-end, length-wrote, jobs-more, jobs-done}
 use Rattle.deadlines_code.proofs.jobs_of.Goals as goal

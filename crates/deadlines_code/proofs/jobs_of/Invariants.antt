@@ -1,14 +1,11 @@
 -- The loop's invariant: the jobs written so far and those of the types that are left make all, and so do their numbers.
 use Prim.Native.Nat.{◌+◌, ◌-◌, ◌≤◌}
-use mathlib.Core.Path.{◌≡◌, refl, ◌∙◌}
+use mathlib.Core.Path.{◌≡◌}
 use mathlib.Core.List.{◌++◌}
-use lib.ListN.{length, get_or, take, drop}
-use native.Mathlib.Omega.{arith}
-use borrow.Author.Rules.{rules}
+use lib.ListN.{length, take, drop}
 use Rattle.system.specs.Limits.{type_limit}
 use Rattle.runs.specs.Run.{job_limit}
 use Rattle.deadlines.specs.Engine.{instances, jobs_of}
-use Rattle.deadlines_code.proofs.Steps.{instances-turn, instances-end, length-wrote, jobs-more, jobs-done}
 use Rattle.deadlines_code.proofs.jobs_of.Given as goal
 
 abbrev pub invariant-loop-i : goal.invariant-loop-i

@@ -1,7 +1,6 @@
 -- One law for each answer, in their order.
 use mathlib.Core.Bool.{◌&&◌}
 use lib.Dec.{leb}
-use borrow.Author.Rules.{rules}
 use Rattle.runs.specs.Run.{job_limit}
 use Rattle.deadlines.specs.Engine.{few_ticks, few_enough}
 use Rattle.deadlines_code.proofs.Steps.{first-fails, second-fails, neither-fails}

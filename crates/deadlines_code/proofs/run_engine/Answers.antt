@@ -1,7 +1,5 @@
 -- The file is refused, or reads as a system, of which the run is answered: what that promises is in FromFile.
 use mathlib.Core.Path.{◌≡◌}
-use mathlib.Core.Logic.{⊎_elim}
-use native.Mathlib.Omega.{arith}
 use borrow.Author.Rules.{rules}
 use lib.ListN.{length}
 use Rattle.system.specs.Limits.{type_limit}

@@ -1,7 +1,6 @@
 -- Refused as the check says, or the run of the jobs: then there are few enough of them, and of ticks.
 use mathlib.Core.Path.{◌≡◌}
 use native.Mathlib.Omega.{arith}
-use borrow.Author.Rules.{rules}
 use Rattle.system.specs.Outcome.{passes}
 use Rattle.deadlines.specs.Engine.{run_checks}
 use Rattle.deadlines_code.proofs.Steps.{passes-few, over-fails, over_runs}

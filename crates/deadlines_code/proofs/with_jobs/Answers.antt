@@ -1,5 +1,4 @@
 -- `with_jobs`: the answers.
-use Prim.Native.Nat.{◌-◌, ◌≤◌}
 use mathlib.Core.Path.{◌≡◌, ap, ◌∙◌}
 use lib.ListN.{length, replicate}
 use lib.Seq.{paste, paste-zero}

@@ -1,12 +1,8 @@
 -- The loop's invariant: the first i of the jobs stand in their places.
 use Prim.Native.Nat.{◌-◌, ◌≤◌}
-use mathlib.Core.Path.{◌≡◌, ap, ◌∙◌}
-use lib.ListN.{length, replicate}
-use lib.Seq.{paste, paste-zero}
-use native.Mathlib.Omega.{arith}
-use borrow.Author.Rules.{rules}
-use Rattle.runs.specs.Run.{job_limit}
-use Rattle.deadlines_code.proofs.Steps.{wrote-turn, wrote-all}
+use mathlib.Core.Path.{◌≡◌}
+use lib.ListN.{replicate}
+use lib.Seq.{paste}
 use Rattle.deadlines_code.proofs.with_jobs.Given as goal
 
 abbrev pub invariant-loop-i : goal.invariant-loop-i

@@ -1,13 +1,10 @@
 -- The loop's invariant: the counts passed keep their q and those left do, exactly when all do.
 use Prim.Native.Nat.{◌-◌, ◌≤◌}
-use mathlib.Core.Path.{◌≡◌, refl, sym, ◌∙◌}
-use lib.ListN.{length, drop}
-use native.Mathlib.Omega.{arith}
-use mathlib.Core.Bool.{◌&&◌, and_assoc, and-true}
+use mathlib.Core.Path.{◌≡◌}
+use lib.ListN.{drop}
+use mathlib.Core.Bool.{◌&&◌}
 use Rattle.system.specs.Limits.{type_limit}
 use Rattle.loads.specs.Load.{apart}
-use Rattle.loads.proofs.Steps.{length-mapped, apart-turn, apart-end}
-use borrow.Author.Rules.{rules}
 use Rattle.loads_code.proofs.apart.Given as goal
 
 abbrev pub invariant-loop-i : goal.invariant-loop-i

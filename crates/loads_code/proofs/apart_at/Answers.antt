@@ -1,5 +1,4 @@
 -- One law for each case of the type's q: where it is given, the code's test is the definition's.
-use borrow.Author.Rules.{rules}
 use Rattle.loads_code.proofs.apart_at.Goals as goal
 
 pub returns-in-AtMost : goal.returns-in-AtMost

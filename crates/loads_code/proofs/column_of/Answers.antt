@@ -1,5 +1,5 @@
 -- `column_of`: the answers.
-use Prim.Native.Nat.{ℕ, ◌+◌, ◌-◌, ◌*◌, ◌^◌, ◌≤◌}
+use Prim.Native.Nat.{ℕ, ◌+◌, ◌*◌, ◌^◌, ◌≤◌}
 use mathlib.Core.Path.{◌≡◌}
 use mathlib.Core.List.{List}
 use lib.ListN.{length, drop}
@@ -7,7 +7,6 @@ use native.Mathlib.Nat.{zero-add, mul-le-mul, mul_assoc, le-mul_of_pos_right}
 use native.Mathlib.Omega.{arith}
 use Rattle.system.specs.declared.TaskType.{TaskType}
 use Rattle.system.specs.Limits.{type_limit, columns_of, column_limit}
-use Rattle.loads.specs.Column.{column_from, column_of}
 use Rattle.system.proofs.Laws.{columns_of-pos}
 use Rattle.loads.proofs.Steps.{length-mapped, ceilings, column-turn, column-end, columns-turn}
 use borrow.Author.Rules.{rules}

@@ -1,16 +1,10 @@
 -- The loop's invariant: what was summed and the column of what is left make the column; the stride times the columns left are the columns.
-use Prim.Native.Nat.{ℕ, ◌+◌, ◌-◌, ◌*◌, ◌^◌, ◌≤◌}
+use Prim.Native.Nat.{◌+◌, ◌-◌, ◌*◌, ◌^◌, ◌≤◌}
 use mathlib.Core.Path.{◌≡◌}
-use mathlib.Core.List.{List}
-use lib.ListN.{length, drop}
-use native.Mathlib.Nat.{zero-add, mul-le-mul, mul_assoc, le-mul_of_pos_right}
-use native.Mathlib.Omega.{arith}
-use Rattle.system.specs.declared.TaskType.{TaskType}
+use lib.ListN.{drop}
 use Rattle.system.specs.Limits.{type_limit, columns_of, column_limit}
 use Rattle.loads.specs.Column.{column_from, column_of}
-use Rattle.system.proofs.Laws.{columns_of-pos}
-use Rattle.loads.proofs.Steps.{length-mapped, ceilings, column-turn, column-end, columns-turn}
-use borrow.Author.Rules.{rules}
+use Rattle.loads.proofs.Steps.{ceilings}
 use Rattle.loads_code.proofs.column_of.Given as goal
 
 abbrev pub invariant-loop-i : goal.invariant-loop-i

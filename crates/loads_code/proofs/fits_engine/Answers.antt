@@ -1,5 +1,4 @@
 -- The two tests at the sums that `sums_of` ensures, and that of q.
-use borrow.Author.Rules.{rules}
 use Rattle.loads.specs.Load.{fits_engine}
 use Rattle.loads_code.proofs.fits_engine.Goals as goal
 

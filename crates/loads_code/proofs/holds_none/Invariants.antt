@@ -1,13 +1,10 @@
 -- The loop's invariant: the counts passed are 0 and those left are, exactly when all are.
 use Prim.Native.Nat.{◌-◌, ◌≤◌}
-use mathlib.Core.Path.{◌≡◌, refl, sym, ◌∙◌}
-use lib.ListN.{length, drop}
-use native.Mathlib.Omega.{arith}
-use mathlib.Core.Bool.{◌&&◌, and_assoc, and-true}
+use mathlib.Core.Path.{◌≡◌}
+use lib.ListN.{drop}
+use mathlib.Core.Bool.{◌&&◌}
 use Rattle.system.specs.Limits.{type_limit}
 use Rattle.loads.specs.Load.{holds_none}
-use Rattle.loads.proofs.Steps.{none-turn, none_end}
-use borrow.Author.Rules.{rules}
 use Rattle.loads_code.proofs.holds_none.Given as goal
 
 abbrev pub invariant-loop-i : goal.invariant-loop-i

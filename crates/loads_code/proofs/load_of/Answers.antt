@@ -1,12 +1,9 @@
 -- `load_of`: the answers.
-use Prim.Native.Nat.{◌-◌, ◌≤◌}
 use mathlib.Core.Path.{◌≡◌, refl, sym, ◌∙◌}
-use mathlib.Core.List.{◌++◌}
-use lib.ListN.{length, take, drop, length-set}
+use lib.ListN.{length, length-set}
 use native.Mathlib.Omega.{arith}
 use Rattle.system.specs.Limits.{type_limit}
-use Rattle.loads.specs.Column.{load_of}
-use Rattle.loads.proofs.Steps.{length-mapped, ceilings, load-turn, load-end, filled-turn, filled-end}
+use Rattle.loads.proofs.Steps.{length-mapped, load-turn, load-end, filled-turn, filled-end}
 use borrow.Author.Rules.{rules}
 use Rattle.loads_code.proofs.load_of.Goals as goal
 

@@ -1,13 +1,11 @@
 -- The loop's invariant: the counts made, followed by the load of the rest of the column over the types left, are the load.
 use Prim.Native.Nat.{◌-◌, ◌≤◌}
-use mathlib.Core.Path.{◌≡◌, refl, sym, ◌∙◌}
+use mathlib.Core.Path.{◌≡◌}
 use mathlib.Core.List.{◌++◌}
-use lib.ListN.{length, take, drop, length-set}
-use native.Mathlib.Omega.{arith}
+use lib.ListN.{length, take, drop}
 use Rattle.system.specs.Limits.{type_limit}
 use Rattle.loads.specs.Column.{load_of}
-use Rattle.loads.proofs.Steps.{length-mapped, ceilings, load-turn, load-end, filled-turn, filled-end}
-use borrow.Author.Rules.{rules}
+use Rattle.loads.proofs.Steps.{ceilings}
 use Rattle.loads_code.proofs.load_of.Given as goal
 
 abbrev pub invariant-loop-i : goal.invariant-loop-i

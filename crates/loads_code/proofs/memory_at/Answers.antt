@@ -4,7 +4,6 @@ use mathlib.Core.Path.{◌≡◌, ◌∙◌}
 use native.Mathlib.Nat.{mul-le-mul}
 use native.Mathlib.Omega.{arith}
 use borrow.Author.Tests.{eq-eqb, ne_eqb}
-use borrow.Author.Rules.{rules}
 use Rattle.loads_code.proofs.memory_at.Goals.{After-struct_known-then-rule-eq0-1}
 use Rattle.loads_code.proofs.memory_at.Goals as goal
 

@@ -1,11 +1,8 @@
 -- `minus`: the answers.
-use Prim.Native.Nat.{◌-◌, ◌≤◌}
 use mathlib.Core.Path.{◌≡◌, refl, sym, ◌∙◌}
-use mathlib.Core.List.{◌++◌}
-use lib.ListN.{length, take, drop, length-set}
+use lib.ListN.{length, drop, length-set}
 use native.Mathlib.Omega.{arith}
 use Rattle.system.specs.Limits.{type_limit}
-use Rattle.loads.specs.Load.{less}
 use Rattle.loads.proofs.Steps.{less-turn, less-end, filled-turn, filled-end}
 use borrow.Author.Rules.{rules}
 use Rattle.loads_code.proofs.minus.Goals as goal

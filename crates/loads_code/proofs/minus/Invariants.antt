@@ -1,13 +1,10 @@
 -- The loop's invariant: the differences made, followed by those of the counts left, are the difference.
 use Prim.Native.Nat.{◌-◌, ◌≤◌}
-use mathlib.Core.Path.{◌≡◌, refl, sym, ◌∙◌}
+use mathlib.Core.Path.{◌≡◌}
 use mathlib.Core.List.{◌++◌}
-use lib.ListN.{length, take, drop, length-set}
-use native.Mathlib.Omega.{arith}
+use lib.ListN.{length, take, drop}
 use Rattle.system.specs.Limits.{type_limit}
 use Rattle.loads.specs.Load.{less}
-use Rattle.loads.proofs.Steps.{less-turn, less-end, filled-turn, filled-end}
-use borrow.Author.Rules.{rules}
 use Rattle.loads_code.proofs.minus.Given as goal
 
 abbrev pub invariant-loop-i : goal.invariant-loop-i

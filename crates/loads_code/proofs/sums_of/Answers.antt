@@ -1,5 +1,4 @@
 -- `sums_of`: the answers.
-use Prim.Native.Nat.{◌+◌, ◌-◌, ◌*◌, ◌^◌, ◌≤◌}
 use mathlib.Core.Path.{◌≡◌}
 use lib.ListN.{length, drop}
 use native.Mathlib.Nat.{zero-add}

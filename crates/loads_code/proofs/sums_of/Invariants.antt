@@ -1,13 +1,9 @@
 -- The loop's invariant: what was summed and the sum of what is left make the sum of the load, for time and for memory alike; the measure is what is left of the types.
 use Prim.Native.Nat.{◌+◌, ◌-◌, ◌*◌, ◌^◌, ◌≤◌}
 use mathlib.Core.Path.{◌≡◌}
-use lib.ListN.{length, drop}
-use native.Mathlib.Nat.{zero-add}
-use native.Mathlib.Omega.{arith}
+use lib.ListN.{drop}
 use Rattle.system.specs.Limits.{type_limit}
-use Rattle.loads.specs.Load.{time_at, time_of, memory_at, memory_of}
-use Rattle.loads.proofs.Steps.{length-mapped, sum-turn, sum-end}
-use borrow.Author.Rules.{rules}
+use Rattle.loads.specs.Load.{time_of, memory_of}
 use Rattle.loads_code.proofs.sums_of.Given as goal
 
 abbrev pub invariant-loop-i : goal.invariant-loop-i

@@ -1,6 +1,5 @@
 -- What `write_refusal` wrote to a buffer of its own is copied.
 use Rattle.timeline.proofs.Laws.{written-taken}
-use borrow.Author.Rules.{rules}
 use Rattle.timeline_code.proofs.put_refusal.Goals as goal
 
 pub put_line-requires : goal.put_line-requires

@@ -1,7 +1,6 @@
 -- The ticks that are shown, then the line that sums up.
 use native.Mathlib.Omega.{arith}
 use Rattle.buffer.proofs.Laws.{puts_then}
-use borrow.Author.Rules.{rules}
 use Rattle.timeline_code.proofs.put_report.Goals as goal
 
 pub put_window-told-requires : goal.put_window-told-requires

@@ -1,5 +1,4 @@
 -- The numbers and the file are those that stand in the input.
-use borrow.Author.Rules.{rules}
 use Rattle.timeline_code.proofs.watch_joined.Goals as goal
 
 pub returns : goal.returns

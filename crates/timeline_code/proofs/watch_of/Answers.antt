@@ -3,7 +3,6 @@ use native.Mathlib.Omega.{arith}
 use Rattle.buffer.proofs.Laws.{written}
 use Rattle.timeline.proofs.Told.{tells-watch}
 use Rattle.timeline.proofs.Verdicts.{text-refused, text-planned, not-bare, zeros-long}
-use borrow.Author.Rules.{rules}
 use Rattle.timeline_code.proofs.watch_of.Goals as goal
 
 pub returns-in-Number : goal.returns-in-Number

@@ -6,7 +6,6 @@ use lib.Dec.{leb}
 use Rattle.system.proofs.Laws.{and_parts}
 use Rattle.buffer.proofs.Laws.{written}
 use Rattle.timeline.specs.Whole.{engine_with}
-use borrow.Author.Rules.{rules}
 use Rattle.timeline_code.proofs.write_engine.Goals.{Then-engine-y}
 use Rattle.timeline_code.proofs.write_engine.Goals as goal
 

@@ -1,6 +1,5 @@
 -- What the file reads as has at most 16 engines.
 use Rattle.timeline.proofs.Verdicts.{read-few}
-use borrow.Author.Rules.{rules}
 use Rattle.timeline_code.proofs.write_planned.Goals as goal
 
 pub write_engine-requires : goal.write_engine-requires

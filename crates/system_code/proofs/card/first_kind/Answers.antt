@@ -1,5 +1,4 @@
 -- `card::first_kind` meets its contract by what `tasks_here` does.
-use borrow.Author.Rules.{rules}
 use Rattle.system_code.proofs.card.first_kind.Goals as goal
 
 pub returns : goal.returns

@@ -1,5 +1,4 @@
 -- `card::second_kind` meets its contract by what `tasks_there` does.
-use borrow.Author.Rules.{rules}
 use Rattle.system_code.proofs.card.second_kind.Goals as goal
 
 pub returns : goal.returns

@@ -1,5 +1,4 @@
 -- `card::task_there` meets its contract: whether u and s there are given picks the case.
-use borrow.Author.Rules.{rules}
 use Rattle.system_code.proofs.card.task_there.Goals as goal
 
 pub returns-in_default : goal.returns-in_default

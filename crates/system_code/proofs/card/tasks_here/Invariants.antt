@@ -1,12 +1,10 @@
 -- `card::tasks_here` meets its contract. The loop's invariant: the first i entries are as the kind sees them, and the others as they were.
-use Prim.Native.Nat.{◌-◌, ◌≤◌, ◌<◌}
+use Prim.Native.Nat.{◌-◌, ◌≤◌}
 use mathlib.Core.Path.{◌≡◌}
-use native.Mathlib.Omega.{arith}
-use borrow.Author.Rules.{rules}
-use lib.ListN.{length, length-set}
+use lib.ListN.{length}
 use Rattle.system.specs.Limits.{type_limit}
 use Rattle.system.specs.Card.{task_here}
-use Rattle.system_code.proofs.Steps.{mapped_to, mapped-none, mapped-more, mapped-all}
+use Rattle.system_code.proofs.Steps.{mapped_to}
 use Rattle.system_code.proofs.card.tasks_here.Given as goal
 
 abbrev pub invariant-loop-i : goal.invariant-loop-i

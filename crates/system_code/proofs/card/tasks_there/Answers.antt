@@ -1,12 +1,10 @@
 -- `tasks_there`: the answers.
-use Prim.Native.Nat.{◌-◌, ◌≤◌, ◌<◌}
-use mathlib.Core.Path.{◌≡◌}
+use Prim.Native.Nat.{◌<◌}
 use native.Mathlib.Omega.{arith}
 use borrow.Author.Rules.{rules}
 use lib.ListN.{length, length-set}
-use Rattle.system.specs.Limits.{type_limit}
 use Rattle.system.specs.Card.{task_there}
-use Rattle.system_code.proofs.Steps.{mapped_to, mapped-none, mapped-more, mapped-all}
+use Rattle.system_code.proofs.Steps.{mapped-none, mapped-more, mapped-all}
 use Rattle.system_code.proofs.card.tasks_there.Goals as goal
 
 pub loop-i-init : goal.loop-i-init

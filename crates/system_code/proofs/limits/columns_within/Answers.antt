@@ -1,13 +1,12 @@
 -- `columns_within`: the answers.
-use Prim.Native.Nat.{◌+◌, ◌-◌, ◌*◌, ◌≤◌, ◌<◌}
+use Prim.Native.Nat.{◌+◌, ◌*◌, ◌≤◌, ◌<◌}
 use native.Mathlib.Omega.{arith}
 use native.Mathlib.Nat.{one-mul, mul-le-mul, lt_of_le_of_lt}
 use borrow.Author.Rules.{rules}
-use mathlib.Core.Path.{◌≡◌}
 use lib.ListN.{length, get_or, drop}
 use lib.Dec.{lit<}
 use Rattle.system.specs.Values.{no_task}
-use Rattle.system.specs.Limits.{type_limit, column_limit}
+use Rattle.system.specs.Limits.{column_limit}
 use Rattle.system_code.proofs.Steps.{left, columns-step, columns-end, columns-over}
 use Rattle.system_code.proofs.limits.columns_within.Goals as goal
 

@@ -1,14 +1,9 @@
 -- `limits::columns_within` meets its contract. The loop's invariant: the product so far times that of the types from i on is the columns, and is within the limit.
-use Prim.Native.Nat.{◌+◌, ◌-◌, ◌*◌, ◌≤◌, ◌<◌}
-use native.Mathlib.Omega.{arith}
-use native.Mathlib.Nat.{one-mul, mul-le-mul, lt_of_le_of_lt}
-use borrow.Author.Rules.{rules}
+use Prim.Native.Nat.{◌-◌, ◌*◌, ◌≤◌}
 use mathlib.Core.Path.{◌≡◌}
-use lib.ListN.{length, get_or, drop}
-use lib.Dec.{lit<}
-use Rattle.system.specs.Values.{no_task}
+use lib.ListN.{length, drop}
 use Rattle.system.specs.Limits.{type_limit, column_limit}
-use Rattle.system_code.proofs.Steps.{left, columns-step, columns-end, columns-over}
+use Rattle.system_code.proofs.Steps.{left}
 use Rattle.system_code.proofs.limits.columns_within.Given as goal
 
 abbrev pub invariant-loop-i : goal.invariant-loop-i

@@ -1,5 +1,4 @@
 -- `limits::costs_fault` meets its contract: what is given picks the case, and the sizes are left.
-use borrow.Author.Rules.{rules}
 use Rattle.system_code.proofs.limits.costs_fault.Goals as goal
 
 pub returns : goal.returns

@@ -1,7 +1,6 @@
 -- `limits::keeps_card` meets its contract: its flags are the tests of `keeps_card`.
 use mathlib.Core.Bool.{and_assoc}
 use Rattle.system.specs.Limits.{keeps_card}
-use borrow.Author.Rules.{rules}
 use Rattle.system_code.proofs.limits.keeps_card.Goals as goal
 
 pub returns : goal.returns

@@ -1,6 +1,5 @@
 -- `limits::keeps_limits` meets its contract: its two tests are those of `keeps_limits`.
 use Rattle.system.specs.Limits.{keeps_limits}
-use borrow.Author.Rules.{rules}
 use Rattle.system_code.proofs.limits.keeps_limits.Goals as goal
 
 pub returns : goal.returns

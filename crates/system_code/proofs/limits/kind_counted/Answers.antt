@@ -1,5 +1,4 @@
 -- `limits::kind_counted` meets its contract: where one of the two numbers is over the limit so is their sum, and where none is the sum fits.
-use borrow.Author.Rules.{rules}
 use native.Mathlib.Omega.{arith}
 use Rattle.system_code.proofs.Steps.{kind-many, kind-few}
 use Rattle.system_code.proofs.limits.kind_counted.Goals as goal

@@ -1,7 +1,6 @@
 -- `limits::kind_fault` meets its contract: the test of the number picks the case, and the sizes are left.
 use mathlib.Core.Path.{sym, ap, ◌∙◌}
 use mathlib.Core.Bool.{not}
-use borrow.Author.Rules.{rules}
 use Rattle.system_code.proofs.limits.kind_fault.Goals as goal
 
 pub returns-then-not-kind_counted : goal.returns-then-not-kind_counted

@@ -1,13 +1,13 @@
 -- `kinds_agree`: the answers.
-use Prim.Native.Nat.{◌-◌, ◌≤◌, ◌<◌}
+use Prim.Native.Nat.{◌≤◌, ◌<◌}
 use native.Mathlib.Nat.{sub-zero}
 use native.Mathlib.Omega.{arith}
 use borrow.Author.Rules.{rules}
 use mathlib.Core.Bool.{Bool, beq}
-use mathlib.Core.Path.{◌≡◌, sym, ap, ◌∙◌}
-use lib.ListN.{length, get_or, drop}
+use mathlib.Core.Path.{sym, ap, ◌∙◌}
+use lib.ListN.{length, get_or}
 use Rattle.system.specs.Values.{no_task}
-use Rattle.system.specs.Limits.{type_limit, given, kinds_agree}
+use Rattle.system.specs.Limits.{given}
 use Rattle.system_code.proofs.Steps.{kind-disagrees, kind-agrees, kinds-past, kinds-fail, kinds-more, kinds-end}
 use Rattle.system_code.proofs.limits.kinds_agree.Goals as goal
 

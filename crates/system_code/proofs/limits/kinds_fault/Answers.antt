@@ -1,7 +1,6 @@
 -- `limits::kinds_fault` meets its contract: the test picks the case.
 use mathlib.Core.Bool.{Bool, not}
 use mathlib.Core.Path.{◌≡◌, sym, ap, ◌∙◌}
-use borrow.Author.Rules.{rules}
 use Rattle.system.specs.Limits.{is_one_kind, kinds_agree}
 use Rattle.system_code.proofs.limits.kinds_fault.Goals.{Else-not-kinds_agree, Then-not-kinds_agree}
 use Rattle.system_code.proofs.limits.kinds_fault.Goals as goal

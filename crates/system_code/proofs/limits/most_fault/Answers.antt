@@ -1,6 +1,5 @@
 -- `limits::most_fault` meets its contract: what the q is, and the test of it, pick the case.
 use borrow.Author.Tests.{eq-eqb, ne_eqb}
-use borrow.Author.Rules.{rules}
 use Rattle.system_code.proofs.limits.most_fault.Goals as goal
 
 pub returns-in_default : goal.returns-in_default

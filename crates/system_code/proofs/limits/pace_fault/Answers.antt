@@ -1,5 +1,4 @@
 -- `limits::pace_fault` meets its contract: what is given picks the case, and the test of it decides.
-use borrow.Author.Rules.{rules}
 use Rattle.system_code.proofs.limits.pace_fault.Goals as goal
 
 pub returns-then-not-cycle_keeps : goal.returns-then-not-cycle_keeps

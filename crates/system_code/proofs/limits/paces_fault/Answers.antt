@@ -1,12 +1,10 @@
 -- `paces_fault`: the answers.
-use Prim.Native.Nat.{◌-◌, ◌≤◌, ◌<◌}
+use Prim.Native.Nat.{◌≤◌, ◌<◌}
 use native.Mathlib.Nat.{sub-zero}
 use native.Mathlib.Omega.{arith}
 use borrow.Author.Rules.{rules}
-use mathlib.Core.Path.{◌≡◌}
-use lib.ListN.{length, drop}
+use lib.ListN.{length}
 use Rattle.system.specs.Values.{no_task}
-use Rattle.system.specs.Limits.{type_limit, paces_fault}
 use Rattle.system_code.proofs.Steps.{paces-found, paces-more, paces-past, paces-end}
 use Rattle.system_code.proofs.limits.paces_fault.Goals as goal
 

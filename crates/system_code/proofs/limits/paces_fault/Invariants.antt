@@ -1,13 +1,8 @@
 -- `limits::paces_fault` meets its contract. The loop's invariant: the entries from i on decide.
-use Prim.Native.Nat.{◌-◌, ◌≤◌, ◌<◌}
-use native.Mathlib.Nat.{sub-zero}
-use native.Mathlib.Omega.{arith}
-use borrow.Author.Rules.{rules}
+use Prim.Native.Nat.{◌-◌, ◌≤◌}
 use mathlib.Core.Path.{◌≡◌}
 use lib.ListN.{length, drop}
-use Rattle.system.specs.Values.{no_task}
 use Rattle.system.specs.Limits.{type_limit, paces_fault}
-use Rattle.system_code.proofs.Steps.{paces-found, paces-more, paces-past, paces-end}
 use Rattle.system_code.proofs.limits.paces_fault.Given as goal
 
 abbrev pub invariant-loop-i : goal.invariant-loop-i

@@ -1,5 +1,4 @@
 -- `limits::second_fault` meets its contract: the kinds pick the case, and the second kind's numbers are left.
-use borrow.Author.Rules.{rules}
 use Rattle.system_code.proofs.limits.second_fault.Goals as goal
 
 pub returns : goal.returns

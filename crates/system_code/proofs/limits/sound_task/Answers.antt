@@ -1,5 +1,4 @@
 -- `limits::sound_task` meets its contract: its three tests are those of the definition.
-use borrow.Author.Rules.{rules}
 use Rattle.system_code.proofs.limits.sound_task.Goals as goal
 
 pub returns : goal.returns

@@ -1,6 +1,5 @@
 -- `limits::task_keeps` meets its contract: the test picks the case.
 use borrow.Author.Tests.{lt-ltb, le-ltb}
-use borrow.Author.Rules.{rules}
 use Rattle.system_code.proofs.limits.task_keeps.Goals as goal
 
 pub returns-then-i-k : goal.returns-then-i-k

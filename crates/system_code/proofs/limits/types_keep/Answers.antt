@@ -1,13 +1,13 @@
 -- `types_keep`: the answers.
-use Prim.Native.Nat.{◌-◌, ◌≤◌, ◌<◌}
+use Prim.Native.Nat.{◌≤◌, ◌<◌}
 use native.Mathlib.Nat.{sub-zero}
 use native.Mathlib.Omega.{arith}
 use borrow.Author.Rules.{rules}
 use borrow.Author.Tests.{eq-eqb}
-use mathlib.Core.Path.{◌≡◌, sym, ◌∙◌}
-use lib.ListN.{length, drop}
+use mathlib.Core.Path.{sym, ◌∙◌}
+use lib.ListN.{length}
 use Rattle.system.specs.Values.{no_task}
-use Rattle.system.specs.Limits.{type_limit, types_keep}
+use Rattle.system.specs.Limits.{type_limit}
 use Rattle.system_code.proofs.Steps.{types-fail, types_more, types-end}
 use Rattle.system_code.proofs.limits.types_keep.Goals as goal
 

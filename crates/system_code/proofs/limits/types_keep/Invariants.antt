@@ -1,14 +1,8 @@
 -- `limits::types_keep` meets its contract. The loop's invariant: the entries from i on decide.
-use Prim.Native.Nat.{◌-◌, ◌≤◌, ◌<◌}
-use native.Mathlib.Nat.{sub-zero}
-use native.Mathlib.Omega.{arith}
-use borrow.Author.Rules.{rules}
-use borrow.Author.Tests.{eq-eqb, not-true, not-false}
-use mathlib.Core.Path.{◌≡◌, sym, ◌∙◌}
+use Prim.Native.Nat.{◌-◌, ◌≤◌}
+use mathlib.Core.Path.{◌≡◌}
 use lib.ListN.{length, drop}
-use Rattle.system.specs.Values.{no_task}
 use Rattle.system.specs.Limits.{type_limit, types_keep}
-use Rattle.system_code.proofs.Steps.{types-fail, types_more, types-end}
 use Rattle.system_code.proofs.limits.types_keep.Given as goal
 
 abbrev pub invariant-loop-i : goal.invariant-loop-i

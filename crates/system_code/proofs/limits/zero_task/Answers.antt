@@ -1,5 +1,4 @@
 -- `limits::zero_task` meets its contract: its tests are those of the definition.
-use borrow.Author.Rules.{rules}
 use Rattle.system_code.proofs.limits.zero_task.Goals as goal
 
 pub returns : goal.returns

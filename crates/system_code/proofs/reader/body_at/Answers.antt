@@ -8,7 +8,6 @@ use borrow.Author.Tests.{leb-true}
 use lib.ListN.{length, take, drop}
 use Rattle.system.specs.Rules.{head_size}
 use Rattle.system.specs.Layout.{word2, field_size, whole_field, body_part}
-use borrow.Author.Rules.{rules}
 use Rattle.system_code.proofs.reader.body_at.Goals.{After-result-1, Else-whole_at, Then-whole_at}
 use Rattle.system_code.proofs.reader.body_at.Goals as goal
 

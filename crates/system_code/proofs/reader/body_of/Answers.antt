@@ -1,7 +1,6 @@
 -- `reader::body_of` meets its contract: one law for each answer.
 use native.Mathlib.Omega.{arith}
 use Rattle.system_code.proofs.Goes.{body-many, body-type, body-data, body-most, body-pace, body-second, body-costs, body-platform, types-seen}
-use borrow.Author.Rules.{rules}
 use Rattle.system_code.proofs.reader.body_of.Goals as goal
 
 pub returns-then-rule-seen_of : goal.returns-then-rule-seen_of

@@ -5,7 +5,6 @@ use Rattle.system.specs.Values.{with_costs, with_last}
 use Rattle.system.specs.Limits.{costs_fault}
 use Rattle.system.specs.Layout.{unless_fault, costs_from}
 use Rattle.system_code.proofs.Goes.{reads_as}
-use borrow.Author.Rules.{rules}
 use Rattle.system_code.proofs.reader.costs_of.Goals as goal
 
 pub returns : goal.returns

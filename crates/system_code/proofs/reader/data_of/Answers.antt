@@ -4,7 +4,6 @@ use Rattle.system.specs.Values.{with_data, with_last}
 use Rattle.system.specs.Limits.{type_fault}
 use Rattle.system.specs.Layout.{unless_fault, data_from}
 use Rattle.system_code.proofs.Goes.{reads_as}
-use borrow.Author.Rules.{rules}
 use Rattle.system_code.proofs.reader.data_of.Goals as goal
 
 pub returns : goal.returns

@@ -4,7 +4,6 @@ use Prim.Native.Nat.{ℕ}
 use Rattle.system.specs.Limits.{columns_fault}
 use Rattle.system.specs.Layout.{unless_fault, end_of}
 use Rattle.system_code.proofs.Goes.{reads_as, fault-first, fault-none}
-use borrow.Author.Rules.{rules}
 use Rattle.system_code.proofs.reader.end_of.Goals as goal
 
 pub returns-then-last-y : goal.returns-then-last-y

@@ -3,7 +3,6 @@ use mathlib.Core.Path.{◌≡◌, sym, ◌∙◌}
 use lib.ListN.{drop}
 use Rattle.system.specs.Layout.{head_of}
 use Rattle.system_code.proofs.Goes.{head-is, ruled-ready, field-stops, field-ruled}
-use borrow.Author.Rules.{rules}
 use Rattle.system_code.proofs.reader.field_of.Goals.{After-body_at, After-body_of, After-refused}
 use Rattle.system_code.proofs.reader.field_of.Goals as goal
 

@@ -2,7 +2,6 @@
 use mathlib.Core.Path.{sym, ap, ◌∙◌}
 use mathlib.Core.Bool.{not}
 use Rattle.system_code.proofs.Goes.{head-unknown, head-misplaced, head-other-size, head-body-cut, head-ruled}
-use borrow.Author.Rules.{rules}
 use Rattle.system_code.proofs.reader.head_of.Goals as goal
 
 pub returns-then-not-headed : goal.returns-then-not-headed

@@ -5,7 +5,6 @@ use Prim.Native.Nat.{ℕ}
 use lib.ListN.{length}
 use lib.Dec.{leb}
 use Rattle.system.specs.Rules.{head_size}
-use borrow.Author.Rules.{rules}
 use Rattle.system_code.proofs.reader.headed_at.Goals as goal
 
 pub returns : goal.returns

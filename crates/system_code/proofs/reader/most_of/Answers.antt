@@ -5,7 +5,6 @@ use Rattle.system.specs.Values.{with_most, with_last}
 use Rattle.system.specs.Limits.{most_fault}
 use Rattle.system.specs.Layout.{unless_fault, most_from}
 use Rattle.system_code.proofs.Goes.{reads_as}
-use borrow.Author.Rules.{rules}
 use Rattle.system_code.proofs.reader.most_of.Goals as goal
 
 pub returns : goal.returns

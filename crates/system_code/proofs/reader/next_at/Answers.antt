@@ -7,7 +7,6 @@ use lib.ListN.{length, drop}
 use Rattle.system.specs.Rules.{head_size}
 use Rattle.system.specs.Layout.{field_size, whole_field}
 use Rattle.system.proofs.Laws.{whole-inside}
-use borrow.Author.Rules.{rules}
 use Rattle.system_code.proofs.reader.next_at.Goals.{After-struct_known-1}
 use Rattle.system_code.proofs.reader.next_at.Goals as goal
 

@@ -5,7 +5,6 @@ use Rattle.system.specs.Values.{with_pace, with_last}
 use Rattle.system.specs.Limits.{pace_fault}
 use Rattle.system.specs.Layout.{unless_fault, pace_from}
 use Rattle.system_code.proofs.Goes.{reads_as}
-use borrow.Author.Rules.{rules}
 use Rattle.system_code.proofs.reader.pace_of.Goals as goal
 
 pub returns : goal.returns

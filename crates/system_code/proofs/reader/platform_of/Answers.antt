@@ -2,7 +2,6 @@
 use Rattle.system.specs.Layout.{unless_fault, platform_from}
 use mathlib.Core.Path.{◌∙◌}
 use Rattle.system_code.proofs.Goes.{reads_as}
-use borrow.Author.Rules.{rules}
 use Rattle.system_code.proofs.reader.platform_of.Goals as goal
 
 pub returns : goal.returns

@@ -1,13 +1,7 @@
 -- `read_card`: the answers.
-use Prim.Native.Nat.{◌-◌}
 use native.Mathlib.Omega.{arith}
-use borrow.Author.Rules.{rules}
-use mathlib.Core.Path.{◌≡◌, sym, ap}
-use mathlib.Core.Logic.{⊎_elim}
-use lib.ListN.{length}
-use denote.Enum.Declared.{tag_of}
-use Rattle.system.specs.contracts.Answer.{the_type}
-use Rattle.system_code.proofs.Goes.{reads_as, Reached, reached-start, reached-typed, reached-end, reached-refused, next-is, next-inside, reached-next}
+use mathlib.Core.Path.{sym}
+use Rattle.system_code.proofs.Goes.{reads_as, reached-start, reached-typed, reached-end, reached-refused, next-is, next-inside, reached-next}
 use Rattle.system_code.proofs.reader.read_card.Goals as goal
 
 pub loop-c-init : goal.loop-c-init

@@ -2,7 +2,6 @@
 use mathlib.Core.Path.{sym, ◌∙◌}
 use Rattle.system.specs.Layout.{read_card, read_file}
 use Rattle.system_code.proofs.Goes.{one-reads, two-reads}
-use borrow.Author.Rules.{rules}
 use Rattle.system_code.proofs.reader.read_system.Goals as goal
 
 pub returns-then-is_one_kind : goal.returns-then-is_one_kind

@@ -5,7 +5,6 @@ use native.Mathlib.Omega.{arith}
 use mathlib.Core.Path.{sym}
 use lib.ListN.{drop_of_length-le, length-drop}
 use lib.Seq.{take_all}
-use borrow.Author.Rules.{rules}
 use Rattle.system_code.proofs.reader.rest_at.Goals as goal
 
 pub returns-then-at-file : goal.returns-then-at-file

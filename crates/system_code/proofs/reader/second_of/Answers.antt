@@ -2,7 +2,6 @@
 use mathlib.Core.Path.{◌∙◌}
 use Rattle.system.specs.Layout.{unless_fault, second_from}
 use Rattle.system_code.proofs.Goes.{reads_as}
-use borrow.Author.Rules.{rules}
 use Rattle.system_code.proofs.reader.second_of.Goals as goal
 
 pub returns : goal.returns

@@ -3,7 +3,6 @@ use mathlib.Core.List.{List}
 use mathlib.Core.Path.{ap, ◌∙◌}
 use Prim.Native.Nat.{ℕ}
 use Rattle.system.specs.Layout.{byte_at}
-use borrow.Author.Rules.{rules}
 use Rattle.system_code.proofs.reader.tag_at.Goals as goal
 
 pub returns : goal.returns

@@ -3,7 +3,6 @@ use mathlib.Core.Path.{◌∙◌}
 use Rattle.system.specs.Values.{task_of}
 use Rattle.system.specs.Layout.{unless_fault, type_from}
 use Rattle.system_code.proofs.Goes.{reads_as}
-use borrow.Author.Rules.{rules}
 use Rattle.system_code.proofs.reader.type_of.Goals as goal
 
 pub returns : goal.returns

@@ -1,7 +1,6 @@
 -- `reader::unless_fault` meets its contract: the test picks the case.
 use mathlib.Core.Path.{refl}
 use borrow.Author.Tests.{eq-eqb, ne_eqb}
-use borrow.Author.Rules.{rules}
 use Rattle.system_code.proofs.reader.unless_fault.Goals as goal
 
 pub returns-then-n-ne0 : goal.returns-then-n-ne0

@@ -3,7 +3,6 @@ use lib.ListN.{length}
 use lib.Dec.{leb}
 use Prim.Native.Nat.{◌+◌}
 use Rattle.system.specs.Rules.{head_size}
-use borrow.Author.Rules.{rules}
 use Rattle.system_code.proofs.reader.whole_at.Goals as goal
 
 pub returns : goal.returns

@@ -1,12 +1,12 @@
 -- `may_follow`: the answers.
-use Prim.Native.Nat.{ℕ, ◌-◌, ◌≤◌}
+use Prim.Native.Nat.{ℕ, ◌≤◌}
 use borrow.Author.Rules.{rules}
 use mathlib.Core.Bool.{Bool, true, false, ◌&&◌}
-use mathlib.Core.Path.{◌≡◌, refl}
-use lib.ListN.{length, drop}
+use mathlib.Core.Path.{refl}
+use lib.ListN.{length}
 use lib.Dec.{eqb}
 use Rattle.system.specs.declared.Follow.{Follow}
-use Rattle.system.specs.Rules.{follows, may_follow}
+use Rattle.system.specs.Rules.{follows}
 use Rattle.system_code.proofs.Steps.{first-here, first_on, first-none}
 use Rattle.system_code.proofs.rules.may_follow.Goals as goal
 

@@ -1,13 +1,8 @@
 -- `rules::may_follow` meets its contract. The loop's invariant: the rows from i on decide.
-use Prim.Native.Nat.{ℕ, ◌-◌, ◌≤◌}
-use borrow.Author.Rules.{rules}
-use mathlib.Core.Bool.{Bool, true, false, ◌&&◌}
-use mathlib.Core.Path.{◌≡◌, refl}
+use Prim.Native.Nat.{◌-◌, ◌≤◌}
+use mathlib.Core.Path.{◌≡◌}
 use lib.ListN.{length, drop}
-use lib.Dec.{eqb}
-use Rattle.system.specs.declared.Follow.{Follow}
 use Rattle.system.specs.Rules.{follows, may_follow}
-use Rattle.system_code.proofs.Steps.{first-here, first_on, first-none}
 use Rattle.system_code.proofs.rules.may_follow.Given as goal
 
 abbrev pub invariant-loop-i : goal.invariant-loop-i

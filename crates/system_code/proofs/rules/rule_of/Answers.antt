@@ -1,10 +1,10 @@
 -- `rule_of`: the answers.
-use Prim.Native.Nat.{ℕ, ◌-◌, ◌≤◌}
+use Prim.Native.Nat.{ℕ, ◌≤◌}
 use borrow.Author.Rules.{rules}
 use borrow.Author.Tests.{eq-eqb, ne_eqb}
 use mathlib.Core.Bool.{Bool}
-use mathlib.Core.Path.{◌≡◌, refl}
-use lib.ListN.{length, get_or, drop}
+use mathlib.Core.Path.{refl}
+use lib.ListN.{length, get_or}
 use lib.Dec.{eqb}
 use Rattle.system.specs.declared.FieldRule.{FieldRule}
 use Rattle.system.specs.declared.RuleFound.TheVariants.{Known, Unknown}

@@ -1,5 +1,4 @@
 -- `values::blank_system` meets its contract: six times what `no_task` ensures.
-use borrow.Author.Rules.{rules}
 use lib.ListN.{replicate}
 use Rattle.system.specs.declared.Second.TheVariants.{OneKind}
 use Rattle.system.specs.Numbers.{type_limit}

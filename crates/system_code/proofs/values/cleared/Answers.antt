@@ -1,5 +1,4 @@
 -- `values::cleared` meets its contract: the types are what `cleared_types` ensures.
-use borrow.Author.Rules.{rules}
 use Rattle.system_code.proofs.values.cleared.Goals as goal
 
 pub returns : goal.returns

@@ -1,11 +1,11 @@
 -- `cleared_types`: the answers.
-use Prim.Native.Nat.{◌-◌, ◌≤◌, ◌<◌}
+use Prim.Native.Nat.{◌-◌, ◌<◌}
 use mathlib.Core.Path.{◌≡◌}
 use native.Mathlib.Omega.{arith}
 use borrow.Author.Rules.{rules}
 use lib.ListN.{length, length-set}
 use Rattle.system.specs.Limits.{type_limit}
-use Rattle.system_code.proofs.Steps.{cleared_to, cleared-none, cleared_more, cleared-all}
+use Rattle.system_code.proofs.Steps.{cleared-none, cleared_more, cleared-all}
 use Rattle.system_code.proofs.values.cleared_types.Goals as goal
 
 pub loop-i-init : goal.loop-i-init

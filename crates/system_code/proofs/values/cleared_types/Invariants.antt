@@ -1,11 +1,9 @@
 -- `values::cleared_types` meets its contract. The loop's invariant: the entries from k up to i are cleared, and the others are as they were.
-use Prim.Native.Nat.{◌-◌, ◌≤◌, ◌<◌}
+use Prim.Native.Nat.{◌-◌, ◌≤◌}
 use mathlib.Core.Path.{◌≡◌}
-use native.Mathlib.Omega.{arith}
-use borrow.Author.Rules.{rules}
-use lib.ListN.{length, length-set}
+use lib.ListN.{length}
 use Rattle.system.specs.Limits.{type_limit}
-use Rattle.system_code.proofs.Steps.{cleared_to, cleared-none, cleared_more, cleared-all}
+use Rattle.system_code.proofs.Steps.{cleared_to}
 use Rattle.system_code.proofs.values.cleared_types.Given as goal
 
 -- past k, i stays where it is: the numbers say so, as differences stop at 0

@@ -1,11 +1,10 @@
 -- `name_at`: the answers.
-use Prim.Native.Nat.{◌+◌, ◌-◌, ◌≤◌}
+use Prim.Native.Nat.{◌+◌}
 use mathlib.Core.Path.{◌≡◌, refl, sym, ◌∙◌}
 use native.Mathlib.Omega.{arith}
-use lib.ListN.{length, get_or, drop}
+use lib.ListN.{length, get_or}
 use mir.Syntax.{w16}
 use mir.Val.{Fits}
-use Rattle.timeline.specs.Text.{kind_from, number_from}
 use Rattle.timeline.proofs.Laws.{kind-here, kind-on, kind-past, number-here, number-on, number_past}
 use borrow.Author.Rules.{rules}
 use Rattle.timeline_code.proofs.lines.name_at.Goals as goal

@@ -2,7 +2,6 @@
 use native.Mathlib.Omega.{arith}
 use borrow.Author.Tests.{eq-eqb, ne_eqb}
 use Rattle.buffer.proofs.Laws.{puts_none}
-use borrow.Author.Rules.{rules}
 use Rattle.timeline_code.proofs.lines.put_arrival.Goals as goal
 
 pub returns-then-j-time : goal.returns-then-j-time

@@ -1,18 +1,11 @@
 -- The loop's invariant: what was put so far, and what arrives of the jobs from place i on, are what arrives of all.
-use Prim.Native.Nat.{ℕ, ◌+◌, ◌-◌, ◌*◌, ◌≤◌, ◌<◌}
-use mathlib.Core.Path.{◌≡◌, refl, sym, ap, ◌∙◌}
-use mathlib.Core.List.{List, [], ◌++◌, append_assoc, append-nil}
-use native.Mathlib.Omega.{arith}
-use lib.ListN.{length, get_or, take, drop}
-use lib.Seq.{length-take-le, get_or-take}
-use Rattle.runs.specs.declared.Job.{Job}
-use Rattle.runs.specs.Run.{job_limit, no_job}
+use Prim.Native.Nat.{ℕ, ◌+◌, ◌-◌, ◌*◌, ◌≤◌}
+use mathlib.Core.Path.{◌≡◌}
+use mathlib.Core.List.{List, ◌++◌}
+use lib.ListN.{length, take, drop}
 use Rattle.buffer.specs.Written.{Puts}
-use Rattle.buffer.proofs.Laws.{puts_then, puts_none}
-use Rattle.timeline.specs.Text.{arrival_at, arrivals_from}
+use Rattle.timeline.specs.Text.{arrivals_from}
 use Rattle.timeline.specs.Room.{arrival_room}
-use Rattle.timeline.proofs.Laws.{arrivals-on, arrivals-past}
-use borrow.Author.Rules.{rules}
 use Rattle.timeline_code.proofs.lines.put_arrivals.Given as goal
 
 abbrev pub invariant-loop-i : goal.invariant-loop-i

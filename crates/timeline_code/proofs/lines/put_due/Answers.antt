@@ -3,7 +3,6 @@ use Prim.Native.Nat.{◌≤◌}
 use native.Mathlib.Omega.{arith}
 use lib.ListN.{length}
 use Rattle.buffer.proofs.Laws.{puts_then}
-use borrow.Author.Rules.{rules}
 use Rattle.timeline_code.proofs.lines.put_due.Goals as goal
 
 -- UNMATCHED slice-aggregate-put-bytes

@@ -1,6 +1,5 @@
 -- By whether a deadline is missed.
 use native.Mathlib.Omega.{arith}
-use borrow.Author.Rules.{rules}
 use Rattle.timeline_code.proofs.lines.put_missed.Goals as goal
 
 -- UNMATCHED slice-aggregate-put-bytes

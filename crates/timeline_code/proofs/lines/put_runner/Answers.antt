@@ -4,7 +4,6 @@ use native.Mathlib.Omega.{arith}
 use lib.ListN.{length}
 use borrow.Author.Tests.{eq-eqb, ne_eqb}
 use Rattle.buffer.proofs.Laws.{puts_then}
-use borrow.Author.Rules.{rules}
 use Rattle.timeline_code.proofs.lines.put_runner.Goals as goal
 
 -- UNMATCHED slice-aggregate-put-bytes

@@ -4,7 +4,6 @@ use native.Mathlib.Omega.{arith}
 use lib.ListN.{length}
 use Rattle.buffer.proofs.Laws.{puts_then}
 use Rattle.timeline.specs.Text.{summary_line}
-use borrow.Author.Rules.{rules}
 use Rattle.timeline_code.proofs.lines.put_summary.Goals as goal
 
 -- UNMATCHED slice-aggregate-put-bytes

@@ -1,5 +1,5 @@
 -- `put_ticks`: the answers.
-use Prim.Native.Nat.{ℕ, ◌+◌, ◌-◌, ◌*◌, ◌≤◌}
+use Prim.Native.Nat.{ℕ, ◌+◌, ◌-◌}
 use mathlib.Core.Path.{◌≡◌, refl, sym, ap, ◌∙◌}
 use mathlib.Core.List.{List, [], ◌++◌, append_assoc, append-nil}
 use native.Mathlib.Nat.{sub-zero}
@@ -8,10 +8,8 @@ use lib.ListN.{length, take}
 use lib.Seq.{length-take-le}
 use Rattle.runs.specs.Run.{job_limit}
 use Rattle.runs.proofs.Steps.{length-arrived, length-worked}
-use Rattle.buffer.specs.Written.{Puts}
 use Rattle.buffer.proofs.Laws.{puts_then, puts_none}
 use Rattle.timeline.specs.Text.{line_with, tick_lines}
-use Rattle.timeline.specs.Room.{tick_room}
 use Rattle.timeline.proofs.Laws.{lines_next, lines_none}
 use borrow.Author.Rules.{rules}
 use Rattle.timeline_code.proofs.ticks.put_ticks.Goals as goal

@@ -6,7 +6,6 @@ use Rattle.buffer.proofs.Laws.{puts_none}
 use lib.ListN.{take}
 use Rattle.timeline.specs.Text.{window_text}
 use Rattle.timeline.proofs.Laws.{window-past}
-use borrow.Author.Rules.{rules}
 use Rattle.timeline_code.proofs.ticks.put_window.Goals as goal
 
 pub returns-then-ticks-from : goal.returns-then-ticks-from

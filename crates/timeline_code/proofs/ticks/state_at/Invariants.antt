@@ -2,13 +2,10 @@
 use Prim.Native.Nat.{◌-◌, ◌≤◌}
 use mathlib.Core.Path.{◌≡◌}
 use mathlib.Core.List.{List}
-use native.Mathlib.Omega.{arith}
 use lib.ListN.{take}
 use Rattle.runs.specs.declared.Job.{Job}
 use Rattle.runs.specs.Run.{started}
 use Rattle.runs.specs.Trace.{state_at}
-use Rattle.timeline.proofs.Laws.{state-first, state-next}
-use borrow.Author.Rules.{rules}
 use Rattle.timeline_code.proofs.ticks.state_at.Given as goal
 
 abbrev pub invariant-loop-now : goal.invariant-loop-now

@@ -1,0 +1,12 @@
+-- `length_at`: the length that stands there, in plain bytes.
+use mathlib.Core.Path.{◌∙◌}
+use Rattle.system.proofs.Begins.{field_step}
+use Rattle.clients.proofs.files.length_at.Goals as goal
+
+pub returns : goal.returns
+returns c =
+    let e = c.length_at.ensures in
+    record {
+      value = e;
+      by_index = λ t n body next is. e ∙ (field_step.answers _ _ t n body next is).1;
+    }

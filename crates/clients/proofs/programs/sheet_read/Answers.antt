@@ -1,0 +1,15 @@
+-- `sheet_read`: there is room for 384 bytes; the bytes in the buffer tell what the text tells.
+use Prim.Native.Nat.{ℕ}
+use mathlib.Core.Path.{ap, ◌∙◌}
+use lib.ListN.{take}
+use Rattle.clients.proofs.Told.{sheet-told}
+use Rattle.clients.proofs.programs.sheet_read.Goals as goal
+
+pub returns : goal.returns
+returns c =
+    let e = c.sheet_read.ensures in
+    record {
+      sheet_read = e;
+      by_index = (λ file same. e.of_file file (ap (λ (n : ℕ). take n file) e.size ∙ same));
+      by_index_2 = (λ file same. sheet-told (e.of_file file (ap (λ (n : ℕ). take n file) e.size ∙ same)));
+    }

@@ -1,0 +1,15 @@
+-- `tight_read`: there is room for 384 bytes; the bytes in the buffer tell what the text tells.
+use Prim.Native.Nat.{ℕ}
+use mathlib.Core.Path.{ap, ◌∙◌}
+use lib.ListN.{take}
+use Rattle.clients.proofs.Told.{tight-told}
+use Rattle.clients.proofs.programs.tight_read.Goals as goal
+
+pub returns : goal.returns
+returns c =
+    let e = c.tight_read.ensures in
+    record {
+      tight_read = e;
+      by_index = (λ file same. e.of_file file (ap (λ (n : ℕ). take n file) e.size ∙ same));
+      by_index_2 = (λ file same. tight-told (e.of_file file (ap (λ (n : ℕ). take n file) e.size ∙ same)));
+    }
