@@ -2,8 +2,7 @@
 use Rattle.std.specs.Prelude.{ℕ, ◌+◌, ◌≤◌, List, ◌++◌, ◌≡◌, length, take, drop}
 
 -- n counts bytes at the start of xs. The second part follows from the first; both are said so that a program's `&buf[..n]` is proved without more. It is what
--- `io` of the toolchain calls so, and
--- is said here again so that no library but listing, which spells numbers by `io::decimal`, names `io`: what does not name it cannot read or write anything.
+-- `io` of the toolchain calls `IsPrefixLen`, and is said here again so that only crates that use that library name it.
 abbrev pub Counts : ℕ → List ℕ → Type 0
 Counts n xs = (n ≤ length xs) × (n ≡ length (take n xs))
 

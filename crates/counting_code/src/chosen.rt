@@ -7,7 +7,7 @@ pub const SIDE: usize = 64;
 pub const CHOSEN: usize = 4096;
 
 // Entry 64 × n + x is the number of ways to choose x of n, for both below 64: each is the sum of the one above it and the one before that.
-pub(crate) fn chosen() -> [u64; CHOSEN]
+pub fn chosen() -> [u64; CHOSEN]
     ensures { Choices result }
 {
     let mut table = [0u64; CHOSEN];

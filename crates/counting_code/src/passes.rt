@@ -151,7 +151,7 @@ fn pass(part: &mut [u64], ways: &[u64], y: System, columns: usize)
 }
 
 // The number of good assignments of a system's instances to its engines. The first 2 × columns entries of the part are worked in.
-pub(crate) fn count_good(part: &mut [u64], y: System, columns: usize) -> u64
+pub fn count_good(part: &mut [u64], y: System, columns: usize) -> u64
     requires { CountIn y columns part.old }
     ensures { (result ≡ good_count y) × Beyond y part.old part.new }
 {

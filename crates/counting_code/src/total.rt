@@ -44,7 +44,7 @@ fn power(base: u64, times: usize) -> Total
 }
 
 // The total of all assignments of a system's instances to its engines.
-pub(crate) fn total_of(y: System) -> Total
+pub fn total_of(y: System) -> Total
     requires { keeps_limits y ≡ true }
     ensures { result ≡ total_of y }
 {

@@ -147,6 +147,11 @@ room-less last y z =
     by-rule (λ (r : FieldRule). AllFewer r.tag last y z → ruled_size r + room r.tag z ≤ room last y)
     (λ a. omega arith) (λ a. omega arith) (λ a. omega arith) (λ a. omega arith) (λ a. omega arith) (λ a. omega arith) (λ a. omega arith)
 
+-- an accepted field takes its bytes from the room
+body-room : (r : FieldRule) (b : List ℕ) (last : ℕ) (y z : System) → OneOf r → may_follow follows last r.tag ≡ true
+    → body_of r b y ≡ opened z → ruled_size r + room r.tag z ≤ room last y
+body-room r b last y z w p e = room-less last y z r w (body-fewer r b last y z w p e)
+
 -- so the reading goes on with less room, by the field's size
 pub record Goes (s : List ℕ) (last : ℕ) (y z : System) : Type 0 where
   pub inside : field_size s ≤ length s
@@ -155,8 +160,7 @@ pub record Goes (s : List ℕ) (last : ℕ) (y z : System) : Type 0 where
 pub field-goes : (s : List ℕ) (last : ℕ) (y z : System) → field_of s last y ≡ opened z → Goes s last y z
 field-goes s last y z e =
     let a = field_of-opened s last y z e in
-    let all = body-fewer a.rule (body_part s) last y z a.passed.rule.which a.passed.place a.body in
-    let fewer = rw a.passed.rule.same_tag at (room-less last y z a.rule a.passed.rule.which all) in
+    let fewer = rw a.passed.rule.same_tag at (body-room a.rule (body_part s) last y z a.passed.rule.which a.passed.place a.body) in
     record {
       inside = leb-true (field_size s) (length s) a.passed.whole;
       less = omega (arith, a.passed.length);

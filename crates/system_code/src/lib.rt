@@ -9,8 +9,8 @@ mod values;
 
 pub use card::{first_kind, second_kind};
 pub use limits::{
-    columns_fault, columns_within, costs_fault, keeps_limits, kinds_fault, most_fault, paces_fault,
-    platform_fault, second_fault, type_fault,
+    SIZE_LIMIT, columns_fault, columns_within, costs_fault, keeps_limits, kinds_fault, most_fault,
+    pace_fault, paces_fault, platform_fault, second_fault, type_fault,
 };
 pub use reader::{
     HEAD_SIZE, body_at, body_part, byte_at, field_at, four_bytes, length_at, next_at, read_card,

@@ -12,7 +12,7 @@ use system::{
 };
 
 // The largest U, S, u, s and d.
-const SIZE_LIMIT: u32 = 1000000;
+pub const SIZE_LIMIT: u32 = 1000000;
 
 // U and S of a kind of engine, or u and s there: 8.
 fn size_fault(time: u32, memory: u32) -> u8
@@ -102,7 +102,7 @@ fn cycle_keeps(timecap: u32, time: u32, c: Cycle) -> bool
 }
 
 // A type's C and T, where they are given, with its u and the U of the engines: 43.
-pub(crate) fn pace_fault(timecap: u32, time: u32, pace: Pace) -> u8
+pub fn pace_fault(timecap: u32, time: u32, pace: Pace) -> u8
     ensures { result ≡ pace_fault timecap time pace }
 {
     let Pace::Paced(c) = pace else {

@@ -71,7 +71,7 @@ fn scan_on(
 
 // The lowest column under the load of `column` whose row is at most `bound` and whose difference from it fits, with its place among the columns under the
 // load; 65,535 and the number of all these columns where there is none.
-pub(crate) fn scan(
+pub fn scan(
     rows: &[u16],
     bound: u16,
     column: usize,

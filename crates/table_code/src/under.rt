@@ -9,7 +9,7 @@ use system::TYPE_LIMIT;
 
 // Makes the counts from index `from` on the next ones, in order of columns, that are not above the tops. Answers the index of the count that rises, 6 where
 // none does.
-pub(crate) fn step(counts: &mut [u16; TYPE_LIMIT], tops: [u16; TYPE_LIMIT], from: usize) -> usize
+pub fn step(counts: &mut [u16; TYPE_LIMIT], tops: [u16; TYPE_LIMIT], from: usize) -> usize
     requires { (from ≤ 6) × (length counts.old ≡ 6) }
     ensures { (counts.new ≡ take from counts.old ++ next_under (drop from tops) (drop from counts.old))
         × (result ≡ from + rises_at (drop from tops) (drop from counts.old)) }
@@ -26,14 +26,14 @@ pub(crate) fn step(counts: &mut [u16; TYPE_LIMIT], tops: [u16; TYPE_LIMIT], from
 }
 
 // A count as a number of columns.
-pub(crate) fn wide(count: u16) -> usize
+pub fn wide(count: u16) -> usize
     ensures { (result ≡ count) × (result < 65536) }
 {
     count as usize
 }
 
 // For each type, how many columns the first load in which its count rises lies past the load whose counts before it are all at their tops.
-pub(crate) fn jumps_of(ceilings: [u16; TYPE_LIMIT], tops: [u16; TYPE_LIMIT]) -> [usize; TYPE_LIMIT]
+pub fn jumps_of(ceilings: [u16; TYPE_LIMIT], tops: [u16; TYPE_LIMIT]) -> [usize; TYPE_LIMIT]
     requires { (within tops ceilings ≡ true) × (columns_of ceilings ≤ column_limit) }
     ensures { result ≡ jumps_from 1 0 ceilings tops }
 {
@@ -49,7 +49,7 @@ pub(crate) fn jumps_of(ceilings: [u16; TYPE_LIMIT], tops: [u16; TYPE_LIMIT]) -> 
 }
 
 // How many columns have a load with no count above this one.
-pub(crate) fn columns_under(load: [u16; TYPE_LIMIT]) -> usize
+pub fn columns_under(load: [u16; TYPE_LIMIT]) -> usize
     requires { columns_of load ≤ column_limit }
     ensures { result ≡ columns_of load }
 {
