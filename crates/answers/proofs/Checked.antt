@@ -1,4 +1,6 @@
 -- What is said of a file and a sheet, in plain words: what a check promises over a table that is long enough, told by its line.
+use Rattle.std.proofs.Common.{Result, Ok, Err}
+use Rattle.system.specs.declared.Refusal.{Refusal}
 use Prim.Native.Nat.{ℕ}
 use mathlib.Core.Path.{◌≡◌, refl, sym, ap, subst, ◌∙◌}
 use mathlib.Core.List.{List}
@@ -16,8 +18,6 @@ use Rattle.partition.specs.Lent.{Lent, lent}
 use Rattle.partition.specs.Plain.{LongEnough}
 use Rattle.table.specs.Table.{long_enough}
 use Rattle.table.proofs.Room.{long-enough-out}
-use Rattle.sheets.specs.declared.SheetAnswer.{SheetAnswer}
-use Rattle.sheets.specs.declared.SheetAnswer.TheVariants.{Right, Refused}
 use Rattle.sheets.specs.Checking.{SheetOutcome, right, wrong, sheet_outcome_of, laid_out, summed_up, added_up, records_check, sheet_check, stated_loads, fewer_do, judged_sheet, check_outcome, check_table}
 use Rattle.sheets.specs.Meaning.{CheckPromises as SheetCheckPromises}
 use Rattle.sheets.proofs.Promises.{promises-of}
@@ -63,10 +63,10 @@ from-input (opened y) sheet s n e =
     go true true true o = let z : ◌≡◌ {A = ℕ} 0 1 = cc in absurd (omega arith)
 
 -- an answer of each kind
-answer_of : SheetOutcome → SheetAnswer
-answer_of (right fewer) = Right fewer
-answer_of (wrong from_input n) = Refused (Input n)
-answer_of (wrong from_state n) = Refused (State n)
+answer_of : SheetOutcome → Result Bool Refusal
+answer_of (right fewer) = Ok fewer
+answer_of (wrong from_input n) = Err (Input n)
+answer_of (wrong from_state n) = Err (State n)
 
 answer-of : (o : SheetOutcome) → sheet_outcome_of (answer_of o) ≡ o
 unfolding answer_of
@@ -74,7 +74,7 @@ answer-of (right fewer) = refl
 answer-of (wrong from_input n) = refl
 answer-of (wrong from_state n) = refl
 
-module _ (file sheet : List ℕ) (table : Lent) (size : LongForAll table) (r : SheetAnswer) (after : Lent) (p : SheetCheckPromises (read_file file) sheet table r after) where
+module _ (file sheet : List ℕ) (table : Lent) (size : LongForAll table) (r : Result Bool Refusal) (after : Lent) (p : SheetCheckPromises (read_file file) sheet table r after) where
   long : (y : System) → read_file file ≡ opened y → LongEnough y table
   long y e = long-for-all file y table (file-card file y e).0 size
 
@@ -111,7 +111,7 @@ tells-check file sheet =
     (promises-of file sheet spare (answer_of o) (check_table (read_file file) sheet spare) (record { answer = is ∙ sym (check-any-table file sheet spare spare-long); left = refl })))
 
 -- and the code's line is the text
-pub check-promised : {file sheet old new : List ℕ} {table after : Lent} {answer : SheetAnswer} {r : ℕ} → LongForAll table → SheetCheckPromises (read_file file) sheet table answer after
+pub check-promised : {file sheet old new : List ℕ} {table after : Lent} {answer : Result Bool Refusal} {r : ℕ} → LongForAll table → SheetCheckPromises (read_file file) sheet table answer after
     → Written (line_of (sheet_outcome_of answer)) old new r → CheckPromises file sheet old new r
 check-promised {file = file} {sheet = sheet} {table = table} size p w = record {
   written = rw (ap line_of (p.answers ∙ check-any-table file sheet table size)) at w;

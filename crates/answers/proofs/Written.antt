@@ -1,4 +1,6 @@
 -- What `sheet_of` writes is the sheet of the plan or the line of a refusal, and what a reader finds in it.
+use Rattle.std.proofs.Common.{Option, Ok, Err, Some, None}
+use Rattle.std.specs.Option.{unwrap_or}
 use Prim.Native.Nat.{ℕ, ◌≤◌}
 use mathlib.Core.Path.{◌≡◌, refl, sym, ap, subst, ◌∙◌}
 use mathlib.Core.List.{List, [], ◌∷◌, ◌++◌, append_cancel_right}
@@ -12,13 +14,11 @@ use lib.Seq.{length-take-le}
 use lib.Dec.{ltb}
 use Rattle.buffer.specs.Written.{Written}
 use Rattle.system.specs.declared.System.{System}
-use Rattle.system.specs.declared.Answer.{Answer}
-use Rattle.system.specs.declared.Answer.TheVariants.{Accepted, Number, Refused}
+use Rattle.system.specs.Outcome.{Answer, accepted, refused, from_input, from_state, check, refusal_of}
 use Rattle.system.specs.declared.Refusal.{Refusal}
 use Rattle.system.specs.declared.Refusal.TheVariants.{Input, State}
 use Rattle.system.specs.Limits.{engine_limit, keeps_limits}
 use Rattle.system.specs.Layout.{Reading, read_file, opened, unread}
-use Rattle.system.specs.Outcome.{accepted, refused, from_input, from_state, check, refusal_of}
 use Rattle.system.proofs.Laws.{limits_of, read-limits, read-keeps-limits, file-card}
 use Rattle.system.proofs.Prefix.{read-prefix}
 use Rattle.partition.specs.Assignment.{Assignment}
@@ -66,7 +66,7 @@ module _ (file : List ℕ) (y : System) (opens : read_file file ≡ opened y) (i
 
   wrote : SheetWritten y (length sheet) sheet (written_to (sheet_verdict (read_file file) spare) sheet)
   wrote =
-      (promises-written file spare sheet (Number (length sheet)) (write_table (read_file file) spare) (written_to (sheet_verdict (read_file file) spare) sheet)
+      (promises-written file spare sheet (Ok (Some (length sheet))) (write_table (read_file file) spare) (written_to (sheet_verdict (read_file file) spare) sheet)
       (record { answer = outcome-is; table-left = refl; buffer-left = refl })
       ).writes y (length sheet) opens refl
 
@@ -206,22 +206,27 @@ module _ (file : List ℕ) {table : Lent} {old : List ℕ} {answer : Answer} {af
   same : sheet_verdict (read_file file) table ≡ reading_verdict (read_file file)
   same = sheet-any-table file table size
 
-  pub number-promised : (n : ℕ) → answer ≡ Number n → SheetPromises file old mid n
+  number-promised : (n : ℕ) → answer ≡ Ok (Some n) → SheetPromises file old mid n
   number-promised n is =
       sheet-promised file (number-written (reading_verdict (read_file file)) old mid n
       (rw (is, same) at p.answers) (rw same at p.leaves_buffer))
 
-  pub refusal-promised : (why : Refusal) → answer ≡ Refused why → {new : List ℕ} {r : ℕ} → RefusalPromises why mid new r → SheetPromises file old new r
+  pub refusal-promised : (why : Refusal) → answer ≡ Err why → {new : List ℕ} {r : ℕ} → RefusalPromises why mid new r → SheetPromises file old new r
   refusal-promised why is q =
       let text : refusal_line (number_of why) ≡ sheet_text file = refused-written (reading_verdict (read_file file)) (length old) why (λ y e. rw room (fits file y e)) (rw (is, same) at p.answers) in
       sheet-promised file (rw (text, lent why is) at q.written)
     where
-      lent : (w : Refusal) → answer ≡ Refused w → mid ≡ old
+      lent : (w : Refusal) → answer ≡ Err w → mid ≡ old
       lent (Input n) e = p.as_lent from_input n (rw e)
       lent (State n) e = p.as_lent from_state n (rw e)
 
-  pub never-accepted : answer ≡ Accepted → ⊥
+  never-accepted : answer ≡ (Ok None) → ⊥
   never-accepted is = no-accepted (sheet_verdict (read_file file) table) (length old) (rw is at p.answers)
+
+  -- so an answer that is no refusal has a number
+  pub size-promised : (n : Option ℕ) (d : ℕ) → answer ≡ Ok n → SheetPromises file old mid (unwrap_or n d)
+  size-promised (Some n) d is = number-promised n is
+  size-promised None d is = absurd (never-accepted is)
 
 -- main: the first 384 bytes decide
 pub prefix-promised : {front file old new : List ℕ} {r : ℕ} → front ≡ take 384 file → SheetPromises front old new r → SheetPromises file old new r

@@ -10,9 +10,8 @@ ghost use Rattle.answers.specs.Checks.{right_text, line_of, CheckPromises, Joine
 
 use buffer::{least, put_bytes};
 use listing_code::write_refusal;
-use sheets::SheetAnswer;
 use sheets_code::{check_sheet, write_sheet};
-use system::{Answer, COLUMN_LIMIT, Cursor, FILE_BYTES};
+use system::{COLUMN_LIMIT, Cursor, FILE_BYTES, Refusal};
 use system_code::{rest_at, two_bytes};
 
 // The bytes in which a file's length stands before the file.
@@ -31,11 +30,9 @@ pub fn sheet_of(file: &[u8], out: &mut [u8; 4096]) -> usize
 {
     let mut rows = [0u16; COLUMN_LIMIT];
     let mut predecessors = [0u16; COLUMN_LIMIT];
-    let answer = write_sheet(file, &mut rows, &mut predecessors, out);
-    match answer {
-        Answer::Number(n) => n,
-        Answer::Refused(why) => write_refusal(out, why),
-        Answer::Accepted => 0,
+    match write_sheet(file, &mut rows, &mut predecessors, out) {
+        Ok(size) => size.unwrap_or(0),
+        Err(why) => write_refusal(out, why),
     }
 }
 
@@ -58,12 +55,12 @@ fn write_right(out: &mut [u8; 4096], fewer: bool) -> usize
 }
 
 // Writes the line of what a check answers.
-fn write_answer(out: &mut [u8; 4096], answer: SheetAnswer) -> usize
+fn write_answer(out: &mut [u8; 4096], answer: Result<bool, Refusal>) -> usize
     ensures { Written (line_of (sheet_outcome_of answer)) out.old out.new result }
 {
     match answer {
-        SheetAnswer::Right(fewer) => write_right(out, fewer),
-        SheetAnswer::Refused(why) => write_refusal(out, why),
+        Ok(fewer) => write_right(out, fewer),
+        Err(why) => write_refusal(out, why),
     }
 }
 
@@ -74,8 +71,7 @@ pub fn check_of(file: &[u8], sheet: &[u8], out: &mut [u8; 4096]) -> usize
 {
     let mut rows = [0u16; COLUMN_LIMIT];
     let mut predecessors = [0u16; COLUMN_LIMIT];
-    let answer = check_sheet(file, sheet, &mut rows, &mut predecessors);
-    write_answer(out, answer)
+    write_answer(out, check_sheet(file, sheet, &mut rows, &mut predecessors))
 }
 
 // The same for a file and a sheet that are joined, the file's length in front: two bytes, most significant byte first.

@@ -1,5 +1,6 @@
 -- On a board without marks every call is what it was before request 2026-07: the engines in service are 1 to m, and the test of refusal 20 is the old one. None of the four
 -- calls sets a mark.
+use Rattle.std.proofs.Common.{Option, Some, None}
 use Prim.Native.Nat.{ℕ, zero, suc, ◌-◌}
 use mathlib.Core.Path.{◌≡◌, refl, sym, ap, ◌∙◌}
 use mathlib.Core.List.{List, []}
@@ -18,8 +19,6 @@ use Rattle.partition.specs.Lent.{Lent}
 use Rattle.partition.proofs.Lists.{every-always, passing-all}
 use Rattle.table.specs.Table.{room_check}
 use Rattle.board.specs.declared.Board.{Board}
-use Rattle.board.specs.declared.Place.{Place}
-use Rattle.board.specs.declared.Place.TheVariants.{Engine, Nowhere}
 use Rattle.board.specs.Boards.{with_load, marked, engines_of, load_at, standing}
 use Rattle.board.specs.Truth.{mark_true, true_marks, true_board}
 use Rattle.board.specs.Calls.{Result, result, checked, check_newcomer, check_retire, check_repack, with_newcomer, takes, first_of, first_engine, admitted, admit_of, reseated, seat_of, retire_of, repack_of}
@@ -40,10 +39,10 @@ module _ (b : Board) (u : Unmarked b) where
   unfolding true_board
   same_truth = ap (λ (q : Bool). true_before b && q) no-marks ∙ and-true (true_before b)
 
-  same_place : (t : ℕ) (table : Lent) (p : Place) → admitted b t table p ≡ admitted_before b t table p
+  same_place : (t : ℕ) (table : Lent) (p : Option ℕ) → admitted b t table p ≡ admitted_before b t table p
   unfolding admitted admitted_before
-  same_place t table (Engine e) = refl
-  same_place t table Nowhere = rw same-engines
+  same_place t table (Some e) = refl
+  same_place t table None = rw same-engines
 
   same-seats : (x : List ℕ) (table : Lent) → reseated b x table ≡ reseated_before b x table
   unfolding reseated
@@ -97,10 +96,10 @@ checked-marks : (c : Checked) (b : Board) (table : Lent) (work : Result) → wor
 checked-marks passes b table work h = h
 checked-marks (fails s n) b table work h = refl
 
-admitted-marks : (b : Board) (t : ℕ) (table : Lent) (p : Place) → (admitted b t table p).board.marks ≡ b.marks
+admitted-marks : (b : Board) (t : ℕ) (table : Lent) (p : Option ℕ) → (admitted b t table p).board.marks ≡ b.marks
 unfolding admitted
-admitted-marks b t table (Engine e) = refl
-admitted-marks b t table Nowhere = refl
+admitted-marks b t table (Some e) = refl
+admitted-marks b t table None = refl
 
 reseated-marks : (b : Board) (x : List ℕ) (table : Lent) → (reseated b x table).board.marks ≡ b.marks
 unfolding reseated

@@ -1,4 +1,5 @@
 -- Demand 1 of the six calls, for every board: by the cases of each call's checks and of its work.
+use Rattle.std.proofs.Common.{Option, Some, None}
 use Prim.Native.Nat.{ℕ, ◌-◌}
 use mathlib.Core.Path.{◌≡◌, refl, sym, ap, ◌∙◌}
 use mathlib.Core.List.{List, [], ◌∷◌}
@@ -17,8 +18,6 @@ use Rattle.partition.specs.Lent.{Lent}
 use Rattle.partition.proofs.Lists.{length-engines_to}
 use Rattle.table.specs.Table.{long_enough, filled_to, filled}
 use Rattle.board.specs.declared.Board.{Board}
-use Rattle.board.specs.declared.Place.{Place}
-use Rattle.board.specs.declared.Place.TheVariants.{Engine, Nowhere}
 use Rattle.board.specs.Boards.{board_of, with_load, with_mark, engines_of, load_at, standing}
 use Rattle.board.specs.Truth.{true_board}
 use Rattle.board.specs.Calls.{Result, result, checked, known_type, known_engine, under_ceiling, held_at, movable, check_newcomer, check_retire, check_repack, check_restore, check_withdraw, with_newcomer, first_engine, admitted, admit_of, reseated, seat_of, retire_of, repack_of, withdraw_of, restore_of}
@@ -116,10 +115,10 @@ module _ (b : Board) (table : Lent) where
       go true after = accepts [] after full told full-told
       go false after = leaves told false
 
-  admits : (t : ℕ) (e : Place) → Demand1 b table table (admitted b t table e)
+  admits : (t : ℕ) (e : Option ℕ) → Demand1 b table table (admitted b t table e)
   unfolding admitted
-  admits t (Engine e) = accepts (e ∷ []) _ table table refl
-  admits t Nowhere = leaves table (placeable b.system (engines_of b) (with_newcomer b t))
+  admits t (Some e) = accepts (e ∷ []) _ table table refl
+  admits t None = leaves table (placeable b.system (engines_of b) (with_newcomer b t))
 
 -- main: demand 1
 

@@ -1,4 +1,5 @@
 -- How an exit of a call meets its definition: a refusal by the checks, and what is known once they have passed.
+use Rattle.std.proofs.Common.{Option, Some, None, Ok, Err}
 use Prim.Native.Nat.{ℕ, ◌-◌}
 use mathlib.Core.Path.{◌≡◌, refl, sym, ap, subst, ◌∙◌}
 use mathlib.Core.List.{List, map}
@@ -7,7 +8,6 @@ use native.Mathlib.Omega.{arith}
 use lib.ListN.{length}
 use Rattle.system.specs.declared.Refusal.{Refusal}
 use Rattle.system.specs.declared.Refusal.TheVariants.{Input, State}
-use Rattle.system.specs.declared.Answer.TheVariants.{Accepted, Number, Refused}
 use Rattle.system.specs.Limits.{engine_limit}
 use Rattle.system.specs.Layout.{Reading, opened, unread, read_system}
 use Rattle.system.specs.Outcome.{refused, from_input, from_state, outcome_of, Checked, passes, fails_with}
@@ -20,8 +20,6 @@ use Rattle.table.specs.declared.Placement.{Placement}
 use Rattle.table.specs.Table.{long_enough, filled, placement}
 use Rattle.board.specs.declared.Board.{Board}
 use Rattle.board.specs.declared.Turn.{Turn}
-use Rattle.board.specs.declared.Place.{Place}
-use Rattle.board.specs.declared.Place.TheVariants.{Engine, Nowhere}
 use Rattle.board.specs.Boards.{empty_board, opened_board, with_load, engines_of, load_at}
 use Rattle.board.specs.Truth.{true_board}
 use Rattle.board.specs.Calls.{
@@ -60,12 +58,12 @@ of-given P x r after d = subst P (sym (λ i. record { outcome = d.answer i; boar
 -- main: the checks
 
 module _ (b : Board) (table : Lent) (work : Result) (r : Turn) where
-  fails-here : (why : Refusal) → r.answer ≡ Refused why → r.board ≡ b → Does (checked (fails_with why) b table work) r table
+  fails-here : (why : Refusal) → r.answer ≡ Err why → r.board ≡ b → Does (checked (fails_with why) b table work) r table
   fails-here (Input n) e s = record { answer = ap outcome_of e; board = s; table = refl }
   fails-here (State n) e s = record { answer = ap outcome_of e; board = s; table = refl }
 
   -- a call that its checks refuse
-  pub checks-fail : (x : Checked) (why : Refusal) → fails_with why ≡ x → r.answer ≡ Refused why → r.board ≡ b → Does (checked x b table work) r table
+  pub checks-fail : (x : Checked) (why : Refusal) → fails_with why ≡ x → r.answer ≡ Err why → r.board ≡ b → Does (checked x b table work) r table
   checks-fail x why e a s = subst (λ (z : Checked). Does (checked z b table work) r table) e (fails-here why a s)
 
   -- and one that they let through
@@ -121,14 +119,14 @@ restore-passed b e h =
 
 -- main: admit's work, by the place that the search came to
 
-engine-same : (d e : ℕ) → Engine d ≡ Engine e → d ≡ e
+engine-same : (d e : ℕ) → Some d ≡ Some e → d ≡ e
 engine-same d e h = cc
 
-nowhere-not : (e : ℕ) → Nowhere ≡ Engine e → ⊥
+nowhere-not : (e : ℕ) → None ≡ Some e → ⊥
 nowhere-not e h = let z : ◌≡◌ {A = ℕ} 0 1 = cc in omega arith
 
 -- an engine that was found takes the newcomer
-pub found-takes : (b : Board) (t e : ℕ) → true_board b ≡ true → Engine e ≡ first_engine b t → OnEngine b e × (takes b t e ≡ true)
+pub found-takes : (b : Board) (t e : ℕ) → true_board b ≡ true → Some e ≡ first_engine b t → OnEngine b e × (takes b t e ≡ true)
 found-takes b t e h is = by-view (first-view (takes b t) (engines_of b) (engines-rising b))
   where
     by-view : FirstView (takes b t) (engines_of b) → OnEngine b e × (takes b t e ≡ true)
@@ -137,12 +135,12 @@ found-takes b t e h is = by-view (first-view (takes b t) (engines_of b) (engines
         subst (λ (z : ℕ). OnEngine b z × (takes b t z ≡ true)) same (on-engine b h d f.engine, f.passes)
     by-view (nowhere f) = absurd (nowhere-not e (sym f.found ∙ sym is))
 
-module _ (b : Board) (t : ℕ) (table : Lent) (p : Place) (r : Turn) where
-  pub admitted-joins : (e : ℕ) → Engine e ≡ p → r.answer ≡ Number e → r.board ≡ with_load b e (one_more (t - 1) (load_at b e)) → Does (admitted b t table p) r table
+module _ (b : Board) (t : ℕ) (table : Lent) (p : Option ℕ) (r : Turn) where
+  pub admitted-joins : (e : ℕ) → Some e ≡ p → r.answer ≡ Ok (Some e) → r.board ≡ with_load b e (one_more (t - 1) (load_at b e)) → Does (admitted b t table p) r table
   unfolding admitted
   admitted-joins e is a s = rw (← is) (record { answer = ap outcome_of a; board = s; table = refl })
 
-  pub admitted-nowhere : (after : Lent) → Nowhere ≡ p → Does (crowded b t table) r after → Does (admitted b t table p) r after
+  pub admitted-nowhere : (after : Lent) → None ≡ p → Does (crowded b t table) r after → Does (admitted b t table p) r after
   unfolding admitted
   admitted-nowhere after is d = rw (← is) d
 
@@ -158,7 +156,7 @@ module _ (b : Board) (x : List ℕ) (found : Placement) (e : found ≡ placement
   found-placed = ap (λ (p : Placement). p.placed) e ∙ placed-flag (placeable b.system (engines_of b) x) _ _ refl refl
 
   module _ (table : Lent) (r : Turn) (after : Lent) (f : after ≡ filled b.system (engines_of b) table) where
-    pub reseated-placed : found.placed ≡ true → r.answer ≡ Accepted → r.board ≡ record { system = b.system; loads = found.loads; marks = b.marks } → Does (reseated b x table) r after
+    pub reseated-placed : found.placed ≡ true → r.answer ≡ (Ok None) → r.board ≡ record { system = b.system; loads = found.loads; marks = b.marks } → Does (reseated b x table) r after
     unfolding reseated placement
     reseated-placed h a s =
         let can : placeable b.system (engines_of b) x ≡ true = sym found-placed ∙ h in
@@ -170,7 +168,7 @@ module _ (b : Board) (x : List ℕ) (found : Placement) (e : found ≡ placement
           table = f;
         })
 
-    pub reseated-none : found.placed ≡ false → r.answer ≡ Refused (State 24) → r.board ≡ b → Does (reseated b x table) r after
+    pub reseated-none : found.placed ≡ false → r.answer ≡ Err (State 24) → r.board ≡ b → Does (reseated b x table) r after
     unfolding reseated
     reseated-none h a s =
         let cannot : placeable b.system (engines_of b) x ≡ false = sym found-placed ∙ h in
@@ -178,7 +176,7 @@ module _ (b : Board) (x : List ℕ) (found : Placement) (e : found ≡ placement
 
 -- no engine takes the newcomer: 23 or 24
 module _ (b : Board) (t : ℕ) (found : Placement) (e : found ≡ placement b.system (engines_of b) (with_newcomer b t)) (table : Lent) (r : Turn) (after : Lent) where
-  pub crowded-by : (q : Bool) → found.placed ≡ q → after ≡ filled b.system (engines_of b) table → r.answer ≡ Refused (State (cond q 23 24)) → r.board ≡ b → Does (crowded b t table) r after
+  pub crowded-by : (q : Bool) → found.placed ≡ q → after ≡ filled b.system (engines_of b) table → r.answer ≡ Err (State (cond q 23 24)) → r.board ≡ b → Does (crowded b t table) r after
   crowded-by q h f a s =
       let same : q ≡ placeable b.system (engines_of b) (with_newcomer b t) = sym h ∙ found-placed b (with_newcomer b t) found e in
       record { answer = ap outcome_of a ∙ ap (λ (z : Bool). refused from_state (cond z 23 24)) same; board = s; table = f }

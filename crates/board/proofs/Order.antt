@@ -1,4 +1,5 @@
 -- The calls refuse in the order of document 01 and of request 2026-07: a check's number is said exactly where its row says so, since no later check and no work says it.
+use Rattle.std.proofs.Common.{Option, Some, None}
 use Prim.Native.Nat.{ℕ, zero, suc, ◌-◌, ◌≤◌}
 use mathlib.Core.Path.{◌≡◌, refl, sym, ap, subst, ◌∙◌}
 use mathlib.Core.List.{List, []}
@@ -22,8 +23,6 @@ use Rattle.partition.proofs.Plain.{ceiling-out}
 use Rattle.table.specs.Table.{long_enough}
 use Rattle.table.proofs.Room.{long-enough-out, too-short-out}
 use Rattle.board.specs.declared.Board.{Board}
-use Rattle.board.specs.declared.Place.{Place}
-use Rattle.board.specs.declared.Place.TheVariants.{Engine, Nowhere}
 use Rattle.board.specs.Boards.{engines_of, with_load, with_mark, marked, load_at, standing}
 use Rattle.board.specs.Truth.{true_board}
 use Rattle.board.specs.Calls.{Result, result, checked, known_type, known_engine, under_ceiling, held_at, movable, with_newcomer, first_engine, check_newcomer, check_retire, check_repack, check_restore, check_withdraw, admitted, admit_of, reseated, seat_of, retire_of, repack_of, withdraw_of, restore_of}
@@ -164,10 +163,10 @@ module _ (b : Board) (t : ℕ) (table : Lent) (work : Result) (late : Late work)
 
 -- what the work says is accepted, 23 or 24
 
-admitted-late : (b : Board) (t : ℕ) (table : Lent) (p : Place) → Late (admitted b t table p)
+admitted-late : (b : Board) (t : ℕ) (table : Lent) (p : Option ℕ) → Late (admitted b t table p)
 unfolding admitted number
-admitted-late b t table (Engine e) n low high h = omega arith
-admitted-late b t table Nowhere n low high h = by-case (placeable b.system (engines_of b) (with_newcomer b t)) h
+admitted-late b t table (Some e) n low high h = omega arith
+admitted-late b t table None n low high h = by-case (placeable b.system (engines_of b) (with_newcomer b t)) h
   where
     by-case : (q : Bool) → cond q 23 24 ≡ n → ⊥
     by-case true s = false≢true (subst (λ (k : ℕ). unsearched k ≡ true) (sym s) high)

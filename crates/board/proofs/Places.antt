@@ -1,5 +1,6 @@
 -- The engines that instances may be on, those in service, are distinct engines of the system in rising order, so that the first of them that takes a newcomer is the
 -- lowest-numbered one; how many there are, and which row of a recovery each one has.
+use Rattle.std.proofs.Common.{Some, None}
 use Prim.Native.Nat.{ℕ, zero, suc, ◌+◌, ◌-◌, ◌≤◌}
 use mathlib.Core.Path.{◌≡◌, refl, sym, ap, subst, ◌∙◌}
 use mathlib.Core.List.{List, [], ◌∷◌, ◌++◌}
@@ -15,7 +16,6 @@ use Rattle.partition.specs.Assignment.{among, every, passing, numbers_from, engi
 use Rattle.partition.specs.Shares.{distinct, row_on}
 use Rattle.partition.proofs.Lists.{not-both, or_cases, or-neither, among-here, among-more, among-tested, every-among, numbers_from-every, numbers_from-cut, distinct-engines_to, length-engines_to, engines_to-outside, engines_to-last, among-engines_to, among-passing, every-passing, distinct-passing, length-passing, passing-++}
 use Rattle.board.specs.declared.Board.{Board}
-use Rattle.board.specs.declared.Place.TheVariants.{Engine, Nowhere}
 use Rattle.board.specs.Boards.{marked, engines_of}
 use Rattle.board.specs.Words.{EngineIn, serving_to, serving_all}
 use Rattle.board.specs.Calls.{first_of}
@@ -150,12 +150,12 @@ module _ (b : Board) where
 pub record First (p : ℕ → Bool) (es : List ℕ) (e : ℕ) : Type 0 where
   pub engine : among es e ≡ true
   pub passes : p e ≡ true
-  pub found : first_of p es ≡ Engine e
+  pub found : first_of p es ≡ Some e
   pub lowest : (d : ℕ) → among es d ≡ true → p d ≡ true → e ≤ d
 
 -- none passes
 pub record NoneOf (p : ℕ → Bool) (es : List ℕ) : Type 0 where
-  pub found : first_of p es ≡ Nowhere
+  pub found : first_of p es ≡ None
   pub nowhere : (d : ℕ) → among es d ≡ true → p d ≡ true → ⊥
 
 pub data FirstView (p : ℕ → Bool) (es : List ℕ) : Type 0 where

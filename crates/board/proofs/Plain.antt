@@ -1,4 +1,5 @@
 -- The plain words of a board mean what the code's words say: the sums over six types, fit, counts and totals, and the engines that are used.
+use Rattle.std.proofs.Common.{Some}
 use Prim.Native.Nat.{ℕ, zero, suc, ◌+◌, ◌-◌, ◌*◌, ◌≤◌}
 use mathlib.Core.Path.{◌≡◌, refl, sym, ap, ap₂, subst, ◌∙◌}
 use mathlib.Core.List.{List, [], ◌∷◌, map}
@@ -8,7 +9,6 @@ use native.Mathlib.Omega.{arith}
 use borrow.Author.Tests.{eqb-true, eqb-false, eq-eqb, ne_eqb}
 use lib.ListN.{length, get_or}
 use lib.Dec.{eqb, eqb-suc-zero}
-use Rattle.system.specs.declared.Most.TheVariants.{AtMost}
 use Rattle.system.specs.declared.TaskType.{TaskType}
 use Rattle.system.specs.declared.System.{System}
 use Rattle.system.specs.Values.{no_task}
@@ -102,10 +102,10 @@ module _ (y : System) (ls : length y.types ≡ 6) (x : List ℕ) (lx : length x 
   pub out-fits : y.rule ≤ 1 → FitsOut y counts → fits_engine y x ≡ true
   out-fits rule p = fits-of y x (rw time-out p.time) (memory (eqb y.rule 0) refl) ((apart-entries y.types x).1 kept)
     where
-      kept : (i q : ℕ) → (get_or y.types i no_task).most ≡ AtMost q → get_or x i 0 ≤ q
+      kept : (i q : ℕ) → (get_or y.types i no_task).most ≡ Some q → get_or x i 0 ≤ q
       kept i =
           let same : suc i - 1 ≡ i = omega arith in
-          subst (λ (j : ℕ). (q : ℕ) → (get_or y.types j no_task).most ≡ AtMost q → get_or x j 0 ≤ q) same (λ q. p.separate (suc i) q (omega arith))
+          subst (λ (j : ℕ). (q : ℕ) → (get_or y.types j no_task).most ≡ Some q → get_or x j 0 ≤ q) same (λ q. p.separate (suc i) q (omega arith))
 
       memory : (q : Bool) → eqb y.rule 0 ≡ q → memory_of y.rule y.types x ≤ y.memorycap
       memory true e = let r = eqb-true y.rule 0 e in rw (own_out_lem r) (p.own_copies r)

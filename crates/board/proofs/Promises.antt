@@ -1,13 +1,12 @@
 -- What each call promises besides the equation with its definition: demand 1, the order of the refusals, that it takes a board of one kind of engine only, and its meaning for a true board.
 -- All hold of the definition, so of what the call gave.
+use Rattle.std.proofs.Common.{None, Some}
 use Prim.Native.Nat.{ℕ, ◌≤◌}
 use mathlib.Core.Path.{◌≡◌, refl, sym, ap, subst, ◌∙◌}
 use mathlib.Core.List.{List, []}
 use native.Mathlib.Omega.{arith}
 use Rattle.system.specs.declared.Costs.{Costs}
-use Rattle.system.specs.declared.There.TheVariants.{Absent, Takes}
 use Rattle.system.specs.declared.Kind.{Kind}
-use Rattle.system.specs.declared.Second.TheVariants.{OneKind, TwoKinds}
 use Rattle.system.specs.declared.System.{System}
 use Rattle.system.specs.Values.{blank}
 use Rattle.system.specs.Layout.{read_file, read_outcome, opened}
@@ -51,11 +50,11 @@ open-means file o b a s = record {
 
 -- one kind of engine: a true board has no second kind, and no type of it has u and s on one
 
-two-untrue : (b : Board) (k : Kind) → b.system.second ≡ TwoKinds k → IsTrue b → ⊥
-two-untrue b k e w = let one : b.system.second ≡ OneKind = w.limits.one_kind in let z : ◌≡◌ {A = ℕ} 0 1 = cc in omega arith
+two-untrue : (b : Board) (k : Kind) → b.system.second ≡ Some k → IsTrue b → ⊥
+two-untrue b k e w = let one : b.system.second ≡ None = w.limits.one_kind in let z : ◌≡◌ {A = ℕ} 0 1 = cc in omega arith
 
-there-untrue : (b : Board) (t : ℕ) (c : Costs) → (type_no b.system t).there ≡ Takes c → IsTrue b → ⊥
-there-untrue b t c e w = let none : (type_no b.system t).there ≡ Absent = w.limits.absent t in let z : ◌≡◌ {A = ℕ} 0 1 = cc in omega arith
+there-untrue : (b : Board) (t : ℕ) (c : Costs) → (type_no b.system t).there ≡ Some c → IsTrue b → ⊥
+there-untrue b t c e w = let none : (type_no b.system t).there ≡ None = w.limits.absent t in let z : ◌≡◌ {A = ℕ} 0 1 = cc in omega arith
 
 pub only_one : (b : Board) {o : Outcome} → ((IsTrue b → ⊥) → o ≡ refused from_state 20) → OneKindOnly b o
 only_one b refuses = record { second = λ k e. refuses (two-untrue b k e); there = λ t c e. refuses (there-untrue b t c e) }

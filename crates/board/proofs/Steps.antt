@@ -1,4 +1,5 @@
 -- A loop over the types or over the engines: what is left of a definition after those before i, by the next one, and nothing at the end.
+use Rattle.std.proofs.Common.{Some, None}
 use Prim.Native.Nat.{ℕ, zero, suc, ◌+◌, ◌-◌, ◌≤◌, ◌<◌}
 use mathlib.Core.Path.{◌≡◌, refl, sym, ap, ◌∙◌}
 use mathlib.Core.List.{List, [], ◌∷◌, ◌++◌, append-nil}
@@ -19,7 +20,6 @@ use Rattle.loads.proofs.Steps.{ceilings}
 use Rattle.partition.specs.Assignment.{every, passing, numbers_from, engines_to}
 use Rattle.partition.specs.Shares.{sum_of}
 use Rattle.partition.proofs.Lists.{engines_to-last, passing-++}
-use Rattle.board.specs.declared.Place.TheVariants.{Engine, Nowhere}
 use Rattle.board.specs.Boards.{standing_of}
 use Rattle.board.specs.Truth.{true_engine, zero_engine, true_loads, engine_true}
 use Rattle.board.specs.Calls.{first_of}
@@ -94,7 +94,7 @@ module _ (y : System) (ls : List EngineLoad) (i : ℕ) where
 -- the first engine that passes
 
 module _ (p : ℕ → Bool) (es : List ℕ) (i : ℕ) (h : i < length es) where
-  pub first-stop : p (get_or es i 0) ≡ true → first_of p (drop i es) ≡ Engine (get_or es i 0)
+  pub first-stop : p (get_or es i 0) ≡ true → first_of p (drop i es) ≡ Some (get_or es i 0)
   unfolding first_of
   first-stop q = rw (drop-cons es i 0, q)
 
@@ -102,7 +102,7 @@ module _ (p : ℕ → Bool) (es : List ℕ) (i : ℕ) (h : i < length es) where
   unfolding first_of
   first-turn q = rw (add-one i, drop-cons es i 0, q)
 
-pub first-end : (p : ℕ → Bool) (es : List ℕ) (i : ℕ) → length es ≤ i → first_of p (drop i es) ≡ Nowhere
+pub first-end : (p : ℕ → Bool) (es : List ℕ) (i : ℕ) → length es ≤ i → first_of p (drop i es) ≡ None
 unfolding first_of
 first-end p es i h = rw (drop_of_length-le es {i = i})
 

@@ -1,4 +1,5 @@
 -- Each call on the board of valid loads, by its outcome: what was found out, and the result. The meaning of the calls and the ledger's steps go by these cases.
+use Rattle.std.proofs.Common.{Option}
 use Prim.Native.Nat.{ℕ, ◌+◌, ◌-◌, ◌≤◌, ◌<◌}
 use mathlib.Core.Path.{◌≡◌, refl, ap, fun_ext, ◌∙◌}
 use mathlib.Core.List.{List, [], ◌∷◌}
@@ -21,7 +22,6 @@ use Rattle.partition.proofs.ForSystem.{feasible-iff-placeable, recovered_for-mor
 use Rattle.partition.proofs.Standing.{Valid, total, load_in, length-total, served-feasible}
 use Rattle.table.specs.Table.{long_enough, filled}
 use Rattle.board.specs.declared.Board.{Board}
-use Rattle.board.specs.declared.Place.{Place}
 use Rattle.board.specs.Boards.{board_of, with_load, with_mark, marked, engines_of, load_at, standing}
 use Rattle.board.specs.Truth.{true_board}
 use Rattle.board.specs.Calls.{Result, result, checked, known_type, known_engine, under_ceiling, check_newcomer, check_retire, check_repack, check_restore, check_withdraw, with_newcomer, takes, first_of, first_engine, admitted, admit_of, reseated, seat_of, retire_of, repack_of, withdraw_of, restore_of}
@@ -202,7 +202,7 @@ module _ (y : System) (ms : List Bool) (xs : List (List ℕ)) (keeps : keeps_lim
       form : r ≡ checked (newcomer_checks (known_type y t) (under_in y xs t)) b table work
       form =
           ap (λ (c : Checked). checked c b table (admitted b t table (first_engine b t))) (checks-on t table long)
-          ∙ ap (λ (e : Place). checked (newcomer_checks (known_type y t) (under_in y xs t)) b table (admitted b t table e)) (first_on t)
+          ∙ ap (λ (e : Option ℕ). checked (newcomer_checks (known_type y t) (under_in y xs t)) b table (admitted b t table e)) (first_on t)
 
       by-room : (p : Bool) → placeable y es (with_one xs t) ≡ p → Newcomer y xs t → TakesNone y ms xs t → r ≡ work → AdmitView y ms xs t table r
       by-room true e n f s = tight n f e (s ∙ admitted-none t table true f e)

@@ -1,6 +1,6 @@
 -- The four calls of document 01 as they were defined before request 2026-07: over the engines 1 to m, whatever their marks. The table is that of request 2026-10. No code, contract or demand uses these definitions.
 -- `AsBefore` says that on a board without marks every call is still just that, and that the plain words mean what they meant, so that nobody has to compare.
-use Rattle.std.specs.Prelude.{ℕ, ◌-◌, List, [], ◌∷◌, Bool, false, cond, ◌&&◌, ◌≡◌, ◌↔◌, length, eqb}
+use Rattle.std.specs.Prelude.{ℕ, ◌-◌, List, [], ◌∷◌, Bool, false, cond, ◌&&◌, ◌≡◌, ◌↔◌, length, eqb, Option, Some, None}
 use Rattle.system.specs.Values.{ceilings_of}
 use Rattle.system.specs.Limits.{keeps_limits, engine_limit}
 use Rattle.system.specs.Outcome.{accepted, refused, from_state, Checked, check, and_then}
@@ -10,8 +10,6 @@ use Rattle.partition.specs.ForSystem.{placeable, recovered_for}
 use Rattle.partition.specs.Lent.{Lent}
 use Rattle.table.specs.Table.{room_check, filled}
 use Rattle.board.specs.declared.Board.{Board}
-use Rattle.board.specs.declared.Place.{Place}
-use Rattle.board.specs.declared.Place.TheVariants.{Engine, Nowhere}
 use Rattle.board.specs.Boards.{board_of, with_load, load_at, standing}
 use Rattle.board.specs.Truth.{true_loads}
 use Rattle.board.specs.Calls.{Result, result, type_check, engine_check, ceiling_check, held_check, checked, with_newcomer, takes, first_of, admit_of, seat_of, retire_of, repack_of}
@@ -38,9 +36,9 @@ abbrev pub crowded_before : Board → ℕ → Lent → Result
 crowded_before b t table =
     result (refused from_state (cond (placeable b.system (engines_before b) (with_newcomer b t)) 23 24)) b (filled b.system (engines_before b) table)
 
-unfoldable pub admitted_before : Board → ℕ → Lent → Place → Result
-admitted_before b t table (Engine e) = result (accepted (e ∷ [])) (with_load b e (one_more (t - 1) (load_at b e))) table
-admitted_before b t table Nowhere = crowded_before b t table
+unfoldable pub admitted_before : Board → ℕ → Lent → Option ℕ → Result
+admitted_before b t table (Some e) = result (accepted (e ∷ [])) (with_load b e (one_more (t - 1) (load_at b e))) table
+admitted_before b t table None = crowded_before b t table
 
 abbrev pub admit_before : Board → ℕ → Lent → Result
 admit_before b t table = checked (check_newcomer_before b t (length table.rows) (length table.predecessors)) b table (admitted_before b t table (first_of (takes b t) (engines_before b)))

@@ -1,6 +1,6 @@
 -- The six calls on a board: document 01's "Board", with the orders under "From the state", and the two of request 2026-07. Each is one definition of the
 -- answer, the board after it and the table after it.
-use Rattle.std.specs.Prelude.{ℕ, ◌-◌, List, [], ◌∷◌, Bool, true, false, cond, not, ◌&&◌, ◌≡◌, length, get_or, leb, ltb}
+use Rattle.std.specs.Prelude.{ℕ, ◌-◌, List, [], ◌∷◌, Bool, true, false, cond, not, ◌&&◌, ◌≡◌, length, get_or, leb, ltb, Option, Some, None}
 use Rattle.system.specs.declared.System.{System}
 use Rattle.system.specs.Values.{ceilings_of}
 use Rattle.system.specs.Limits.{engine_limit}
@@ -12,8 +12,6 @@ use Rattle.partition.specs.Lent.{Lent}
 use Rattle.table.specs.Table.{room_check, filled}
 use Rattle.board.specs.declared.Board.{Board}
 use Rattle.board.specs.declared.Turn.{Turn}
-use Rattle.board.specs.declared.Place.{Place}
-use Rattle.board.specs.declared.Place.TheVariants.{Engine, Nowhere}
 use Rattle.board.specs.Boards.{opened_board, board_of, with_load, with_mark, marked, engines_of, load_at, standing}
 use Rattle.board.specs.Truth.{true_board}
 
@@ -107,12 +105,12 @@ abbrev pub takes : Board → ℕ → ℕ → Bool
 takes b t e = fits_engine b.system (one_more (t - 1) (load_at b e))
 
 -- the first of the engines that passes, or nowhere
-unfoldable pub first_of : (ℕ → Bool) → List ℕ → Place
-first_of p [] = Nowhere
-first_of p (e ∷ es) = cond (p e) (Engine e) (first_of p es)
+unfoldable pub first_of : (ℕ → Bool) → List ℕ → Option ℕ
+first_of p [] = None
+first_of p (e ∷ es) = cond (p e) (Some e) (first_of p es)
 
 -- the lowest-numbered engine in service that takes the newcomer: their numbers rise
-abbrev pub first_engine : Board → ℕ → Place
+abbrev pub first_engine : Board → ℕ → Option ℕ
 first_engine b t = first_of (takes b t) (engines_of b)
 
 -- no engine takes the newcomer: 23 if a good assignment of all with it exists, else 24, and the table is left filled
@@ -121,9 +119,9 @@ crowded b t table =
     result (refused from_state (cond (placeable b.system (engines_of b) (with_newcomer b t)) 23 24)) b (filled b.system (engines_of b) table)
 
 -- the newcomer goes to the engine that was found
-unfoldable pub admitted : Board → ℕ → Lent → Place → Result
-admitted b t table (Engine e) = result (accepted (e ∷ [])) (with_load b e (one_more (t - 1) (load_at b e))) table
-admitted b t table Nowhere = crowded b t table
+unfoldable pub admitted : Board → ℕ → Lent → Option ℕ → Result
+admitted b t table (Some e) = result (accepted (e ∷ [])) (with_load b e (one_more (t - 1) (load_at b e))) table
+admitted b t table None = crowded b t table
 
 unfoldable pub admit_of : Board → ℕ → Lent → Result
 admit_of b t table = checked (check_newcomer b t (length table.rows) (length table.predecessors)) b table (admitted b t table (first_engine b t))

@@ -1,11 +1,9 @@
 -- What each call promises besides the equation with its definition: demand 1 for every board, the order of the refusals, and what the call means for a true
 -- board,
 -- in the plain words of `Words`. Of the definitions of the calls only `Result` is known here, and `true_board`, which `TrueMeans` says in these words.
-use Rattle.std.specs.Prelude.{ℕ, ◌≤◌, List, [], ◌∷◌, true, false, ◌≡◌, ◌↔◌}
+use Rattle.std.specs.Prelude.{ℕ, ◌≤◌, List, [], ◌∷◌, true, false, ◌≡◌, ◌↔◌, Some}
 use Rattle.system.specs.declared.Costs.{Costs}
-use Rattle.system.specs.declared.There.TheVariants.{Takes}
 use Rattle.system.specs.declared.Kind.{Kind}
-use Rattle.system.specs.declared.Second.TheVariants.{TwoKinds}
 use Rattle.system.specs.declared.System.{System}
 use Rattle.system.specs.Layout.{Reading, opened, unread}
 use Rattle.system.specs.Outcome.{Outcome, Source, accepted, refused, from_input, from_state, is_accepted}
@@ -135,8 +133,8 @@ pub record Demand1 (b : Board) (table left : Lent) (r : Result) : Type 0 where
 -- Request 2026-13, for every call: "A board handed in with a second kind is refused 20", and so is one that has u and s on such a kind alone, of any type,
 -- past k too, whatever else it holds
 pub record OneKindOnly (b : Board) (o : Outcome) : Type 0 where
-  pub second : (k : Kind) → b.system.second ≡ TwoKinds k → o ≡ refused from_state 20
-  pub there : (t : ℕ) (c : Costs) → (type_no b.system t).there ≡ Takes c → o ≡ refused from_state 20
+  pub second : (k : Kind) → b.system.second ≡ Some k → o ≡ refused from_state 20
+  pub there : (t : ℕ) (c : Costs) → (type_no b.system t).there ≡ Some c → o ≡ refused from_state 20
 
 -- What the contracts cite
 

@@ -4,8 +4,7 @@
 -- by `true_board`; and of the words that such a part cites they go through those alone that Plain goes through, and through those of `IsRecovery`, which
 -- `RecoveredOn` says once
 -- more in the table that is left. Laws say that the code's words mean the same.
-use Rattle.std.specs.Prelude.{ℕ, zero, suc, ◌+◌, ◌-◌, ◌*◌, ◌≤◌, ◌<◌, List, [], ◌∷◌, Bool, true, false, cond, ◌&&◌, ◌≡◌, length, get_or, eqb}
-use Rattle.system.specs.declared.Most.TheVariants.{AtMost}
+use Rattle.std.specs.Prelude.{ℕ, zero, suc, ◌+◌, ◌-◌, ◌*◌, ◌≤◌, ◌<◌, List, [], ◌∷◌, Bool, true, false, cond, ◌&&◌, ◌≡◌, length, get_or, eqb, Some}
 use Rattle.system.specs.declared.System.{System}
 use Rattle.loads.specs.declared.EngineLoad.{EngineLoad}
 use Rattle.partition.specs.Assignment.{Assignment, engines_to}
@@ -60,7 +59,7 @@ pub record FitsOut (y : System) (count : ℕ → ℕ) : Type 0 where
   pub time : time_out y count ≤ y.timecap
   pub own_copies : y.rule ≡ 0 → own_out y count ≤ y.memorycap
   pub shared_code : y.rule ≡ 1 → shared_out y count ≤ y.memorycap
-  pub separate : (t q : ℕ) → 1 ≤ t → (type_no y t).most ≡ AtMost q → count t ≤ q
+  pub separate : (t q : ℕ) → 1 ≤ t → (type_no y t).most ≡ Some q → count t ≤ q
 
 -- the stored time and memory of a record are the sums of its own counts
 pub record SumsOut (y : System) (l : EngineLoad) : Type 0 where

@@ -6,7 +6,7 @@ use system::{Answer, ENGINE_LIMIT, System};
 
 // A board: the system, each engine's load with its stored time and memory, and whether it is marked, that is, out of service. Engine e is
 // at index e - 1.
-#[derive(Clone, Copy)]
+#[derive(Clone, Copy, PartialEq, Eq)]
 pub struct Board {
     pub system: System,
     pub loads: [EngineLoad; ENGINE_LIMIT],
@@ -14,15 +14,8 @@ pub struct Board {
 }
 
 // What a call answers, with the board after it: the one handed in where the call is refused.
-#[derive(Clone, Copy)]
+#[derive(Clone, Copy, PartialEq, Eq)]
 pub struct Turn {
     pub answer: Answer,
     pub board: Board,
-}
-
-// Where a newcomer can go: the number of an engine, or nowhere.
-#[derive(Clone, Copy)]
-pub enum Place {
-    Engine(usize),
-    Nowhere,
 }

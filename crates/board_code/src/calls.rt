@@ -7,19 +7,19 @@ ghost use Rattle.board.specs.Calls.{admit_of, seat_of, retire_of, repack_of, wit
 ghost use Rattle.board.specs.Meaning.{OpenMeans, AdmitPromises, SeatPromises, RetirePromises, RepackPromises, WithdrawPromises, RestorePromises};
 
 use crate::{checks, state, work};
-use board::{Board, Place, Turn};
-use system::Check;
+// A call answers a Turn, and no Result by `?`: document 01's demand 1 promises the board on a refusal too (`Does`).
+use board::{Board, Turn};
+use system::Refusal;
 
 // The fresh board of a system file, or the blank board where the file is refused.
 pub fn open_board(file: &[u8]) -> Turn
     ensures opens { Opens (read_file file.now) result }
     ensures open_means { OpenMeans (read_file file.now) (outcome_of result.answer) result.board }
 {
-    let o = system_code::read_system(file);
-    let a = o.answer;
+    let opened = system_code::read_system(file);
     Turn {
-        answer: a,
-        board: work::empty_board(o.system),
+        answer: opened.answer,
+        board: work::empty_board(opened.system),
     }
 }
 
@@ -28,11 +28,10 @@ pub fn admit(b: Board, t: usize, rows: &mut [u16], predecessors: &mut [u16]) -> 
     ensures does { Does (admit_of b t (lent rows.old predecessors.old)) result (lent rows.new predecessors.new) }
     ensures admit_promises { AdmitPromises b t (lent rows.old predecessors.old) (gave result (lent rows.new predecessors.new)) }
 {
-    let check = checks::check_newcomer(b, t, rows.len(), predecessors.len());
-    if let Check::Fails(why) = check {
+    if let Err(why) = checks::check_newcomer(b, t, rows.len(), predecessors.len()) {
         return work::refuse(b, why);
     }
-    let Place::Engine(e) = work::first_engine(b, t) else {
+    let Some(e) = work::first_engine(b, t) else {
         return work::no_engine(b, t, rows, predecessors);
     };
     work::join(b, t, e)
@@ -43,8 +42,7 @@ pub fn seat(b: Board, t: usize, rows: &mut [u16], predecessors: &mut [u16]) -> T
     ensures does { Does (seat_of b t (lent rows.old predecessors.old)) result (lent rows.new predecessors.new) }
     ensures seat_promises { SeatPromises b t (lent rows.old predecessors.old) (gave result (lent rows.new predecessors.new)) }
 {
-    let check = checks::check_newcomer(b, t, rows.len(), predecessors.len());
-    if let Check::Fails(why) = check {
+    if let Err(why) = checks::check_newcomer(b, t, rows.len(), predecessors.len()) {
         return work::refuse(b, why);
     }
     let counts = work::with_newcomer(b, t);
@@ -56,8 +54,7 @@ pub fn retire(b: Board, t: usize, e: usize) -> Turn
     ensures does { Does (retire_of b t e (lent [] [])) result (lent [] []) }
     ensures retire_promises { RetirePromises b t e (gave result (lent [] [])) }
 {
-    let check = checks::check_retire(b, t, e);
-    if let Check::Fails(why) = check {
+    if let Err(why) = checks::check_retire(b, t, e) {
         return work::refuse(b, why);
     }
     work::leave(b, t, e)
@@ -68,8 +65,7 @@ pub fn repack(b: Board, rows: &mut [u16], predecessors: &mut [u16]) -> Turn
     ensures does { Does (repack_of b (lent rows.old predecessors.old)) result (lent rows.new predecessors.new) }
     ensures repack_promises { RepackPromises b (lent rows.old predecessors.old) (gave result (lent rows.new predecessors.new)) }
 {
-    let check = checks::check_repack(b, rows.len(), predecessors.len());
-    if let Check::Fails(why) = check {
+    if let Err(why) = checks::check_repack(b, rows.len(), predecessors.len()) {
         return work::refuse(b, why);
     }
     let counts = state::standing_counts(b);
@@ -81,8 +77,7 @@ pub fn withdraw(b: Board, e: usize) -> Turn
     ensures does { Does (withdraw_of b e (lent [] [])) result (lent [] []) }
     ensures withdraw_promises { WithdrawPromises b e (gave result (lent [] [])) }
 {
-    let check = checks::check_withdraw(b, e);
-    if let Check::Fails(why) = check {
+    if let Err(why) = checks::check_withdraw(b, e) {
         return work::refuse(b, why);
     }
     work::move_engine(b, e, true)
@@ -93,8 +88,7 @@ pub fn restore(b: Board, e: usize) -> Turn
     ensures does { Does (restore_of b e (lent [] [])) result (lent [] []) }
     ensures restore_promises { RestorePromises b e (gave result (lent [] [])) }
 {
-    let check = checks::check_restore(b, e);
-    if let Check::Fails(why) = check {
+    if let Err(why) = checks::check_restore(b, e) {
         return work::refuse(b, why);
     }
     work::move_engine(b, e, false)

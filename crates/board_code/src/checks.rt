@@ -9,40 +9,40 @@ ghost use Rattle.board.specs.Inner.{OnEngine};
 
 use crate::state;
 use board::Board;
-use system::{Check, Refusal, System};
+use system::{Refusal, System};
 
 // 20: the board handed in is not true.
-fn board_check(b: Board) -> Check
+fn board_check(b: Board) -> Result<(), Refusal>
     ensures { checked_of result ≡ board_check b }
 {
     if state::true_board(b) {
-        return Check::Passes;
+        return Ok(());
     }
-    Check::Fails(Refusal::State(20))
+    Err(Refusal::State(20))
 }
 
-// 13: t is no type number, 1 to k.
-fn type_check(y: System, t: usize) -> Check
+// 13: t is no type number, 1 to k. This and the next stay two: each refusal is said in one place, and a number to pass along says no more.
+fn type_check(y: System, t: usize) -> Result<(), Refusal>
     ensures { checked_of result ≡ type_check y t }
 {
     if (1 <= t) & (t <= y.typecount) {
-        return Check::Passes;
+        return Ok(());
     }
-    Check::Fails(Refusal::Input(13))
+    Err(Refusal::Input(13))
 }
 
 // 14: e is no engine number, 1 to m.
-fn engine_check(y: System, e: usize) -> Check
+fn engine_check(y: System, e: usize) -> Result<(), Refusal>
     ensures { checked_of result ≡ engine_check y e }
 {
     if (1 <= e) & (e <= y.engines) {
-        return Check::Passes;
+        return Ok(());
     }
-    Check::Fails(Refusal::Input(14))
+    Err(Refusal::Input(14))
 }
 
 // 21: as many of type t stand as its ceiling allows.
-fn ceiling_check(b: Board, t: usize) -> Check
+fn ceiling_check(b: Board, t: usize) -> Result<(), Refusal>
     requires { (true_board b ≡ true) × (known_type b.system t ≡ true) }
     ensures { checked_of result ≡ ceiling_check b t }
 {
@@ -51,127 +51,91 @@ fn ceiling_check(b: Board, t: usize) -> Check
     let task = types[i];
     let counts = state::standing_counts(b);
     if counts[i] < task.ceiling {
-        return Check::Passes;
+        return Ok(());
     }
-    Check::Fails(Refusal::State(21))
+    Err(Refusal::State(21))
 }
 
 // 22: engine e holds none of type t.
-fn held_check(b: Board, t: usize, e: usize) -> Check
+fn held_check(b: Board, t: usize, e: usize) -> Result<(), Refusal>
     requires { OnEngine b e × (known_type b.system t ≡ true) }
     ensures { checked_of result ≡ held_check b t e }
 {
     let i = t - 1;
     let counts = state::load_at(b, e);
     if 1 <= counts[i] {
-        return Check::Passes;
+        return Ok(());
     }
-    Check::Fails(Refusal::State(22))
+    Err(Refusal::State(22))
 }
 
 // 36: engine e is already in the state wanted, out of service or not.
-fn state_check(b: Board, e: usize, out: bool) -> Check
+fn state_check(b: Board, e: usize, out: bool) -> Result<(), Refusal>
     requires { OnEngine b e }
     ensures { checked_of result ≡ state_check b e out }
 {
     let marked = state::marked(b, e);
     if (out & !marked) | (!out & marked) {
-        return Check::Passes;
+        return Ok(());
     }
-    Check::Fails(Refusal::State(36))
+    Err(Refusal::State(36))
 }
 
 // 35: engine e still holds an instance.
-fn empty_check(b: Board, e: usize) -> Check
+fn empty_check(b: Board, e: usize) -> Result<(), Refusal>
     requires { OnEngine b e }
     ensures { checked_of result ≡ empty_check b e }
 {
     let counts = state::load_at(b, e);
     if loads_code::holds_none(counts) {
-        return Check::Passes;
+        return Ok(());
     }
-    Check::Fails(Refusal::State(35))
+    Err(Refusal::State(35))
 }
 
 // Admit and seat: 20, 13, 11, 21, for parts of `rows` and of `predecessors` entries.
-pub fn check_newcomer(b: Board, t: usize, rows: usize, predecessors: usize) -> Check
+pub fn check_newcomer(b: Board, t: usize, rows: usize, predecessors: usize) -> Result<(), Refusal>
     ensures { checked_of result ≡ check_newcomer b t rows predecessors }
 {
-    let board = board_check(b);
-    if let Check::Fails(why) = board {
-        return Check::Fails(why);
-    }
-    let task = type_check(b.system, t);
-    if let Check::Fails(why) = task {
-        return Check::Fails(why);
-    }
-    let table = table_code::table_check(b.system, rows, predecessors);
-    if let Check::Fails(why) = table {
-        return Check::Fails(why);
-    }
+    board_check(b)?;
+    type_check(b.system, t)?;
+    table_code::table_check(b.system, rows, predecessors)?;
     ceiling_check(b, t)
 }
 
 // Retire: 20, 13, 14, 22.
-pub fn check_retire(b: Board, t: usize, e: usize) -> Check
+pub fn check_retire(b: Board, t: usize, e: usize) -> Result<(), Refusal>
     ensures { checked_of result ≡ check_retire b t e }
 {
-    let board = board_check(b);
-    if let Check::Fails(why) = board {
-        return Check::Fails(why);
-    }
-    let task = type_check(b.system, t);
-    if let Check::Fails(why) = task {
-        return Check::Fails(why);
-    }
-    let engine = engine_check(b.system, e);
-    if let Check::Fails(why) = engine {
-        return Check::Fails(why);
-    }
+    board_check(b)?;
+    type_check(b.system, t)?;
+    engine_check(b.system, e)?;
     held_check(b, t, e)
 }
 
 // Repack: 20, 11, for such parts.
-pub fn check_repack(b: Board, rows: usize, predecessors: usize) -> Check
+pub fn check_repack(b: Board, rows: usize, predecessors: usize) -> Result<(), Refusal>
     ensures { checked_of result ≡ check_repack b rows predecessors }
 {
-    let board = board_check(b);
-    if let Check::Fails(why) = board {
-        return Check::Fails(why);
-    }
+    board_check(b)?;
     table_code::table_check(b.system, rows, predecessors)
 }
 
 // Restore: 20, 14, 36.
-pub fn check_restore(b: Board, e: usize) -> Check
+pub fn check_restore(b: Board, e: usize) -> Result<(), Refusal>
     ensures { checked_of result ≡ check_restore b e }
 {
-    let board = board_check(b);
-    if let Check::Fails(why) = board {
-        return Check::Fails(why);
-    }
-    let engine = engine_check(b.system, e);
-    if let Check::Fails(why) = engine {
-        return Check::Fails(why);
-    }
+    board_check(b)?;
+    engine_check(b.system, e)?;
     state_check(b, e, false)
 }
 
 // Withdraw: 20, 14, 36, 35.
-pub fn check_withdraw(b: Board, e: usize) -> Check
+pub fn check_withdraw(b: Board, e: usize) -> Result<(), Refusal>
     ensures { checked_of result ≡ check_withdraw b e }
 {
-    let board = board_check(b);
-    if let Check::Fails(why) = board {
-        return Check::Fails(why);
-    }
-    let engine = engine_check(b.system, e);
-    if let Check::Fails(why) = engine {
-        return Check::Fails(why);
-    }
-    let state = state_check(b, e, true);
-    if let Check::Fails(why) = state {
-        return Check::Fails(why);
-    }
+    board_check(b)?;
+    engine_check(b.system, e)?;
+    state_check(b, e, true)?;
     empty_check(b, e)
 }

@@ -15,31 +15,24 @@ use system::{ENGINE_LIMIT, System, TYPE_LIMIT, TaskType};
 fn true_engine(y: System, l: EngineLoad) -> bool
     ensures { result ≡ true_engine y l }
 {
-    let counts = l.counts;
-    let sums = loads_code::sums_of(y, counts);
+    let sums = loads_code::sums_of(y, l.counts);
     (l.time as u64 == sums.time)
         & (l.memory as u64 == sums.memory)
-        & loads_code::fits_engine(y, counts)
+        & loads_code::fits_engine(y, l.counts)
 }
 
 // All 0: what an engine past m has.
 fn zero_engine(l: EngineLoad) -> bool
     ensures { result ≡ zero_engine l }
 {
-    let counts = l.counts;
-    (l.time == 0) & (l.memory == 0) & loads_code::holds_none(counts)
+    (l.time == 0) & (l.memory == 0) & loads_code::holds_none(l.counts)
 }
 
 // The first m engines are true, the others 0.
 pub fn true_loads(y: System, loads: [EngineLoad; ENGINE_LIMIT]) -> bool
     ensures { result ≡ true_loads y y.engines loads }
 {
-    let mut good = true;
-    for i in 0..ENGINE_LIMIT {
-        let l = loads[i];
-        good = good & true_at(y, i, l);
-    }
-    good
+    loads.iter().enumerate().all(|(i, l)| true_at(y, i, *l))
 }
 
 // What the engine at index i has to be.
@@ -57,9 +50,7 @@ pub(crate) fn marked(b: Board, e: usize) -> bool
     requires { (1 ≤ e) × (e ≤ engine_limit) }
     ensures { result ≡ marked b e }
 {
-    let i = e - 1;
-    let marks = b.marks;
-    marks[i]
+    b.marks[e - 1]
 }
 
 // Where engine e is marked, it is one of the engines 1 to m and holds nothing.
@@ -78,11 +69,7 @@ fn mark_true(b: Board, e: usize) -> bool
 fn true_marks(b: Board) -> bool
     ensures { result ≡ true_marks b }
 {
-    let mut good = true;
-    for i in 0..ENGINE_LIMIT {
-        good = good & mark_true(b, i + 1);
-    }
-    good
+    (1..ENGINE_LIMIT + 1).all(|e| mark_true(b, e))
 }
 
 // A load added to a sum of at most 15 others.
@@ -90,24 +77,16 @@ fn added(l: EngineLoad, sum: [u32; TYPE_LIMIT]) -> [u32; TYPE_LIMIT]
     requires { (t : ℕ) → get_or sum t 0 ≤ 15 * 65535 }
     ensures { (result ≡ plus l.counts sum) × ((t : ℕ) → get_or result t 0 ≤ get_or sum t 0 + 65535) }
 {
-    let counts = l.counts;
-    let mut next = sum;
-    for t in 0..TYPE_LIMIT {
-        next[t] = (counts[t] as u32) + sum[t];
-    }
-    next
+    std::array::from_fn(|t| l.counts[t] as u32 + sum[t])
 }
 
-// What stands: the sum over the engines.
+// What stands: the sum over the engines. The array that a call answers goes through a variable of its own: the check covers no other form.
 pub fn total(loads: [EngineLoad; ENGINE_LIMIT]) -> [u32; TYPE_LIMIT]
     ensures { result ≡ standing_of loads }
 {
-    let mut sum: [u32; TYPE_LIMIT] = [0; TYPE_LIMIT];
-    let mut i = ENGINE_LIMIT;
-    while 0 < i {
-        i -= 1;
-        let l = loads[i];
-        let next = added(l, sum);
+    let mut sum = [0; TYPE_LIMIT];
+    for l in &loads {
+        let next = added(*l, sum);
         sum = next;
     }
     sum
@@ -117,12 +96,9 @@ pub fn total(loads: [EngineLoad; ENGINE_LIMIT]) -> [u32; TYPE_LIMIT]
 fn under_ceilings(sum: [u32; TYPE_LIMIT], types: [TaskType; TYPE_LIMIT]) -> bool
     ensures { result ≡ within sum (map (λ (t : TaskType). t.ceiling) types) }
 {
-    let mut under = true;
-    for t in 0..TYPE_LIMIT {
-        let task = types[t];
-        under = under & (sum[t] <= task.ceiling as u32);
-    }
-    under
+    sum.iter()
+        .zip(&types)
+        .all(|(all, task)| *all <= task.ceiling as u32)
 }
 
 // Totals that fit 16 bits, as counts.
@@ -130,11 +106,7 @@ fn narrowed(sum: [u32; TYPE_LIMIT]) -> [u16; TYPE_LIMIT]
     requires { (t : ℕ) → get_or sum t 0 < 65536 }
     ensures { result ≡ sum }
 {
-    let mut counts: [u16; TYPE_LIMIT] = [0; TYPE_LIMIT];
-    for t in 0..TYPE_LIMIT {
-        counts[t] = sum[t] as u16;
-    }
-    counts
+    sum.map(|all| all as u16)
 }
 
 // What stands on a true board, as a load.
@@ -142,8 +114,7 @@ pub(crate) fn standing_counts(b: Board) -> [u16; TYPE_LIMIT]
     requires { true_board b ≡ true }
     ensures { result ≡ standing b }
 {
-    let loads = b.loads;
-    narrowed(total(loads))
+    narrowed(total(b.loads))
 }
 
 // What engine e holds.
@@ -151,10 +122,7 @@ pub(crate) fn load_at(b: Board, e: usize) -> [u16; TYPE_LIMIT]
     requires { (1 ≤ e) × (e ≤ engine_limit) }
     ensures { result ≡ load_at b e }
 {
-    let i = e - 1;
-    let loads = b.loads;
-    let l = loads[i];
-    l.counts
+    b.loads[e - 1].counts
 }
 
 // Whether the board is true: document 01's row of refusal 20, and the marks of request 2026-07.
@@ -163,8 +131,9 @@ pub fn true_board(b: Board) -> bool
     ensures variant { (result ≡ true) ↔ IsTrue b }
 {
     let y = b.system;
-    let types = y.types;
-    let loads = b.loads;
-    let sum = total(loads);
-    system_code::keeps_limits(y) & true_loads(y, loads) & under_ceilings(sum, types) & true_marks(b)
+    let sum = total(b.loads);
+    system_code::keeps_limits(y)
+        & true_loads(y, b.loads)
+        & under_ceilings(sum, y.types)
+        & true_marks(b)
 }

@@ -1,5 +1,5 @@
 // The work of a call once its checks have passed.
-ghost use Rattle.std.specs.Prelude.{◌≡◌, true, ◌-◌, ◌≤◌, length};
+ghost use Rattle.std.specs.Prelude.{◌≡◌, true, ◌-◌, ◌≤◌, length, Ok, Err, Some, None};
 ghost use Rattle.system.specs.Limits.{engine_limit};
 ghost use Rattle.system.specs.Values.{ceilings_of};
 ghost use Rattle.loads.specs.Load.{fits_engine, within, one_more, one_less};
@@ -12,7 +12,7 @@ ghost use Rattle.board.specs.Calls.{known_type, takes, with_newcomer, first_engi
 ghost use Rattle.board.specs.Inner.{CheckedNewcomer, OnEngine};
 
 use crate::state;
-use board::{Board, Place, Turn};
+use board::{Board, Turn};
 use system::{Answer, ENGINE_LIMIT, Refusal, System, TYPE_LIMIT};
 use table::Engines;
 
@@ -27,16 +27,15 @@ pub fn empty_board(y: System) -> Board
     }
 }
 
-// The engines that instances may be on: those in service, rising.
+// The engines that instances may be on: those in service, rising. The list is crate `table`'s, a count and an array of numbers, since no heap is used.
 pub fn engines_of(b: Board) -> Engines
     requires { true_board b ≡ true }
     ensures { (result.count ≡ length (engines_of b)) × (listed result ≡ engines_of b) }
 {
-    let marks = b.marks;
     let mut numbers = [0usize; ENGINE_LIMIT];
     let mut count: usize = 0;
     for i in 0..b.system.engines {
-        if !marks[i] {
+        if !b.marks[i] {
             numbers[count] = i + 1;
             count += 1;
         }
@@ -49,10 +48,10 @@ pub fn engines_of(b: Board) -> Engines
 
 // A refusal hands back the board as it was given.
 pub fn refuse(b: Board, why: Refusal) -> Turn
-    ensures { (result.answer ≡ Answer.Refused why) × (result.board ≡ b) }
+    ensures { (result.answer ≡ Err why) × (result.board ≡ b) }
 {
     Turn {
-        answer: Answer::Refused(why),
+        answer: Err(why),
         board: b,
     }
 }
@@ -62,10 +61,8 @@ fn with_load(b: Board, e: usize, counts: [u16; TYPE_LIMIT]) -> Board
     requires { (1 ≤ e) × (e ≤ engine_limit) × (fits_engine b.system counts ≡ true) }
     ensures { result ≡ with_load b e counts }
 {
-    let i = e - 1;
-    let y = b.system;
     let mut next = b;
-    next.loads[i] = loads_code::engine_with(y, counts);
+    next.loads[e - 1] = loads_code::engine_with(b.system, counts);
     next
 }
 
@@ -87,19 +84,17 @@ fn takes_it(b: Board, t: usize, e: usize) -> bool
 }
 
 // The lowest-numbered engine that takes a newcomer of type t.
-pub fn first_engine(b: Board, t: usize) -> Place
+pub fn first_engine(b: Board, t: usize) -> Option<usize>
     requires { CheckedNewcomer b t }
     ensures { result ≡ first_engine b t }
 {
     let engines = engines_of(b);
-    let numbers = engines.numbers;
-    for i in 0..engines.count {
-        let e = numbers[i];
-        if takes_it(b, t, e) {
-            return Place::Engine(e);
+    for e in &engines.numbers[..engines.count] {
+        if takes_it(b, t, *e) {
+            return Some(*e);
         }
     }
-    Place::Nowhere
+    None
 }
 
 // What stands with a newcomer of type t.
@@ -114,11 +109,11 @@ pub fn with_newcomer(b: Board, t: usize) -> [u16; TYPE_LIMIT]
 // A newcomer of type t joins engine e, which takes it.
 pub fn join(b: Board, t: usize, e: usize) -> Turn
     requires { CheckedNewcomer b t × OnEngine b e × (takes b t e ≡ true) }
-    ensures { (result.answer ≡ Answer.Number e) × (result.board ≡ with_load b e (one_more (t - 1) (load_at b e))) }
+    ensures { (result.answer ≡ Ok (Some e)) × (result.board ≡ with_load b e (one_more (t - 1) (load_at b e))) }
 {
     let counts = load_with(b, t, e);
     Turn {
-        answer: Answer::Number(e),
+        answer: Ok(Some(e)),
         board: with_load(b, e, counts),
     }
 }
@@ -135,11 +130,11 @@ fn load_without(b: Board, t: usize, e: usize) -> [u16; TYPE_LIMIT]
 // One instance of type t leaves engine e.
 pub fn leave(b: Board, t: usize, e: usize) -> Turn
     requires { OnEngine b e × (known_type b.system t ≡ true) }
-    ensures { (result.answer ≡ Answer.Accepted) × (result.board ≡ with_load b e (one_less (t - 1) (load_at b e))) }
+    ensures { (result.answer ≡ Ok None) × (result.board ≡ with_load b e (one_less (t - 1) (load_at b e))) }
 {
     let counts = load_without(b, t, e);
     Turn {
-        answer: Answer::Accepted,
+        answer: Ok(None),
         board: with_load(b, e, counts),
     }
 }
@@ -154,21 +149,14 @@ pub fn reseat(
     requires { (true_board b ≡ true) × (long_enough b.system (lent rows.old predecessors.old) ≡ true) × (within counts (ceilings_of b.system) ≡ true) }
     ensures { Does (reseated b counts (lent rows.old predecessors.old)) result (lent rows.new predecessors.new) }
 {
-    let y = b.system;
-    let engines = engines_of(b);
-    let found = table_code::place(rows, predecessors, y, engines, counts);
+    let found = table_code::place(rows, predecessors, b.system, engines_of(b), counts);
     if !found.placed {
         return refuse(b, Refusal::State(24));
     }
     let loads = found.loads;
-    let marks = b.marks;
     Turn {
-        answer: Answer::Accepted,
-        board: Board {
-            system: y,
-            loads: loads,
-            marks: marks,
-        },
+        answer: Ok(None),
+        board: Board { loads, ..b },
     }
 }
 
@@ -189,13 +177,12 @@ pub fn no_engine(b: Board, t: usize, rows: &mut [u16], predecessors: &mut [u16])
 // Engine e goes out of service, or is put back.
 pub fn move_engine(b: Board, e: usize, out: bool) -> Turn
     requires { (1 ≤ e) × (e ≤ engine_limit) }
-    ensures { (result.answer ≡ Answer.Accepted) × (result.board ≡ with_mark b e out) }
+    ensures { (result.answer ≡ Ok None) × (result.board ≡ with_mark b e out) }
 {
-    let i = e - 1;
     let mut next = b;
-    next.marks[i] = out;
+    next.marks[e - 1] = out;
     Turn {
-        answer: Answer::Accepted,
+        answer: Ok(None),
         board: next,
     }
 }

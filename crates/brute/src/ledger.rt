@@ -3,7 +3,6 @@
 // enough, and answers with the codes of `trial::say::code_of`.
 use crate::{recovery, search};
 use loads::EngineLoad;
-use std::num::{wrapping_add_usize, wrapping_sub_usize};
 use system::{ENGINE_LIMIT, System};
 
 #[derive(Clone, Copy)]
@@ -13,17 +12,28 @@ pub struct Ledger {
     pub marks: [bool; ENGINE_LIMIT],
 }
 
-// What a call is answered, and the ledger after it.
+// What a call is answered, and the ledger after it. The answer stays a code, as an Answer is no plainer: the trials count and print answers by it.
 #[derive(Clone, Copy)]
 pub struct Entry {
     pub code: usize,
     pub ledger: Ledger,
 }
 
-// A call: its kind, 0 admit, 1 seat, 2 retire, 3 repack, 4 withdraw, 5 restore, with its type and engine number where it has them.
+// What a call does.
+#[derive(Clone, Copy, PartialEq, Eq)]
+pub enum Kind {
+    Admit,
+    Seat,
+    Retire,
+    Repack,
+    Withdraw,
+    Restore,
+}
+
+// A call, with its type and engine number where it has them.
 #[derive(Clone, Copy)]
 pub struct Call {
-    pub kind: usize,
+    pub kind: Kind,
     pub task: usize,
     pub engine: usize,
 }
@@ -36,117 +46,94 @@ pub fn fresh(y: System) -> Ledger {
     }
 }
 
-fn refused(l: Ledger, code: usize) -> Entry {
-    Entry {
-        code: code,
-        ledger: l,
-    }
+// An accepted call without a number, and the ledger after it.
+fn accepted(ledger: Ledger) -> Entry {
+    Entry { code: 0, ledger }
 }
 
 fn at(load: [usize; 8], i: usize) -> usize {
-    if i < 8 { load[i] } else { 0 }
+    load.get(i).copied().unwrap_or(0)
 }
 
 // The load with one more, or one less, of the type at index t.
-fn one_more(load: [usize; 8], t: usize) -> [usize; 8] {
-    let mut next = load;
-    if t < 8 {
-        next[t] = wrapping_add_usize(load[t], 1);
+fn one_more(mut load: [usize; 8], t: usize) -> [usize; 8] {
+    if let Some(count) = load.get_mut(t) {
+        *count = count.wrapping_add(1);
     }
-    next
+    load
 }
 
-fn one_less(load: [usize; 8], t: usize) -> [usize; 8] {
-    let mut next = load;
-    if t < 8 {
-        next[t] = wrapping_sub_usize(load[t], 1);
+fn one_less(mut load: [usize; 8], t: usize) -> [usize; 8] {
+    if let Some(count) = load.get_mut(t) {
+        *count = count.wrapping_sub(1);
     }
-    next
+    load
 }
 
 // What the engine at index e holds.
 fn load_at(l: Ledger, e: usize) -> [usize; 8] {
-    if 16 <= e {
-        return [0; 8];
-    }
-    let engine = l.loads[e];
-    let counts = engine.counts;
-    search::digits_of(counts)
+    l.loads
+        .get(e)
+        .map_or([0; 8], |engine| search::digits_of(engine.counts))
 }
 
-fn with_load(l: Ledger, e: usize, load: [usize; 8]) -> Ledger {
+fn with_load(mut l: Ledger, e: usize, load: [usize; 8]) -> Ledger {
     let y = l.system;
-    let mut next = l;
-    if e < 16 {
-        next.loads[e] = recovery::engine_of(y, load);
+    if let Some(engine) = l.loads.get_mut(e) {
+        *engine = recovery::engine_of(y, load);
     }
-    next
+    l
+}
+
+fn plus(mut a: [usize; 8], b: [usize; 8]) -> [usize; 8] {
+    for (sum, count) in a.iter_mut().zip(b) {
+        *sum = sum.wrapping_add(count);
+    }
+    a
 }
 
 // What stands: the sum over the engines.
 fn standing(l: Ledger) -> [usize; 8] {
-    let loads = l.loads;
-    [
-        recovery::instances(loads, 0),
-        recovery::instances(loads, 1),
-        recovery::instances(loads, 2),
-        recovery::instances(loads, 3),
-        recovery::instances(loads, 4),
-        recovery::instances(loads, 5),
-        0,
-        0,
-    ]
+    let mut sum = [0; 8];
+    for load in &l.loads {
+        let next = plus(sum, search::digits_of(load.counts));
+        sum = next;
+    }
+    sum
 }
 
 // Whether the engine at index e is marked.
 pub fn marked(l: Ledger, e: usize) -> bool {
-    if 16 <= e {
-        return false;
-    }
-    l.marks[e]
+    l.marks.get(e).copied().unwrap_or(false)
 }
 
 // Whether it is an engine of the system and in service.
 fn serves(l: Ledger, e: usize) -> bool {
-    let y = l.system;
-    (e < y.engines) & !marked(l, e)
+    (e < l.system.engines) & !marked(l, e)
 }
 
 // How many engines are in service.
 pub fn serving(l: Ledger) -> usize {
-    let mut number: usize = 0;
-    for e in 0..ENGINE_LIMIT {
-        if serves(l, e) {
-            number = wrapping_add_usize(number, 1);
-        }
-    }
-    number
+    (0..ENGINE_LIMIT).filter(|e| serves(l, *e)).count()
 }
 
 // The system with as many engines as are in service, which is what rows and assignments go by: which engines they are makes no difference
 // to them.
 pub fn in_service(l: Ledger) -> System {
-    let mut y = l.system;
-    y.engines = serving(l);
-    y
-}
-
-// A load of what was recovered, nothing past the last row.
-fn row_at(rows: [EngineLoad; ENGINE_LIMIT], row: usize) -> EngineLoad {
-    if 16 <= row {
-        return recovery::idle();
+    System {
+        engines: serving(l),
+        ..l.system
     }
-    rows[row]
 }
 
 // Each row on its engine: an engine in service gets the next row, a marked one nothing.
 fn on_engines(l: Ledger, rows: [EngineLoad; ENGINE_LIMIT]) -> [EngineLoad; ENGINE_LIMIT] {
     let mut loads = [recovery::idle(); ENGINE_LIMIT];
     let mut row: usize = 0;
-    for e in 0..ENGINE_LIMIT {
+    for (e, load) in loads.iter_mut().enumerate() {
         if serves(l, e) {
-            loads[e] = row_at(rows, row);
-            row = wrapping_add_usize(row, 1);
+            *load = rows.get(row).copied().unwrap_or(recovery::idle());
+            row = row.wrapping_add(1);
         }
     }
     loads
@@ -154,189 +141,143 @@ fn on_engines(l: Ledger, rows: [EngineLoad; ENGINE_LIMIT]) -> [EngineLoad; ENGIN
 
 // A good assignment of what stands and one more of the type at index t exists on the engines of y, whose types are the ledger's.
 fn room_on(y: System, l: Ledger, t: usize) -> bool {
-    search::fewest_on(y, one_more(standing(l), t), y.engines) <= y.engines
+    search::fewest_on(y, one_more(standing(l), t), y.engines).is_some()
 }
 
 // One would exist if no engine were marked.
 pub fn room_on_all(l: Ledger, task: usize) -> bool {
-    let y = l.system;
-    room_on(y, l, wrapping_sub_usize(task, 1))
+    room_on(l.system, l, task.wrapping_sub(1))
 }
 
 fn known(number: usize, last: usize) -> bool {
     (1 <= number) & (number <= last)
 }
 
-// What a newcomer is refused with before it is looked for an engine: 13, 11, 21, in this order; 0 for nothing.
-fn newcomer_refusal(l: Ledger, task: usize, long: bool) -> usize {
+// The index of a newcomer's type, or what it is refused with before it is looked for an engine: 13, 11, 21, in this order.
+fn newcomer(l: Ledger, task: usize, long: bool) -> Result<usize, usize> {
     let y = l.system;
     if !known(task, y.typecount) {
-        return 113;
+        return Err(113);
     }
     if !long {
-        return 111;
+        return Err(111);
     }
-    let t = wrapping_sub_usize(task, 1);
+    let t = task.wrapping_sub(1);
     let ceilings = search::digits_of(recovery::ceilings_of(y));
     if at(ceilings, t) <= at(standing(l), t) {
-        return 221;
+        return Err(221);
     }
-    0
+    Ok(t)
 }
 
-// The index of the first engine in service whose load with the newcomer fits, 16 where there is none.
-fn first_engine(l: Ledger, t: usize) -> usize {
-    let y = l.system;
+// The index of the first engine in service whose load with the newcomer fits.
+fn first_engine(l: Ledger, t: usize) -> Option<usize> {
     for e in 0..ENGINE_LIMIT {
-        if serves(l, e) {
-            if search::fits_one(y, one_more(load_at(l, e), t)) {
-                return e;
-            }
+        if serves(l, e) && search::fits_one(l.system, one_more(load_at(l, e), t)) {
+            return Some(e);
         }
     }
-    16
+    None
 }
 
-fn admit(l: Ledger, task: usize, long: bool) -> Entry {
-    let refusal = newcomer_refusal(l, task, long);
-    if refusal != 0 {
-        return refused(l, refusal);
-    }
-    let t = wrapping_sub_usize(task, 1);
-    let e = first_engine(l, t);
-    if e < 16 {
-        return Entry {
-            code: 1001 + e,
+fn admit(l: Ledger, task: usize, long: bool) -> Result<Entry, usize> {
+    let t = newcomer(l, task, long)?;
+    if let Some(e) = first_engine(l, t) {
+        return Ok(Entry {
+            code: e.wrapping_add(1001),
             ledger: with_load(l, e, one_more(load_at(l, e), t)),
-        };
+        });
     }
-    if room_on(in_service(l), l, t) {
-        return refused(l, 223);
-    }
-    refused(l, 224)
+    Err(if room_on(in_service(l), l, t) {
+        223
+    } else {
+        224
+    })
 }
 
 // The counts become the recovery of a load, where a good assignment of it exists.
-fn recovered(l: Ledger, load: [usize; 8]) -> Entry {
-    let r = recovery::recovered(in_service(l), recovery::counts_of(load));
-    if !r.feasible {
-        return refused(l, 224);
-    }
-    let y = l.system;
-    let rows = r.loads;
-    let loads = on_engines(l, rows);
-    let marks = l.marks;
-    Entry {
-        code: 0,
-        ledger: Ledger {
-            system: y,
-            loads: loads,
-            marks: marks,
-        },
-    }
+fn recovered(l: Ledger, load: [usize; 8]) -> Result<Entry, usize> {
+    let r = recovery::recovered(in_service(l), recovery::counts_of(load)).ok_or(224usize)?;
+    Ok(accepted(Ledger {
+        loads: on_engines(l, r.loads),
+        ..l
+    }))
 }
 
-fn seat(l: Ledger, task: usize, long: bool) -> Entry {
-    let refusal = newcomer_refusal(l, task, long);
-    if refusal != 0 {
-        return refused(l, refusal);
-    }
-    recovered(l, one_more(standing(l), wrapping_sub_usize(task, 1)))
+fn seat(l: Ledger, task: usize, long: bool) -> Result<Entry, usize> {
+    let t = newcomer(l, task, long)?;
+    recovered(l, one_more(standing(l), t))
 }
 
-fn retire(l: Ledger, task: usize, engine: usize) -> Entry {
-    let y = l.system;
-    if !known(task, y.typecount) {
-        return refused(l, 113);
+// The index of an engine of the system, or that there is none.
+fn engine_at(l: Ledger, engine: usize) -> Result<usize, usize> {
+    if !known(engine, l.system.engines) {
+        return Err(114);
     }
-    if !known(engine, y.engines) {
-        return refused(l, 114);
+    Ok(engine.wrapping_sub(1))
+}
+
+fn retire(l: Ledger, task: usize, engine: usize) -> Result<Entry, usize> {
+    if !known(task, l.system.typecount) {
+        return Err(113);
     }
-    let t = wrapping_sub_usize(task, 1);
-    let e = wrapping_sub_usize(engine, 1);
+    let e = engine_at(l, engine)?;
+    let t = task.wrapping_sub(1);
     let load = load_at(l, e);
     if at(load, t) == 0 {
-        return refused(l, 222);
+        return Err(222);
     }
-    Entry {
-        code: 0,
-        ledger: with_load(l, e, one_less(load, t)),
-    }
+    Ok(accepted(with_load(l, e, one_less(load, t))))
 }
 
-fn repack(l: Ledger, long: bool) -> Entry {
+fn repack(l: Ledger, long: bool) -> Result<Entry, usize> {
     if !long {
-        return refused(l, 111);
+        return Err(111);
     }
     recovered(l, standing(l))
 }
 
 // The ledger with the engine at index e marked, or not.
-fn with_mark(l: Ledger, e: usize, mark: bool) -> Entry {
-    let mut next = l;
-    if e < 16 {
-        next.marks[e] = mark;
+fn with_mark(mut l: Ledger, e: usize, mark: bool) -> Ledger {
+    if let Some(old) = l.marks.get_mut(e) {
+        *old = mark;
     }
-    Entry {
-        code: 0,
-        ledger: next,
-    }
+    l
 }
 
 // Whether the engine at index e holds an instance.
 pub fn holds(l: Ledger, e: usize) -> bool {
-    let load = load_at(l, e);
-    (load[0] != 0)
-        | (load[1] != 0)
-        | (load[2] != 0)
-        | (load[3] != 0)
-        | (load[4] != 0)
-        | (load[5] != 0)
+    load_at(l, e) != [0; 8]
 }
 
-fn withdraw(l: Ledger, engine: usize) -> Entry {
-    let y = l.system;
-    if !known(engine, y.engines) {
-        return refused(l, 114);
-    }
-    let e = wrapping_sub_usize(engine, 1);
+fn withdraw(l: Ledger, engine: usize) -> Result<Entry, usize> {
+    let e = engine_at(l, engine)?;
     if marked(l, e) {
-        return refused(l, 236);
+        return Err(236);
     }
     if holds(l, e) {
-        return refused(l, 235);
+        return Err(235);
     }
-    with_mark(l, e, true)
+    Ok(accepted(with_mark(l, e, true)))
 }
 
-fn restore(l: Ledger, engine: usize) -> Entry {
-    let y = l.system;
-    if !known(engine, y.engines) {
-        return refused(l, 114);
-    }
-    let e = wrapping_sub_usize(engine, 1);
+fn restore(l: Ledger, engine: usize) -> Result<Entry, usize> {
+    let e = engine_at(l, engine)?;
     if !marked(l, e) {
-        return refused(l, 236);
+        return Err(236);
     }
-    with_mark(l, e, false)
+    Ok(accepted(with_mark(l, e, false)))
 }
 
-// The entry of a call.
+// The entry of a call: one that is refused leaves the ledger.
 pub fn entered(l: Ledger, c: Call, long: bool) -> Entry {
-    if c.kind == 0 {
-        return admit(l, c.task, long);
-    }
-    if c.kind == 1 {
-        return seat(l, c.task, long);
-    }
-    if c.kind == 2 {
-        return retire(l, c.task, c.engine);
-    }
-    if c.kind == 3 {
-        return repack(l, long);
-    }
-    if c.kind == 4 {
-        return withdraw(l, c.engine);
-    }
-    restore(l, c.engine)
+    let entry = match c.kind {
+        Kind::Admit => admit(l, c.task, long),
+        Kind::Seat => seat(l, c.task, long),
+        Kind::Retire => retire(l, c.task, c.engine),
+        Kind::Repack => repack(l, long),
+        Kind::Withdraw => withdraw(l, c.engine),
+        Kind::Restore => restore(l, c.engine),
+    };
+    entry.unwrap_or_else(|code| Entry { code, ledger: l })
 }

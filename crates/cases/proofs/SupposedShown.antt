@@ -1,10 +1,11 @@
 -- What statements suppose of two loads and of two releases holds of every system and any counts.
+use Rattle.std.proofs.Common.{Option}
+use Rattle.system.specs.declared.Cycle.{Cycle}
 use Prim.Native.Nat.{ℕ, zero, suc, ◌+◌, ◌-◌, ◌≤◌, ◌<◌}
 use mathlib.Core.List.{List, [], ◌∷◌}
 use mathlib.Core.Path.{◌≡◌, refl, sym, ap, subst, ◌∙◌}
 use native.Mathlib.Omega.{arith}
 use lib.ListN.{length, get_or}
-use Rattle.system.specs.declared.Pace.{Pace}
 use Rattle.system.specs.declared.TaskType.{TaskType}
 use Rattle.system.specs.declared.System.{System}
 use Rattle.loads.specs.Load.{plus}
@@ -30,9 +31,9 @@ module _ (y : System) (a b : List ℕ) where
 
 -- intermediate: type by type
 
-module _ (n : ℕ → ℕ) (pace : ℕ → Pace) where
+module _ (n : ℕ → ℕ) (pace : ℕ → Option Cycle) where
   -- what is said of a type without its n, C and T is as it was
-  kept_at : {A : Type 0} (f : TaskType → A) → ((t : TaskType) (c : ℕ) (p : Pace) → f (type_released t c p) ≡ f t) → (i : ℕ) (ts : List TaskType) (j : ℕ) → f (get_or (types_released n pace i ts) j no_type) ≡ f (get_or ts j no_type)
+  kept_at : {A : Type 0} (f : TaskType → A) → ((t : TaskType) (c : ℕ) (p : Option Cycle) → f (type_released t c p) ≡ f t) → (i : ℕ) (ts : List TaskType) (j : ℕ) → f (get_or (types_released n pace i ts) j no_type) ≡ f (get_or ts j no_type)
   unfolding types_released
   kept_at f same i [] j = refl
   kept_at f same i (t ∷ ts) zero = same t (n (suc i)) (pace (suc i))
@@ -49,7 +50,7 @@ module _ (n : ℕ → ℕ) (pace : ℕ → Pace) where
       let rest = given-at (suc i) ts j (omega arith) in
       (rest.0 ∙ ap n same, rest.1 ∙ ap pace same)
 
-sums_at : (n m : ℕ → ℕ) (p q r : ℕ → Pace) (i : ℕ) (ts : List TaskType) (j : ℕ)
+sums_at : (n m : ℕ → ℕ) (p q r : ℕ → Option Cycle) (i : ℕ) (ts : List TaskType) (j : ℕ)
     → (get_or (types_released (λ (t : ℕ). n t + m t) r i ts) j no_type).ceiling ≡ (get_or (types_released n p i ts) j no_type).ceiling + (get_or (types_released m q i ts) j no_type).ceiling
 unfolding types_released
 sums_at n m p q r i [] j = refl
@@ -60,7 +61,7 @@ sums_at n m p q r i (t ∷ ts) (suc j) = sums_at n m p q r (suc i) ts j
 
 module _ (y : System) where
   -- two releases of one card differ in their n, and in their C and T
-  alike : (n m : ℕ → ℕ) (p q : ℕ → Pace) → SameButCeilings (released y n p) (released y m q)
+  alike : (n m : ℕ → ℕ) (p q : ℕ → Option Cycle) → SameButCeilings (released y n p) (released y m q)
   alike n m p q = record {
     engines = refl;
     rule = refl;
@@ -75,7 +76,7 @@ module _ (y : System) where
     second = refl;
   }
     where
-      same : {A : Type 0} (f : TaskType → A) → ((x : TaskType) (c : ℕ) (z : Pace) → f (type_released x c z) ≡ f x) → (t : ℕ) → f (get_or (types_released m q 0 y.types) (t - 1) no_type) ≡ f (get_or (types_released n p 0 y.types) (t - 1) no_type)
+      same : {A : Type 0} (f : TaskType → A) → ((x : TaskType) (c : ℕ) (z : Option Cycle) → f (type_released x c z) ≡ f x) → (t : ℕ) → f (get_or (types_released m q 0 y.types) (t - 1) no_type) ≡ f (get_or (types_released n p 0 y.types) (t - 1) no_type)
       same f h t = kept_at m q f h 0 y.types (t - 1) ∙ sym (kept_at n p f h 0 y.types (t - 1))
 
   pub releases-given : ReleasesGiven y

@@ -1,4 +1,6 @@
 -- Worked files through the theorems of every file: each file is read by computation, and what is said of it comes from the theorem.
+use Rattle.std.proofs.Common.{Option, None, Some}
+use Rattle.system.specs.declared.Cycle.{Cycle}
 use Prim.Native.Nat.{ℕ, zero, suc, ◌+◌, ◌≤◌}
 use mathlib.Core.List.{List, [], ◌∷◌, ◌++◌, map, head-eq_of_cons-eq, tail-eq_of_cons-eq, nil≢cons}
 use mathlib.Core.Bool.{true}
@@ -8,17 +10,12 @@ use borrow.Author.Tests.{le-leb, ltb-true}
 use lib.ListN.{length, get_or}
 use lib.Seq.{get_or-set_other}
 use lib.Dec.{ltb, lit<, lit≤}
-use Rattle.system.specs.declared.Pace.{Pace}
-use Rattle.system.specs.declared.Pace.TheVariants.{Unpaced}
-use Rattle.system.specs.declared.Second.{Second}
-use Rattle.system.specs.declared.Second.TheVariants.{OneKind, TwoKinds}
 use Rattle.system.specs.declared.Kind.{Kind}
 use Rattle.system.specs.declared.System.{System}
-use Rattle.system.specs.declared.Answer.{Answer}
+use Rattle.system.specs.Outcome.{Answer, Outcome, accepted, refused, from_input, outcome_of}
 use Rattle.system.specs.Limits.{paces_fault, columns_of, kinds_agree, types_keep, keeps_card, keeps_limits}
 use Rattle.system.specs.Layout.{Reading, opened, unread, rule_of, platform_from, type_from, data_from, second_from, costs_from, ruled_head, head_of, body_of, ruled_field, field_of, end_of, fields_from, read_card, of_one_kind, read_file, read_system}
 use Rattle.system.specs.Card.{card_of, plain}
-use Rattle.system.specs.Outcome.{Outcome, accepted, refused, from_input, outcome_of}
 use Rattle.system.proofs.Laws.{card-file}
 use Rattle.system.proofs.Cards.{card-is}
 use Rattle.loads.specs.Load.{sum_over, apart, fits_engine, holds_none, within, plus, less}
@@ -110,7 +107,7 @@ w6-by-01 = refused-01 (file_b 3 0) refl (lit≤ tt, lit≤ tt) (lit≤ tt) refl
 
 module _ (own_file shared_file : List ℕ) (own_table shared_table own_after shared_after : Lent) (own shared : Plan) (a : ℕ) (y z : System) where
   -- of one kind of engine, and of two: which it is, the first file says
-  one-shares : read_card own_file ≡ opened y → read_card shared_file ≡ opened z → SameButRule y z → y.second ≡ OneKind → LongEnough y own_table → LongEnough z shared_table
+  one-shares : read_card own_file ≡ opened y → read_card shared_file ≡ opened z → SameButRule y z → y.second ≡ None → LongEnough y own_table → LongEnough z shared_table
       → PlanCall (card_of (read_card own_file)) own_table 16 own own_after → PlanCall (card_of (read_card shared_file)) shared_table 16 shared shared_after
       → outcome_of own.answer ≡ accepted (a ∷ []) → (c : ℕ) × (outcome_of shared.answer ≡ accepted (c ∷ [])) × (c ≤ a)
   one-shares reads reads_too alike one long long_too p q is =
@@ -121,7 +118,7 @@ module _ (own_file shared_file : List ℕ) (own_table shared_table own_after sha
       let second = q.one_kind (read_file shared_file) (card-is.one_kind (read_card shared_file) z reads_too one_too ∙ ap plain (sym g)) in
       plans-share own_file shared_file y z (outcome_of own.answer) (outcome_of shared.answer) (asked_of own_file own_table own_after y own f long first) (asked_of shared_file shared_table shared_after z shared g long_too second) a alike is
 
-  two-share : (k : Kind) → read_card own_file ≡ opened y → read_card shared_file ≡ opened z → SameButRule y z → y.second ≡ TwoKinds k → LongEnough y own_table → LongEnough z shared_table
+  two-share : (k : Kind) → read_card own_file ≡ opened y → read_card shared_file ≡ opened z → SameButRule y z → y.second ≡ Some k → LongEnough y own_table → LongEnough z shared_table
       → PlanCall (card_of (read_card own_file)) own_table 16 own own_after → PlanCall (card_of (read_card shared_file)) shared_table 16 shared shared_after
       → outcome_of own.answer ≡ accepted (a ∷ []) → (c : ℕ) × (outcome_of shared.answer ≡ accepted (c ∷ [])) × (c ≤ a)
   two-share k reads reads_too alike two long long_too p q is =
@@ -134,11 +131,11 @@ module _ (own_file shared_file : List ℕ) (own_table shared_table own_after sha
 pub shares-in-bytes : (own_file shared_file : List ℕ) → IsBytes own_file → IsBytes shared_file → RuleApart own_file shared_file → SharesInBytes own_file shared_file
 shares-in-bytes own_file shared_file bytes bytes_too apart own_table shared_table own_after shared_after own shared a long long_too p q is = at (read_card own_file) refl
   where
-    kinds : (y : System) (s : Second) → read_card own_file ≡ opened y → y.second ≡ s → (c : ℕ) × (outcome_of shared.answer ≡ accepted (c ∷ [])) × (c ≤ a)
-    kinds y OneKind e k =
+    kinds : (y : System) (s : Option Kind) → read_card own_file ≡ opened y → y.second ≡ s → (c : ℕ) × (outcome_of shared.answer ≡ accepted (c ∷ [])) × (c ≤ a)
+    kinds y None e k =
         let other = (cards-apart own_file shared_file bytes bytes_too apart).reads y e in
         one-shares own_file shared_file own_table shared_table own_after shared_after own shared a y other.0 e other.1 other.2 k (long y e) (long_too other.0 other.1) p q is
-    kinds y (TwoKinds j) e k =
+    kinds y (Some j) e k =
         let other = (cards-apart own_file shared_file bytes bytes_too apart).reads y e in
         two-share own_file shared_file own_table shared_table own_after shared_after own shared a y other.0 j e other.1 other.2 k (long y e) (long_too other.0 other.1) p q is
 
@@ -197,8 +194,8 @@ adds-in-bytes f1 f2 f3 y n m p q r t1 t2 t3 after1 after2 after3 first second bo
 abbrev two_counts : ℕ → ℕ → ℕ → ℕ
 two_counts a b t = get_or (0 ∷ a ∷ b ∷ []) t 0
 
-abbrev unpaced : ℕ → Pace
-unpaced t = Unpaced
+abbrev unpaced : ℕ → Option Cycle
+unpaced t = None
 
 abbrev released_a : (ℕ → ℕ) → System
 released_a n = released (system_of (file_a 3 3 2)) n unpaced

@@ -3,10 +3,9 @@
 -- what a table held changes no plan, and requests 2026-09 and 2026-13 of every file.
 use Rattle.std.specs.Prelude.{ℕ, ◌≤◌, ◌<◌, List, Bool, false, ◌≡◌, ◌↔◌, get_or}
 use Rattle.system.specs.declared.System.{System}
-use Rattle.system.specs.declared.Answer.{Answer}
+use Rattle.system.specs.Outcome.{Answer, outcome_of}
 use Rattle.system.specs.Layout.{read_card, read_file, opened}
 use Rattle.system.specs.Card.{card_of}
-use Rattle.system.specs.Outcome.{outcome_of}
 use Rattle.partition.specs.Lent.{Lent}
 use Rattle.partition.specs.Plain.{type_no, LongEnough, LimitsOut, CardOut}
 use Rattle.writer.specs.Meaning.{file_with, file_out, Given, GivenOneKind, ReplicasFit}

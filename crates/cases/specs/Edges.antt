@@ -2,11 +2,10 @@
 -- the number that 01 writes,
 -- and the same of tag 3 (request 2026-03), tag 4 (2026-04), tags 6 and 7 (2026-13), and tag 5 (2026-14). One kind of engine is wanted of each file; the same
 -- table says what it comes to as a card of one kind or two.
-use Rattle.std.specs.Prelude.{ℕ, zero, suc, ◌/◌, ◌%◌, List, [], ◌∷◌, ◌++◌, map, cond, ◌≡◌, replicate, eqb}
-use Rattle.system.specs.declared.Most.{Most}
-use Rattle.system.specs.declared.Pace.{Pace}
-use Rattle.system.specs.declared.There.{There}
-use Rattle.system.specs.declared.Second.{Second}
+use Rattle.std.specs.Prelude.{ℕ, zero, suc, ◌/◌, ◌%◌, List, [], ◌∷◌, ◌++◌, map, cond, ◌≡◌, replicate, eqb, Option}
+use Rattle.system.specs.declared.Kind.{Kind}
+use Rattle.system.specs.declared.Costs.{Costs}
+use Rattle.system.specs.declared.Cycle.{Cycle}
 use Rattle.system.specs.declared.TaskType.{TaskType}
 use Rattle.system.specs.Layout.{read_card, read_file, read_outcome, read_system}
 use Rattle.system.specs.Outcome.{Outcome, accepted, refused, from_input}
@@ -315,16 +314,16 @@ abbrev pub DataRead : List ℕ → List ℕ → Type 0
 DataRead file ds = map (λ (t : TaskType). t.data) (read_system (read_file file)).types ≡ ds
 
 -- and these q, none past k
-abbrev pub MostRead : List ℕ → List Most → Type 0
+abbrev pub MostRead : List ℕ → List (Option ℕ) → Type 0
 MostRead file qs = map (λ (t : TaskType). t.most) (read_system (read_file file)).types ≡ qs
 
 -- and these C and T, none past k
-abbrev pub PaceRead : List ℕ → List Pace → Type 0
+abbrev pub PaceRead : List ℕ → List (Option Cycle) → Type 0
 PaceRead file paces = map (λ (t : TaskType). t.pace) (read_system (read_file file)).types ≡ paces
 
 -- the card has this second kind, and its types these u and s there, none past k
-abbrev pub SecondRead : List ℕ → Second → Type 0
+abbrev pub SecondRead : List ℕ → Option Kind → Type 0
 SecondRead file second = (read_system (read_card file)).second ≡ second
 
-abbrev pub ThereRead : List ℕ → List There → Type 0
+abbrev pub ThereRead : List ℕ → List (Option Costs) → Type 0
 ThereRead file costs = map (λ (t : TaskType). t.there) (read_system (read_card file)).types ≡ costs

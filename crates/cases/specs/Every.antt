@@ -6,9 +6,8 @@
 -- writer), and `Fewest`, `LongEnough`, `IsTrue`, `FilledMeans`, plain words themselves.
 use Rattle.std.specs.Prelude.{ℕ, ◌+◌, ◌-◌, ◌*◌, ◌≤◌, ◌<◌, List, [], ◌∷◌, true, ◌≡◌, ◌↔◌, ◌⊎◌, length, get_or}
 use Rattle.system.specs.declared.System.{System}
-use Rattle.system.specs.declared.Answer.{Answer}
+use Rattle.system.specs.Outcome.{Answer, Outcome, accepted, refused, from_input, from_state, outcome_of}
 use Rattle.system.specs.Layout.{read_file, opened}
-use Rattle.system.specs.Outcome.{Outcome, accepted, refused, from_input, from_state, outcome_of}
 use Rattle.partition.specs.Assignment.{Assignment, among}
 use Rattle.partition.specs.OwnWords.{no_type}
 use Rattle.partition.specs.ForSystem.{row_for}

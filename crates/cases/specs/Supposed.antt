@@ -1,7 +1,7 @@
 -- What statements suppose of loads and of systems (partition/specs/Releases), given in plain numbers, of every system and any counts: so that no supposition
 -- is narrower than its words.
-use Rattle.std.specs.Prelude.{ℕ, suc, ◌+◌, ◌≤◌, List, [], ◌∷◌, ◌≡◌, length, get_or}
-use Rattle.system.specs.declared.Pace.{Pace}
+use Rattle.std.specs.Prelude.{ℕ, suc, ◌+◌, ◌≤◌, List, [], ◌∷◌, ◌≡◌, length, get_or, Option}
+use Rattle.system.specs.declared.Cycle.{Cycle}
 use Rattle.system.specs.declared.TaskType.{TaskType}
 use Rattle.system.specs.declared.System.{System}
 use Rattle.partition.specs.OwnWords.{no_type}
@@ -21,16 +21,16 @@ pub record SumsGiven (y : System) (a b : List ℕ) : Type 0 where
 -- Two releases
 
 -- a type with another n, and another C and T
-abbrev pub type_released : TaskType → ℕ → Pace → TaskType
+abbrev pub type_released : TaskType → ℕ → Option Cycle → TaskType
 type_released t n pace = record { time = t.time; memory = t.memory; ceiling = n; «data» = t.data; most = t.most; pace = pace; there = t.there }
 
 -- the types after type i, each with the n and the C and T of its number
-unfoldable pub types_released : (ℕ → ℕ) → (ℕ → Pace) → ℕ → List TaskType → List TaskType
+unfoldable pub types_released : (ℕ → ℕ) → (ℕ → Option Cycle) → ℕ → List TaskType → List TaskType
 types_released n pace i [] = []
 types_released n pace i (t ∷ ts) = type_released t (n (suc i)) (pace (suc i)) ∷ types_released n pace (suc i) ts
 
 -- the system of a release: n(t) instances of type t, with this C and T
-abbrev pub released : System → (ℕ → ℕ) → (ℕ → Pace) → System
+abbrev pub released : System → (ℕ → ℕ) → (ℕ → Option Cycle) → System
 released y n pace =
     record {
       engines = y.engines;
@@ -44,6 +44,6 @@ released y n pace =
 
 -- of one card, any two releases and both: n of both is the sum, and C and T are whatever they are in each
 pub record ReleasesGiven (y : System) : Type 0 where
-  pub counts : (n : ℕ → ℕ) (pace : ℕ → Pace) (t : ℕ) → 1 ≤ t → t ≤ length y.types
+  pub counts : (n : ℕ → ℕ) (pace : ℕ → Option Cycle) (t : ℕ) → 1 ≤ t → t ≤ length y.types
       → ((type_no (released y n pace) t).ceiling ≡ n t) × ((type_no (released y n pace) t).pace ≡ pace t)
-  pub both : (n m : ℕ → ℕ) (p q r : ℕ → Pace) → BothReleases (released y n p) (released y m q) (released y (λ (t : ℕ). n t + m t) r)
+  pub both : (n m : ℕ → ℕ) (p q r : ℕ → Option Cycle) → BothReleases (released y n p) (released y m q) (released y (λ (t : ℕ). n t + m t) r)

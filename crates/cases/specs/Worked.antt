@@ -3,13 +3,12 @@
 -- and a list of calls as the code makes them (demand 3). `plan-by-01` and `list-by-01` of planner and `demand3-runs` of ledger go through the files that
 -- stand here, and would be refused if they asked for more than these have;
 -- `plans-add`, `plans-share` and `mixed-plans-share` of planner and `cards-apart` of writer go through any files. What other theorems ask, Every says.
-use Rattle.std.specs.Prelude.{ℕ, ◌+◌, ◌-◌, ◌≤◌, List, [], ◌∷◌, ◌++◌, map, ◌≡◌, length, get_or}
-use Rattle.system.specs.declared.Pace.{Pace}
+use Rattle.std.specs.Prelude.{ℕ, ◌+◌, ◌-◌, ◌≤◌, List, [], ◌∷◌, ◌++◌, map, ◌≡◌, length, get_or, Option}
+use Rattle.system.specs.declared.Cycle.{Cycle}
 use Rattle.system.specs.declared.System.{System}
-use Rattle.system.specs.declared.Answer.{Answer}
+use Rattle.system.specs.Outcome.{Answer, Outcome, accepted, refused, from_input, outcome_of}
 use Rattle.system.specs.Layout.{read_card, read_file, opened}
 use Rattle.system.specs.Card.{card_of}
-use Rattle.system.specs.Outcome.{Outcome, accepted, refused, from_input, outcome_of}
 use Rattle.partition.specs.Lent.{Lent}
 use Rattle.partition.specs.Plain.{ceiling_no, LongEnough, record_no}
 use Rattle.table.specs.Document01.{filled01, NoRow01, Recovered01}
@@ -79,7 +78,7 @@ KindsShare =
 -- promises of each, with tables long enough
 abbrev pub AddsInBytes : List ℕ → List ℕ → List ℕ → Type 0
 AddsInBytes first_file second_file both_file =
-    (y : System) (n m : ℕ → ℕ) (p q r : ℕ → Pace) (t1 t2 t3 after1 after2 after3 : Lent) (first second both : Plan) (a b : ℕ)
+    (y : System) (n m : ℕ → ℕ) (p q r : ℕ → Option Cycle) (t1 t2 t3 after1 after2 after3 : Lent) (first second both : Plan) (a b : ℕ)
     → read_file first_file ≡ opened (released y n p) → read_file second_file ≡ opened (released y m q) → read_file both_file ≡ opened (released y (λ (t : ℕ). n t + m t) r)
     → LongEnough (released y n p) t1 → LongEnough (released y m q) t2 → LongEnough (released y (λ (t : ℕ). n t + m t) r) t3
     → PlanPromises (read_file first_file) t1 16 first after1 → PlanPromises (read_file second_file) t2 16 second after2 → PlanPromises (read_file both_file) t3 16 both after3

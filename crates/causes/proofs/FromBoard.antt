@@ -1,5 +1,6 @@
 -- The call from a board: what it promises, from what it answers and leaves by definition, and one law for each way in which it ends.
 -- Its checks are a seat's, so that the order of its refusals is that of a seat.
+use Rattle.std.proofs.Common.{Ok, Err}
 use Prim.Native.Nat.{ℕ, ◌+◌, ◌-◌, ◌≤◌}
 use mathlib.Core.Path.{◌≡◌, refl, sym, ap, subst, ◌∙◌}
 use mathlib.Core.List.{List, [], ◌∷◌}
@@ -45,9 +46,7 @@ use Rattle.board.proofs.Order.{seat-in-order}
 use Rattle.board.proofs.Ready.{true-keeps, newcomer-range, newcomer-within}
 use Rattle.board.proofs.Promises.{only_one}
 use Rattle.causes.specs.declared.Cause.{Cause}
-use Rattle.causes.specs.declared.CauseAnswer.{CauseAnswer}
-use Rattle.causes.specs.declared.CauseAnswer.TheVariants.{Because, Refused}
-use Rattle.causes.specs.Causes.{told, cause_outcome_of, cause_of, cause_on, room_cause, room_cause_table}
+use Rattle.causes.specs.Causes.{CauseAnswer, told, cause_outcome_of, cause_of, cause_on, room_cause, room_cause_table}
 use Rattle.causes.specs.Meaning.{CauseMeans, RoomCausePromises}
 use Rattle.causes.proofs.Means.{cause-means}
 use Rattle.causes.proofs.FromFile.{not-refused, found-placed}
@@ -196,12 +195,12 @@ module _ (b : Board) (t : ℕ) (table : Lent) where
 
   -- main: the ways in which the call ends
 
-  pub checks-give : (why : Refusal) → fails_with why ≡ check_newcomer b t (length table.rows) (length table.predecessors) → GivesRoom b t table (Refused why) table
+  pub checks-give : (why : Refusal) → fails_with why ≡ check_newcomer b t (length table.rows) (length table.predecessors) → GivesRoom b t table (Err why) table
   checks-give (Input n) failed = record { answer = rw (← failed); left = rw (← failed) }
   checks-give (State n) failed = record { answer = rw (← failed); left = rw (← failed) }
 
   pub cause-gives : passes ≡ check_newcomer b t (length table.rows) (length table.predecessors) → (c : Cause) → c ≡ cause_on b.system (engines_of b) (with_newcomer b t) → (after : Lent) → after ≡ filled b.system (engines_of b) table
-      → GivesRoom b t table (Because c) after
+      → GivesRoom b t table (Ok c) after
   cause-gives ok c same after full = record { answer = rw (← ok, same); left = rw (← ok) full }
 
 -- what the code hands out as the cause

@@ -1,4 +1,5 @@
 -- The call from a file: what it promises, from what it answers and leaves by definition, and one law for each way in which it ends.
+use Rattle.std.proofs.Common.{Ok, Err}
 use Prim.Native.Nat.{ℕ, ◌≤◌}
 use mathlib.Core.Path.{◌≡◌, refl, sym, ap, subst, ◌∙◌}
 use mathlib.Core.List.{List, [], ◌∷◌}
@@ -9,7 +10,6 @@ use Rattle.system.specs.declared.System.{System}
 use Rattle.system.specs.declared.Opened.{Opened}
 use Rattle.system.specs.declared.Refusal.{Refusal}
 use Rattle.system.specs.declared.Refusal.TheVariants.{Input, State}
-use Rattle.system.specs.declared.Answer.TheVariants.{Refused as Declined}
 use Rattle.system.specs.Values.{ceilings_of}
 use Rattle.system.specs.Layout.{Reading, read_file, opened, unread, Reads}
 use Rattle.system.specs.Outcome.{Outcome, Source, accepted, refused, from_input, passes, check, unless_fails, fails_with}
@@ -30,9 +30,7 @@ use Rattle.planner.specs.Demands.{Decides}
 use Rattle.planner.proofs.Demands.{plan-decides}
 use Rattle.planner.proofs.Cases.{long-out, long-back, short-out, not_short, plan-fills}
 use Rattle.causes.specs.declared.Cause.{Cause}
-use Rattle.causes.specs.declared.CauseAnswer.{CauseAnswer}
-use Rattle.causes.specs.declared.CauseAnswer.TheVariants.{Because, Refused}
-use Rattle.causes.specs.Causes.{told, cause_outcome_of, cause_of, cause_on, plan_cause, plan_cause_table}
+use Rattle.causes.specs.Causes.{CauseAnswer, told, cause_outcome_of, cause_of, cause_on, plan_cause, plan_cause_table}
 use Rattle.causes.specs.Meaning.{CauseMeans, PlanCausePromises}
 use Rattle.causes.proofs.Means.{cause-means}
 
@@ -135,7 +133,7 @@ promises-of file table r after g = record {
 
 -- a file that was refused
 
-pub unread-gives : (x : Reading) (r : Opened) → Reads x r → (why : Refusal) → r.answer ≡ Declined why → (table : Lent) → Gives x table (Refused why) table
+pub unread-gives : (x : Reading) (r : Opened) → Reads x r → (why : Refusal) → r.answer ≡ Err why → (table : Lent) → Gives x table (Err why) table
 unread-gives x r reads why is table =
     let (n, same, says) = unread-with x r reads why is in
     rw same (record { answer = says; left = refl })
@@ -144,13 +142,13 @@ unread-gives x r reads why is table =
 
 module _ (x : Reading) (y : System) (is : x ≡ opened y) (table : Lent) where
   -- 11
-  pub lent_gives : (why : Refusal) → fails_with why ≡ table_check y table → Gives x table (Refused why) table
+  pub lent_gives : (why : Refusal) → fails_with why ≡ table_check y table → Gives x table (Err why) table
   lent_gives (Input n) failed = record { answer = rw (is, ← failed); left = rw (is, ← failed) }
   lent_gives (State n) failed = record { answer = rw (is, ← failed); left = rw (is, ← failed) }
 
   -- the cause
   pub cause-gives : passes ≡ table_check y table → (c : Cause) → c ≡ cause_on y (engines_to y.engines) (ceilings_of y)
-      → (after : Lent) → after ≡ filled y (engines_to y.engines) table → Gives x table (Because c) after
+      → (after : Lent) → after ≡ filled y (engines_to y.engines) table → Gives x table (Ok c) after
   cause-gives passed c same after full = record { answer = rw (is, ← passed, same); left = rw (is, ← passed) full }
 
 -- what the code hands out as the cause

@@ -1,5 +1,6 @@
 -- The five theorems: each of the causes 1 to 5 leaves no good assignment, of any system and load and whatever the engines are, so long as there are r of them.
 -- The argument: every instance is on one of the r engines, so that all engines together hold no less than the whole load, and each of them no more than it may.
+use Rattle.std.proofs.Common.{Some}
 use Prim.Native.Nat.{ℕ, zero, suc, ◌+◌, ◌-◌, ◌*◌, ◌≤◌, ◌<◌, zero-le, suc-le-suc}
 use mathlib.Core.Path.{◌≡◌, refl, sym, ap, subst, ◌∙◌}
 use mathlib.Core.List.{List, [], ◌∷◌}
@@ -10,7 +11,6 @@ use native.Mathlib.Omega.{arith}
 use borrow.Author.Tests.{eqb-true, eq-eqb}
 use lib.ListN.{length, get_or, get_or-eq_default}
 use lib.Dec.{eqb, eqb-suc-zero}
-use Rattle.system.specs.declared.Most.TheVariants.{AtMost}
 use Rattle.system.specs.declared.TaskType.{TaskType}
 use Rattle.system.specs.declared.System.{System}
 use Rattle.partition.specs.Assignment.{Assignment, among}
@@ -243,7 +243,7 @@ module _ (y : System) (E : ℕ → Type 0) (r : ℕ) (count : ℕ → ℕ) (n : 
       go true m = refl
       go false m = omega (arith, mul-zero m)
 
-  count-within : (t q : ℕ) → 1 ≤ t → (type_no y t).most ≡ AtMost q → count t ≤ q * r
+  count-within : (t q : ℕ) → 1 ≤ t → (type_no y t).most ≡ Some q → count t ≤ q * r
   count-within t q low given =
       omega (
         arith,

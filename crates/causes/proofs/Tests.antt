@@ -1,4 +1,5 @@
 -- Each test of the code says its cause's fact in plain words, of a system within the limits and a load of six counts within its ceilings.
+use Rattle.std.proofs.Common.{Option, None, Some}
 use Prim.Native.Nat.{ℕ, zero, suc, ◌+◌, ◌-◌, ◌*◌, ◌≤◌, ◌<◌}
 use mathlib.Core.Path.{◌≡◌, refl, sym, ap, subst, ◌∙◌}
 use mathlib.Core.List.{List, [], ◌∷◌}
@@ -9,8 +10,6 @@ use native.Mathlib.Omega.{arith}
 use borrow.Author.Tests.{leb-true, leb-false, le-leb, ltb-true, lt-ltb, eqb-true, eqb-false, eq-eqb, not-true}
 use lib.ListN.{length, get_or}
 use lib.Dec.{leb, eqb}
-use Rattle.system.specs.declared.Most.{Most}
-use Rattle.system.specs.declared.Most.TheVariants.{NotGiven, AtMost}
 use Rattle.system.specs.declared.TaskType.{TaskType}
 use Rattle.system.specs.declared.System.{System}
 use Rattle.system.specs.Values.{no_task, ceilings_of}
@@ -50,14 +49,14 @@ lowest-from p none (suc f) a b h l u =
 
 -- q of one type, and of some type of a list
 
-over-out : (r : ℕ) (m : Most) (x : ℕ) → over_most r m x ≡ true → (q : ℕ) × (m ≡ AtMost q) × (q * r < x)
-over-out r NotGiven x h = absurd (false≢true h)
-over-out r (AtMost q) x h = (q, refl, ltb-true (q * r) x h)
+over-out : (r : ℕ) (m : Option ℕ) (x : ℕ) → over_most r m x ≡ true → (q : ℕ) × (m ≡ Some q) × (q * r < x)
+over-out r None x h = absurd (false≢true h)
+over-out r (Some q) x h = (q, refl, ltb-true (q * r) x h)
 
-out-over : (r : ℕ) (m : Most) (x q : ℕ) → m ≡ AtMost q → q * r < x → over_most r m x ≡ true
+out-over : (r : ℕ) (m : Option ℕ) (x q : ℕ) → m ≡ Some q → q * r < x → over_most r m x ≡ true
 out-over r m x q e h = rw e (lt-ltb (q * r) x h)
 
-short-entry : (r : ℕ) (ts : List TaskType) (xs : List ℕ) → replicas_short r ts xs ≡ true → (i : ℕ) × ((q : ℕ) × ((get_or ts i no_task).most ≡ AtMost q) × (q * r < get_or xs i 0))
+short-entry : (r : ℕ) (ts : List TaskType) (xs : List ℕ) → replicas_short r ts xs ≡ true → (i : ℕ) × ((q : ℕ) × ((get_or ts i no_task).most ≡ Some q) × (q * r < get_or xs i 0))
 unfolding replicas_short
 short-entry r [] xs h = absurd (false≢true h)
 short-entry r (t ∷ ts) [] h = absurd (false≢true h)
@@ -67,7 +66,7 @@ short-entry r (t ∷ ts) (x ∷ xs) h =
     (λ q. let (i, s) = short-entry r ts xs q in (suc i, s))
     (or_cases (over_most r t.most x) (replicas_short r ts xs) h)
 
-entry-short : (r : ℕ) (ts : List TaskType) (xs : List ℕ) (i q : ℕ) → (get_or ts i no_task).most ≡ AtMost q → q * r < get_or xs i 0 → replicas_short r ts xs ≡ true
+entry-short : (r : ℕ) (ts : List TaskType) (xs : List ℕ) (i q : ℕ) → (get_or ts i no_task).most ≡ Some q → q * r < get_or xs i 0 → replicas_short r ts xs ≡ true
 unfolding replicas_short
 entry-short r [] xs i q e h = let z : ◌≡◌ {A = ℕ} 0 1 = cc in absurd (omega arith)
 entry-short r (t ∷ ts) [] i q e h = absurd (omega arith)
@@ -149,7 +148,7 @@ module _ (y : System) (limits : Limits y) (x : List ℕ) (six : length x ≡ typ
             let rule : y.rule ≡ 1 = omega (arith, limits.rule) in
             rw rule (omega (arith, memory-one-more-shared-first y.types empty_load (t - 1) (omega arith) (none_yet (t - 1)), memory-empty 1 y.types type_limit))
 
-    one_apart : (j q : ℕ) → (get_or y.types j no_task).most ≡ AtMost q → get_or one j 0 ≤ q
+    one_apart : (j q : ℕ) → (get_or y.types j no_task).most ≡ Some q → get_or one j 0 ≤ q
     one_apart j q given =
         omega (arith, get_or-one_more (t - 1) j empty_load (omega arith), none_yet j, at_most (eqb (t - 1) j), some-replica (get_or y.types j no_task).most q (limits.replicas j) given)
       where

@@ -1,8 +1,7 @@
 -- Why there is no place: the causes of request 2026-08 as tests of a load and a number of engines, the first that holds, and what the two calls answer and
 -- leave.
-use Rattle.std.specs.Prelude.{ℕ, ◌-◌, ◌*◌, List, [], ◌∷◌, Bool, false, not, cond, ◌&&◌, ◌||◌, length, get_or, leb, ltb, eqb}
-use Rattle.system.specs.declared.Most.{Most}
-use Rattle.system.specs.declared.Most.TheVariants.{NotGiven, AtMost}
+use Rattle.std.specs.Prelude.{ℕ, ◌-◌, ◌*◌, List, [], ◌∷◌, Bool, false, not, cond, ◌&&◌, ◌||◌, length, get_or, leb, ltb, eqb, Option, None, Some, Result, Ok, Err}
+use Rattle.system.specs.declared.Refusal.{Refusal}
 use Rattle.system.specs.declared.TaskType.{TaskType}
 use Rattle.system.specs.declared.System.{System}
 use Rattle.system.specs.Values.{ceilings_of}
@@ -21,8 +20,6 @@ use Rattle.board.specs.Boards.{engines_of}
 use Rattle.board.specs.Calls.{check_newcomer, with_newcomer}
 use Rattle.causes.specs.declared.Cause.{Cause}
 use Rattle.causes.specs.declared.Cause.TheVariants.{Possible, NoEngine, OneTooLarge, TooMuchTime, TooMuchMemory, TooManyReplicas, NoArrangement}
-use Rattle.causes.specs.declared.CauseAnswer.{CauseAnswer}
-use Rattle.causes.specs.declared.CauseAnswer.TheVariants.{Because, Refused}
 
 -- The answer
 
@@ -50,9 +47,13 @@ named_in NoArrangement = []
 abbrev pub told : Cause → Outcome
 told c = accepted (cause_number c ∷ named_in c)
 
+-- what a call answers in the code: the cause, or refused
+abbrev pub CauseAnswer : Type 0
+CauseAnswer = Result Cause Refusal
+
 abbrev pub cause_outcome_of : CauseAnswer → Outcome
-cause_outcome_of (Because c) = told c
-cause_outcome_of (Refused r) = refusal_of r
+cause_outcome_of (Ok c) = told c
+cause_outcome_of (Err r) = refusal_of r
 
 -- The tests, of a load x and a number of engines
 
@@ -77,9 +78,9 @@ abbrev pub memory_short : System → ℕ → List ℕ → Bool
 memory_short y engines x = ltb (engines * y.memorycap) (memory_of y.rule y.types x)
 
 -- 5: "a count exceeds q × engines"
-abbrev pub over_most : ℕ → Most → ℕ → Bool
-over_most engines NotGiven x = false
-over_most engines (AtMost q) x = ltb (q * engines) x
+abbrev pub over_most : ℕ → Option ℕ → ℕ → Bool
+over_most engines None x = false
+over_most engines (Some q) x = ltb (q * engines) x
 
 unfoldable pub replicas_short : ℕ → List TaskType → List ℕ → Bool
 replicas_short engines [] xs = false

@@ -2,8 +2,8 @@
 -- None of these words stands in the definitions by which the code is described, but for those that read an answer (`cause_outcome_of`, `told`), so that code
 -- and statement cannot be wrong together. These
 -- are said case by case in clients/specs/Answers; trial_causes tells the cases apart by their names.
-use Rattle.std.specs.Prelude.{ℕ, ◌+◌, ◌*◌, ◌≤◌, ◌<◌, [], ◌∷◌, ◌≡◌, ◌↔◌, ◌⊎◌}
-use Rattle.system.specs.declared.Most.TheVariants.{AtMost}
+use Rattle.std.specs.Prelude.{ℕ, ◌+◌, ◌*◌, ◌≤◌, ◌<◌, [], ◌∷◌, ◌≡◌, ◌↔◌, ◌⊎◌, Some}
+use Rattle.system.specs.declared.Refusal.{Refusal}
 use Rattle.system.specs.declared.System.{System}
 use Rattle.system.specs.Layout.{Reading, opened, unread}
 use Rattle.system.specs.Outcome.{Outcome, Source, accepted, refused, from_input, from_state}
@@ -18,8 +18,7 @@ use Rattle.board.specs.Calls.{Result, admit_of, seat_of}
 use Rattle.board.specs.Words.{plus_one, stands_no, sum_six, time_out, own_out, shared_out, FitsOut, EngineIn, serving_all, BelowCeiling, IsTrue}
 use Rattle.board.specs.Meaning.{NewcomerInOrder, OneKindOnly, AdmitPromises, SeatPromises}
 use Rattle.causes.specs.declared.Cause.{Cause}
-use Rattle.causes.specs.declared.CauseAnswer.{CauseAnswer}
-use Rattle.causes.specs.Causes.{cause_outcome_of, told, plan_cause, plan_cause_table, room_cause, room_cause_table}
+use Rattle.causes.specs.Causes.{CauseAnswer, cause_outcome_of, told, plan_cause, plan_cause_table, room_cause, room_cause_table}
 
 -- How many engines there are
 
@@ -66,7 +65,7 @@ pub record CountExceeds (y : System) (r : ℕ) (count : ℕ → ℕ) : Type 0 wh
   pub type : ℕ
   pub is_type : 1 ≤ type
   pub most : ℕ
-  pub given : (type_no y type).most ≡ AtMost most
+  pub given : (type_no y type).most ≡ Some most
   pub exceeds : most * r < count type
 
 -- "Causes 1 to 5 each imply refusal": each leaves no good assignment of the load to the engines. Shown of all systems, loads and engines that are r in number

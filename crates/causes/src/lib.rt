@@ -4,7 +4,7 @@
 use system::Refusal;
 
 // Why a load has no place on some engines. The request's numbers are those of `cause_number`.
-#[derive(Clone, Copy)]
+#[derive(Clone, Copy, PartialEq, Eq)]
 pub enum Cause {
     Possible, // 0: a good assignment exists
     NoEngine, // 1: no engine is in service, though the load is not empty
@@ -13,11 +13,4 @@ pub enum Cause {
     TooMuchMemory, // 4: it takes more memory than all engines have
     TooManyReplicas, // 5: of some type there are more instances than q × engines
     NoArrangement, // 6: none of these, yet no good assignment exists
-}
-
-// What a call answers: the cause, or refused.
-#[derive(Clone, Copy)]
-pub enum CauseAnswer {
-    Because(Cause),
-    Refused(Refusal),
 }

@@ -6,42 +6,42 @@ ghost use Rattle.causes.specs.Meaning.{PlanCausePromises, RoomCausePromises};
 
 use crate::facts::cause_of;
 use board::Board;
-use causes::CauseAnswer;
-use system::{Answer, Check};
+use causes::Cause;
+use system::Refusal;
 
 // Why a system file has no plan: the cause, 0 where it has one; or refused 1 to 10, 31 and 41 to 43, then 11. The parts need not be clean; unless refused
 // they are left filled.
-pub fn why_no_plan(file: &[u8], rows: &mut [u16], predecessors: &mut [u16]) -> CauseAnswer
+pub fn why_no_plan(
+    file: &[u8],
+    rows: &mut [u16],
+    predecessors: &mut [u16],
+) -> Result<Cause, Refusal>
     ensures { PlanCausePromises (read_file file.now) (lent rows.old predecessors.old) result (lent rows.new predecessors.new) }
 {
-    let read = system_code::read_system(file);
-    let answer = read.answer;
-    if let Answer::Refused(why) = answer {
-        return CauseAnswer::Refused(why);
-    }
-    let y = read.system;
-    let room = table_code::table_check(y, rows.len(), predecessors.len());
-    if let Check::Fails(why) = room {
-        return CauseAnswer::Refused(why);
-    }
+    let opened = system_code::read_system(file);
+    opened.answer?;
+    let y = opened.system;
+    table_code::table_check(y, rows.len(), predecessors.len())?;
     let engines = table_code::engines_to(y.engines);
     let counts = table_code::ceilings_of(y);
     let found = table_code::place(rows, predecessors, y, engines, counts);
-    CauseAnswer::Because(cause_of(y, y.engines, counts, found.placed))
+    Ok(cause_of(y, y.engines, counts, found.placed))
 }
 
 // Why a board has no room for a newcomer of type t: the cause, 0 where it has; or refused 20, 13, 11, 21. The board is only read. The parts need not be clean;
 // unless refused they are left filled.
-pub fn why_no_room(b: Board, t: usize, rows: &mut [u16], predecessors: &mut [u16]) -> CauseAnswer
+pub fn why_no_room(
+    b: Board,
+    t: usize,
+    rows: &mut [u16],
+    predecessors: &mut [u16],
+) -> Result<Cause, Refusal>
     ensures { RoomCausePromises b t (lent rows.old predecessors.old) result (lent rows.new predecessors.new) }
 {
-    let check = board_code::check_newcomer(b, t, rows.len(), predecessors.len());
-    if let Check::Fails(why) = check {
-        return CauseAnswer::Refused(why);
-    }
+    board_code::check_newcomer(b, t, rows.len(), predecessors.len())?;
     let y = b.system;
     let engines = board_code::engines_of(b);
     let counts = board_code::with_newcomer(b, t);
     let found = table_code::place(rows, predecessors, y, engines, counts);
-    CauseAnswer::Because(cause_of(y, engines.count, counts, found.placed))
+    Ok(cause_of(y, engines.count, counts, found.placed))
 }

@@ -1,14 +1,14 @@
 // The causes as tests of a load and of a number of engines, in the request's order: the first that holds is the cause. No table is asked here; whether a good
 // assignment exists is handed in.
-ghost use Rattle.std.specs.Prelude.{◌≡◌, ◌-◌, ◌≤◌};
+ghost use Rattle.std.specs.Prelude.{◌≡◌, ◌-◌, ◌*◌, ◌≤◌, ◌<◌, ltb, MatchOption};
 ghost use Rattle.system.specs.Limits.{engine_limit, type_limit};
 ghost use Rattle.loads.specs.Load.{one_more, empty_load};
-ghost use Rattle.causes.specs.Causes.{cause_number, unfit_at, lowest_unfit, time_short, memory_short, over_most, replicas_short, cause_of};
+ghost use Rattle.causes.specs.Causes.{cause_number, unfit_at, lowest_unfit, over_most, replicas_short, cause_of};
 
 use causes::Cause;
-use system::{Most, System, TYPE_LIMIT, TaskType};
+use system::{System, TYPE_LIMIT, TaskType};
 
-// The request's number of a cause.
+// The request's number of a cause: the request fixes the numbers, so they are written out.
 pub fn cause_number(cause: Cause) -> u8
     ensures { result ≡ cause_number cause }
 {
@@ -28,8 +28,7 @@ fn alone(t: usize) -> [u16; TYPE_LIMIT]
     requires { (1 ≤ t) × (t ≤ type_limit) }
     ensures { result ≡ one_more (t - 1) empty_load }
 {
-    let none: [u16; TYPE_LIMIT] = [0; TYPE_LIMIT];
-    loads_code::one_more(none, t - 1)
+    loads_code::one_more([0; TYPE_LIMIT], t - 1)
 }
 
 // Type t is in the load, and one instance of it does not fit an empty engine.
@@ -37,20 +36,14 @@ fn unfit(y: System, counts: [u16; TYPE_LIMIT], t: usize) -> bool
     requires { (1 ≤ t) × (t ≤ type_limit) }
     ensures { result ≡ unfit_at y counts t }
 {
-    let i = t - 1;
-    (1 <= counts[i]) & !loads_code::fits_engine(y, alone(t))
+    (1 <= counts[t - 1]) & !loads_code::fits_engine(y, alone(t))
 }
 
-// The lowest such type, 0 where there is none.
-fn lowest_unfit(y: System, counts: [u16; TYPE_LIMIT]) -> usize
-    ensures { result ≡ lowest_unfit y counts }
+// The lowest such type.
+fn lowest_unfit(y: System, counts: [u16; TYPE_LIMIT]) -> Option<usize>
+    ensures { MatchOption result (lowest_unfit y counts ≡ 0) (λ t. (0 < t) × (t ≡ lowest_unfit y counts)) }
 {
-    for i in 0..TYPE_LIMIT {
-        if unfit(y, counts, i + 1) {
-            return i + 1;
-        }
-    }
-    0
+    (1..TYPE_LIMIT + 1).find(|t| unfit(y, counts, *t))
 }
 
 // Request 2026-10: "Totals may now pass 32 bits." A load within the ceilings has at most 4,095 instances, since the columns are at most 4,096. With every u,
@@ -60,32 +53,22 @@ fn lowest_unfit(y: System, counts: [u16; TYPE_LIMIT]) -> usize
 // rule 1): more than 2^32 = 4,294,967,296. The sums and the products that they are compared with are 64-bit numbers, which hold the sums of any six counts,
 // within the limits or not.
 
-// The total time exceeds engines × U.
-fn time_short(y: System, engines: usize, counts: [u16; TYPE_LIMIT]) -> bool
+// A total, of time or of memory, exceeds engines × what one of them has, U or S.
+fn short(engines: usize, cap: u32, total: u64) -> bool
     requires { engines ≤ engine_limit }
-    ensures { result ≡ time_short y engines counts }
+    ensures { result ≡ ltb (engines * cap) total }
 {
-    let sums = loads_code::sums_of(y, counts);
-    (engines as u64) * (y.timecap as u64) < sums.time
+    (engines as u64) * (cap as u64) < total
 }
 
-// The total memory exceeds engines × S.
-fn memory_short(y: System, engines: usize, counts: [u16; TYPE_LIMIT]) -> bool
-    requires { engines ≤ engine_limit }
-    ensures { result ≡ memory_short y engines counts }
-{
-    let whole = loads_code::sums_of(y, counts);
-    (engines as u64) * (y.memorycap as u64) < whole.memory
-}
-
-// A count exceeds q × engines, where q is given.
-fn over_most(engines: usize, most: Most, count: u16) -> bool
+// A count exceeds q × engines, where q is given. A closure for `is_some_and` would have to ask for the bound on the engines once more.
+fn over_most(engines: usize, most: Option<u16>, count: u16) -> bool
     requires { engines ≤ engine_limit }
     ensures { result ≡ over_most engines most count }
 {
     match most {
-        Most::NotGiven => false,
-        Most::AtMost(q) => (q as u64) * (engines as u64) < count as u64,
+        None => false,
+        Some(q) => (q as u64) * (engines as u64) < count as u64,
     }
 }
 
@@ -94,13 +77,10 @@ fn replicas_short(engines: usize, types: [TaskType; TYPE_LIMIT], counts: [u16; T
     requires { engines ≤ engine_limit }
     ensures { result ≡ replicas_short engines types counts }
 {
-    let mut short = false;
-    for i in 0..TYPE_LIMIT {
-        let task = types[i];
-        let most = task.most;
-        short = short | over_most(engines, most, counts[i]);
-    }
-    short
+    types
+        .iter()
+        .zip(&counts)
+        .any(|(task, count)| over_most(engines, task.most, *count))
 }
 
 // Why a load has no place on so many engines; `placed` says whether it has one. The first cause that holds.
@@ -111,18 +91,19 @@ pub(crate) fn cause_of(y: System, engines: usize, counts: [u16; TYPE_LIMIT], pla
     if (engines == 0) & !loads_code::holds_none(counts) {
         return Cause::NoEngine;
     }
-    let t = lowest_unfit(y, counts);
-    if 0 < t {
+    if let Some(t) = lowest_unfit(y, counts) {
         return Cause::OneTooLarge(t);
     }
-    if time_short(y, engines, counts) {
+    let sums = loads_code::sums_of(y, counts);
+    let time = short(engines, y.timecap, sums.time);
+    if time {
         return Cause::TooMuchTime;
     }
-    if memory_short(y, engines, counts) {
+    let memory = short(engines, y.memorycap, sums.memory);
+    if memory {
         return Cause::TooMuchMemory;
     }
-    let types = y.types;
-    if replicas_short(engines, types, counts) {
+    if replicas_short(engines, y.types, counts) {
         return Cause::TooManyReplicas;
     }
     if placed {

@@ -2,11 +2,10 @@
 use Prim.Native.Nat.{ℕ}
 use mathlib.Core.List.{List}
 use mathlib.Core.Path.{◌≡◌, sym, subst}
-use Rattle.system.specs.declared.Answer.{Answer}
+use Rattle.system.specs.Outcome.{Answer, outcome_of}
 use Rattle.system.specs.declared.System.{System}
 use Rattle.system.specs.Layout.{Reading, read_card, read_file, opened}
 use Rattle.system.specs.Card.{card_of, plain}
-use Rattle.system.specs.Outcome.{outcome_of}
 use Rattle.system.proofs.Laws.{file-card}
 use Rattle.system.proofs.Cards.{card-is}
 use Rattle.partition.specs.Lent.{Lent}

@@ -1,4 +1,7 @@
 -- From what a call promises that writes a file or a sheet, or that counts: where 30 and 38 are said, and that what stands past its own is as it was.
+use Rattle.std.proofs.Common.{Result}
+use Rattle.system.specs.declared.Refusal.{Refusal}
+use Rattle.counting.specs.declared.Counts.{Counts}
 use Prim.Native.Nat.{ℕ, ◌+◌, ◌*◌, ◌^◌, ◌≤◌, ◌<◌}
 use mathlib.Core.List.{List, [], ◌∷◌, ◌++◌}
 use mathlib.Core.Bool.{Bool, true, false}
@@ -8,10 +11,9 @@ use borrow.Author.Tests.{leb-true, leb-false}
 use lib.ListN.{length, take, drop, length-append}
 use lib.Seq.{take_at}
 use lib.Dec.{leb}
-use Rattle.system.specs.declared.Answer.{Answer}
+use Rattle.system.specs.Outcome.{Answer, accepted, refused, from_input, outcome_of}
 use Rattle.system.specs.declared.System.{System}
 use Rattle.system.specs.Layout.{Reading, opened, unread}
-use Rattle.system.specs.Outcome.{accepted, refused, from_input, outcome_of}
 use Rattle.partition.specs.Assignment.{Assignment}
 use Rattle.partition.specs.Lent.{Lent, lent}
 use Rattle.partition.specs.Plain.{columns_out, used_to}
@@ -20,7 +22,6 @@ use Rattle.making.specs.declared.Recipe.{Recipe}
 use Rattle.making.specs.Meaning.{NumbersWithin, PowerWithin, MakePromises}
 use Rattle.making.proofs.Made.{made-length}
 use Rattle.sheets.specs.Meaning.{sheet_out, GoodOnFewest, WriteSheetPromises}
-use Rattle.counting.specs.declared.CountAnswer.{CountAnswer}
 use Rattle.counting.specs.Meaning.{instances_out, counted_outcome, CountPromises}
 use Rattle.clients.specs.Wide.{KeptPastText, KeptPastAnswer, Says30, Says38, KeptPastColumns}
 
@@ -70,7 +71,7 @@ within_64 y many says none = go (leb (y.engines ^ instances_out y) 1844674407370
     go true e = leb-true (y.engines ^ instances_out y) 18446744073709551615 e
     go false e = absurd (none (says (leb-false (y.engines ^ instances_out y) 18446744073709551615 e)))
 
-pub count_kept : {x : Reading} {part after : List ℕ} {r : CountAnswer} → CountPromises x part r after → Says38 x part (counted_outcome r) × KeptPastColumns x part after (counted_outcome r)
+pub count_kept : {x : Reading} {part after : List ℕ} {r : Result Counts Refusal} → CountPromises x part r after → Says38 x part (counted_outcome r) × KeptPastColumns x part after (counted_outcome r)
 count_kept {r = r} e = (
   (λ y opens passes. e.then_part y opens (within_64 y (counted_outcome r ≡ refused from_input 37) (e.then_total y opens).1 passes)),
   record { as_long = e.as_long; past = e.past; as_lent = e.as_lent },

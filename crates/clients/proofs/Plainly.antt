@@ -1,5 +1,8 @@
 -- From the definitions by which a cause is numbered and a blank system and a blank board are made, and from what a run promises, what stands in plain numbers.
+use Rattle.std.proofs.Common.{Result}
 use Prim.Native.Nat.{ℕ}
+use Rattle.system.specs.declared.Refusal.{Refusal}
+use Rattle.runs.specs.declared.Report.{Report}
 use mathlib.Core.List.{List}
 use mathlib.Core.Path.{◌≡◌, ap, ◌∙◌}
 use Rattle.system.specs.declared.System.{System}
@@ -9,12 +12,11 @@ use Rattle.system.specs.Outcome.{Outcome, from_input, is_accepted}
 use Rattle.partition.specs.Lent.{Lent}
 use Rattle.board.specs.declared.Board.{Board}
 use Rattle.board.specs.Boards.{opened_board}
-use Rattle.board.specs.Calls.{Result}
+use Rattle.board.specs.Calls.{Result as Gives}
 use Rattle.board.specs.Meaning.{Demand1}
 use Rattle.causes.specs.declared.Cause.{Cause}
 use Rattle.causes.specs.declared.Cause.TheVariants.{Possible, NoEngine, OneTooLarge, TooMuchTime, TooMuchMemory, TooManyReplicas, NoArrangement}
 use Rattle.causes.specs.Causes.{cause_number}
-use Rattle.deadlines.specs.declared.RunAnswer.{RunAnswer}
 use Rattle.deadlines.specs.Outcome.{not_run, run_outcome_of}
 use Rattle.deadlines.specs.Meaning.{NoPace, RunPromises}
 use Rattle.clients.specs.Wide.{NumberedAsAsked, NothingRead, NothingOpened, BoardKept, RunsPlainly}
@@ -49,10 +51,10 @@ nothing-opened x b is n none =
     let e : b ≡ opened_board (unread n) = is ∙ ap opened_board none in
     (nothing_read b.system (ap (λ (a : Board). a.system) e), ap (λ (a : Board). a.loads) e, ap (λ (a : Board). a.marks) e)
 
-pub board-kept : (b : Board) (table left : Lent) (r : Result) → Demand1 b table left r → BoardKept b r.outcome r.board
+pub board-kept : (b : Board) (table left : Lent) (r : Gives) → Demand1 b table left r → BoardKept b r.outcome r.board
 board-kept b table left r d s n is = d.board (ap (λ (o : Outcome). is_accepted o) is)
 
-pub runs-plainly : (x : Reading) (counts : List ℕ) (ticks : ℕ) (r : RunAnswer) → RunPromises x counts ticks r → RunsPlainly x counts ticks (run_outcome_of r)
+pub runs-plainly : (x : Reading) (counts : List ℕ) (ticks : ℕ) (r : Result Report Refusal) → RunPromises x counts ticks r → RunsPlainly x counts ticks (run_outcome_of r)
 runs-plainly x counts ticks r p = record {
   does_not_read = p.file_first;
   says44 = λ y e. (

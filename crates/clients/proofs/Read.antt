@@ -1,4 +1,5 @@
 -- How answers are read, from the words that read them; and what reading a file, and a part of one, hands out.
+use Rattle.std.proofs.Common.{Result, Ok, Err, Option, None, Some}
 use Prim.Native.Nat.{ℕ, ◌-◌, ◌≤◌, ◌<◌}
 use mathlib.Core.List.{List, []}
 use mathlib.Core.Bool.{Bool, true, false, cond, ◌&&◌}
@@ -11,23 +12,11 @@ use lib.Dec.{leb}
 use Rattle.system.specs.declared.Opened.{Opened}
 use Rattle.system.specs.declared.Refusal.{Refusal}
 use Rattle.system.specs.declared.Refusal.TheVariants.{Input, State}
-use Rattle.system.specs.declared.Answer.{Answer}
-use Rattle.system.specs.declared.Answer.TheVariants.{Accepted, Number, Refused}
-use Rattle.system.specs.Outcome.{Outcome, Source, accepted, refused, from_input, from_state}
+use Rattle.system.specs.Outcome.{Answer, Outcome, Source, accepted, refused, from_input, from_state}
 use Rattle.causes.specs.declared.Cause.{Cause}
 use Rattle.causes.specs.declared.Cause.TheVariants.{Possible, NoEngine, OneTooLarge, TooMuchTime, TooMuchMemory, TooManyReplicas, NoArrangement}
-use Rattle.causes.specs.declared.CauseAnswer.{CauseAnswer}
-use Rattle.causes.specs.declared.CauseAnswer.TheVariants.{Because, Refused as NoCause}
-use Rattle.sheets.specs.declared.SheetAnswer.{SheetAnswer}
-use Rattle.sheets.specs.declared.SheetAnswer.TheVariants.{Right, Refused as NotRight}
 use Rattle.counting.specs.declared.Counts.{Counts}
-use Rattle.counting.specs.declared.CountAnswer.{CountAnswer}
-use Rattle.counting.specs.declared.CountAnswer.TheVariants.{Counted, Refused as NotCounted}
-use Rattle.runs.specs.declared.Missed.{Missed}
-use Rattle.runs.specs.declared.Missed.TheVariants.{Never, At}
 use Rattle.runs.specs.declared.Report.{Report}
-use Rattle.deadlines.specs.declared.RunAnswer.{RunAnswer}
-use Rattle.deadlines.specs.declared.RunAnswer.TheVariants.{Ran, Refused as NotRun}
 use Rattle.deadlines.specs.Outcome.{FirstMiss, all_kept, first_at, RunOutcome, ran, not_run}
 use Rattle.system.specs.Inner.{part_of}
 use Rattle.system.specs.Layout.{Reading, Reads, read_outcome, read_system}
@@ -91,14 +80,14 @@ one-of-these = record {
     refusal (Input n) = inl (n, refl)
     refusal (State n) = inr (n, refl)
 
-    answer : (r : Answer) → (r ≡ Accepted) ⊎ (((n : ℕ) × (r ≡ Number n)) ⊎ ((why : Refusal) × (r ≡ Refused why)))
-    answer Accepted = inl refl
-    answer (Number n) = inr (inl (n, refl))
-    answer (Refused why) = inr (inr (why, refl))
+    answer : (r : Answer) → (r ≡ (Ok None)) ⊎ (((n : ℕ) × (r ≡ Ok (Some n))) ⊎ ((why : Refusal) × (r ≡ Err why)))
+    answer (Ok None) = inl refl
+    answer (Ok (Some n)) = inr (inl (n, refl))
+    answer (Err why) = inr (inr (why, refl))
 
-    cause : (r : CauseAnswer) → ((c : Cause) × (r ≡ Because c)) ⊎ ((why : Refusal) × (r ≡ NoCause why))
-    cause (Because c) = inl (c, refl)
-    cause (NoCause why) = inr (why, refl)
+    cause : (r : Result Cause Refusal) → ((c : Cause) × (r ≡ Ok c)) ⊎ ((why : Refusal) × (r ≡ Err why))
+    cause (Ok c) = inl (c, refl)
+    cause (Err why) = inr (why, refl)
 
     one-cause : (c : Cause) → (c ≡ Possible) ⊎ ((c ≡ NoEngine) ⊎ (((t : ℕ) × (c ≡ OneTooLarge t)) ⊎ ((c ≡ TooMuchTime)
         ⊎ ((c ≡ TooMuchMemory) ⊎ ((c ≡ TooManyReplicas) ⊎ (c ≡ NoArrangement))))))
@@ -110,24 +99,24 @@ one-of-these = record {
     one-cause TooManyReplicas = inr (inr (inr (inr (inr (inl refl)))))
     one-cause NoArrangement = inr (inr (inr (inr (inr (inr refl)))))
 
-    sheet : (r : SheetAnswer) → ((fewer : Bool) × (r ≡ Right fewer)) ⊎ ((why : Refusal) × (r ≡ NotRight why))
-    sheet (Right fewer) = inl (fewer, refl)
-    sheet (NotRight why) = inr (why, refl)
+    sheet : (r : Result Bool Refusal) → ((fewer : Bool) × (r ≡ Ok fewer)) ⊎ ((why : Refusal) × (r ≡ Err why))
+    sheet (Ok fewer) = inl (fewer, refl)
+    sheet (Err why) = inr (why, refl)
 
-    count : (r : CountAnswer) → ((c : Counts) × (r ≡ Counted c)) ⊎ ((why : Refusal) × (r ≡ NotCounted why))
-    count (Counted c) = inl (c, refl)
-    count (NotCounted why) = inr (why, refl)
+    count : (r : Result Counts Refusal) → ((c : Counts) × (r ≡ Ok c)) ⊎ ((why : Refusal) × (r ≡ Err why))
+    count (Ok c) = inl (c, refl)
+    count (Err why) = inr (why, refl)
 
-    run : (r : RunAnswer) → ((p : Report) × (r ≡ Ran p)) ⊎ ((why : Refusal) × (r ≡ NotRun why))
-    run (Ran p) = inl (p, refl)
-    run (NotRun why) = inr (why, refl)
+    run : (r : Result Report Refusal) → ((p : Report) × (r ≡ Ok p)) ⊎ ((why : Refusal) × (r ≡ Err why))
+    run (Ok p) = inl (p, refl)
+    run (Err why) = inr (why, refl)
 
-    report : (p : Report) → ((idle : ℕ) × (p ≡ record { idle = idle; missed = Never })) ⊎ ((idle d : ℕ) × (p ≡ record { idle = idle; missed = At d }))
+    report : (p : Report) → ((idle : ℕ) × (p ≡ record { idle = idle; missed = None })) ⊎ ((idle d : ℕ) × (p ≡ record { idle = idle; missed = Some d }))
     report p = by-miss p.missed refl
       where
-        by-miss : (m : Missed) → p.missed ≡ m → ((idle : ℕ) × (p ≡ record { idle = idle; missed = Never })) ⊎ ((idle d : ℕ) × (p ≡ record { idle = idle; missed = At d }))
-        by-miss Never e = inl (p.idle, λ i. record { idle = p.idle; missed = e i })
-        by-miss (At d) e = inr (p.idle, d, λ i. record { idle = p.idle; missed = e i })
+        by-miss : (m : Option ℕ) → p.missed ≡ m → ((idle : ℕ) × (p ≡ record { idle = idle; missed = None })) ⊎ ((idle d : ℕ) × (p ≡ record { idle = idle; missed = Some d }))
+        by-miss None e = inl (p.idle, λ i. record { idle = p.idle; missed = e i })
+        by-miss (Some d) e = inr (p.idle, d, λ i. record { idle = p.idle; missed = e i })
 
     run-outcome : (o : RunOutcome) → ((idle : ℕ) × (miss : FirstMiss) × (o ≡ ran idle miss)) ⊎ ((s : Source) × (n : ℕ) × (o ≡ not_run s n))
     run-outcome (ran idle miss) = inl (idle, miss, refl)

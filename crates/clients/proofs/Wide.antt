@@ -1,17 +1,15 @@
 -- From what a call promises of cards of one kind of engine and of two, what is said of every file that opens.
+use Rattle.std.proofs.Common.{Option, None, Some}
 use Prim.Native.Nat.{ℕ, ◌≤◌, ◌<◌}
 use mathlib.Core.List.{List}
 use mathlib.Core.Path.{◌≡◌, refl}
 use mathlib.Core.Logic.{◌↔◌}
 use lib.ListN.{length}
 use Rattle.system.specs.declared.Kind.{Kind}
-use Rattle.system.specs.declared.Second.{Second}
-use Rattle.system.specs.declared.Second.TheVariants.{OneKind, TwoKinds}
 use Rattle.system.specs.declared.System.{System}
-use Rattle.system.specs.declared.Answer.{Answer}
+use Rattle.system.specs.Outcome.{Answer, refused, from_input, outcome_of}
 use Rattle.system.specs.Layout.{read_card, opened}
 use Rattle.system.specs.Card.{card_of, plain, mixed}
-use Rattle.system.specs.Outcome.{refused, from_input, outcome_of}
 use Rattle.system.proofs.Cards.{card-is}
 use Rattle.partition.specs.Lent.{Lent, lent}
 use Rattle.partition.specs.Plain.{TooShort}
@@ -22,13 +20,13 @@ use Rattle.planner.specs.MixedDemands.{PlanCall, ListCall}
 use Rattle.clients.specs.Wide.{Says11, engines_in, Says15, NoPartition, Says12}
 
 -- a file that opens is a card of one kind or of two
-by-kinds : (file : List ℕ) (P : System → Second → Type 0) (y : System) → read_card file ≡ opened y
-    → (card_of (read_card file) ≡ plain (opened y) → P y OneKind) → ((k : Kind) → card_of (read_card file) ≡ mixed y k → P y (TwoKinds k)) → P y y.second
+by-kinds : (file : List ℕ) (P : System → Option Kind → Type 0) (y : System) → read_card file ≡ opened y
+    → (card_of (read_card file) ≡ plain (opened y) → P y None) → ((k : Kind) → card_of (read_card file) ≡ mixed y k → P y (Some k)) → P y y.second
 by-kinds file P y opens one two = go y.second refl
   where
-    go : (s : Second) → y.second ≡ s → P y s
-    go OneKind is = one (card-is.one_kind (read_card file) y opens is)
-    go (TwoKinds k) is = two k (card-is.two_kinds (read_card file) y k opens is)
+    go : (s : Option Kind) → y.second ≡ s → P y s
+    go None is = one (card-is.one_kind (read_card file) y opens is)
+    go (Some k) is = two k (card-is.two_kinds (read_card file) y k opens is)
 
 module _ (file rows predecessors : List ℕ) where
   pub fill-eleven : (r : Answer) (after : Lent) → FillCall (card_of (read_card file)) (lent rows predecessors) r after → Says11 (read_card file) rows predecessors (outcome_of r ≡ refused from_input 11)

@@ -1,35 +1,24 @@
 -- How an answer is read, case by case: the promises speak of an answer through a word that reads it as accepted or refused, and here each such word is said
 -- of every case of its enum, so that none
 -- can read one answer as another. And what reading a file, and a part of a file, hands out, apart from the words by which the code is described.
-use Rattle.std.specs.Prelude.{ℕ, ◌-◌, ◌≤◌, ◌<◌, List, [], ◌∷◌, Bool, true, false, ◌≡◌, ◌↔◌, ◌⊎◌, length, take, drop}
+use Rattle.std.specs.Prelude.{ℕ, ◌-◌, ◌≤◌, ◌<◌, List, [], ◌∷◌, Bool, true, false, ◌≡◌, ◌↔◌, ◌⊎◌, length, take, drop, Ok, Err, None, Some, Result}
 use Rattle.system.specs.declared.Refusal.{Refusal}
 use Rattle.system.specs.declared.Refusal.TheVariants.{Input, State}
-use Rattle.system.specs.declared.Answer.{Answer}
-use Rattle.system.specs.declared.Answer.TheVariants.{Accepted, Number, Refused}
+use Rattle.system.specs.Outcome.{Answer, Outcome, Source, accepted, refused, from_input, from_state, outcome_of, is_accepted}
 use Rattle.system.specs.declared.System.{System}
 use Rattle.system.specs.declared.Opened.{Opened}
 use Rattle.system.specs.Layout.{Reading, opened, unread}
-use Rattle.system.specs.Outcome.{Outcome, Source, accepted, refused, from_input, from_state, outcome_of, is_accepted}
 use Rattle.partition.specs.Lent.{Lent}
 use Rattle.board.specs.declared.Turn.{Turn}
-use Rattle.board.specs.Calls.{Result, gave, Does}
+use Rattle.board.specs.Calls.{Result as Gives, gave, Does}
 use Rattle.causes.specs.declared.Cause.{Cause}
-use Rattle.causes.specs.declared.CauseAnswer.{CauseAnswer}
 use Rattle.causes.specs.declared.Cause.TheVariants.{Possible, NoEngine, OneTooLarge, TooMuchTime, TooMuchMemory, TooManyReplicas, NoArrangement}
-use Rattle.causes.specs.declared.CauseAnswer.TheVariants.{Because, Refused as NoCause}
 use Rattle.causes.specs.Causes.{cause_outcome_of, told}
 use Rattle.causes.specs.Meaning.{Numbered, EachImplies}
-use Rattle.sheets.specs.declared.SheetAnswer.{SheetAnswer}
-use Rattle.sheets.specs.declared.SheetAnswer.TheVariants.{Right, Refused as NotRight}
 use Rattle.sheets.specs.Checking.{right, wrong, sheet_outcome_of}
 use Rattle.counting.specs.declared.Counts.{Counts}
-use Rattle.counting.specs.declared.CountAnswer.{CountAnswer}
-use Rattle.counting.specs.declared.CountAnswer.TheVariants.{Counted, Refused as NotCounted}
 use Rattle.counting.specs.Meaning.{counted_outcome}
-use Rattle.runs.specs.declared.Missed.TheVariants.{Never, At}
 use Rattle.runs.specs.declared.Report.{Report}
-use Rattle.deadlines.specs.declared.RunAnswer.{RunAnswer}
-use Rattle.deadlines.specs.declared.RunAnswer.TheVariants.{Ran, Refused as NotRun}
 use Rattle.deadlines.specs.Outcome.{FirstMiss, all_kept, first_at, RunOutcome, ran, not_run, run_outcome_of}
 use Rattle.listing.specs.Demands.{number_of}
 use Rattle.clients.specs.Wide.{NothingRead}
@@ -39,43 +28,43 @@ use Rattle.clients.specs.Wide.{NothingRead}
 pub record AnswersRead : Type 0 where
   pub yes : (ns : List ℕ) → is_accepted (accepted ns) ≡ true
   pub no : (s : Source) (n : ℕ) → is_accepted (refused s n) ≡ false
-  pub none : outcome_of Accepted ≡ accepted []
-  pub number : (n : ℕ) → outcome_of (Number n) ≡ accepted (n ∷ [])
-  pub input : (n : ℕ) → outcome_of (Refused (Input n)) ≡ refused from_input n
-  pub state : (n : ℕ) → outcome_of (Refused (State n)) ≡ refused from_state n
+  pub none : outcome_of (Ok None) ≡ accepted []
+  pub number : (n : ℕ) → outcome_of (Ok (Some n)) ≡ accepted (n ∷ [])
+  pub input : (n : ℕ) → outcome_of (Err (Input n)) ≡ refused from_input n
+  pub state : (n : ℕ) → outcome_of (Err (State n)) ≡ refused from_state n
 
 -- the cause of a refusal: its number, and after 2 the type that is named
 pub record CausesRead : Type 0 where
-  pub zero : cause_outcome_of (Because Possible) ≡ accepted (0 ∷ [])
-  pub one : cause_outcome_of (Because NoEngine) ≡ accepted (1 ∷ [])
-  pub two : (t : ℕ) → cause_outcome_of (Because (OneTooLarge t)) ≡ accepted (2 ∷ t ∷ [])
-  pub three : cause_outcome_of (Because TooMuchTime) ≡ accepted (3 ∷ [])
-  pub four : cause_outcome_of (Because TooMuchMemory) ≡ accepted (4 ∷ [])
-  pub five : cause_outcome_of (Because TooManyReplicas) ≡ accepted (5 ∷ [])
-  pub six : cause_outcome_of (Because NoArrangement) ≡ accepted (6 ∷ [])
-  pub input : (n : ℕ) → cause_outcome_of (NoCause (Input n)) ≡ refused from_input n
-  pub state : (n : ℕ) → cause_outcome_of (NoCause (State n)) ≡ refused from_state n
+  pub zero : cause_outcome_of (Ok Possible) ≡ accepted (0 ∷ [])
+  pub one : cause_outcome_of (Ok NoEngine) ≡ accepted (1 ∷ [])
+  pub two : (t : ℕ) → cause_outcome_of (Ok (OneTooLarge t)) ≡ accepted (2 ∷ t ∷ [])
+  pub three : cause_outcome_of (Ok TooMuchTime) ≡ accepted (3 ∷ [])
+  pub four : cause_outcome_of (Ok TooMuchMemory) ≡ accepted (4 ∷ [])
+  pub five : cause_outcome_of (Ok TooManyReplicas) ≡ accepted (5 ∷ [])
+  pub six : cause_outcome_of (Ok NoArrangement) ≡ accepted (6 ∷ [])
+  pub input : (n : ℕ) → cause_outcome_of (Err (Input n)) ≡ refused from_input n
+  pub state : (n : ℕ) → cause_outcome_of (Err (State n)) ≡ refused from_state n
   -- the word for a cause that is given reads it alike
-  pub given : (c : Cause) → told c ≡ cause_outcome_of (Because c)
+  pub given : (c : Cause) → told c ≡ cause_outcome_of (Ok c)
 
 -- a sheet: right, with whether fewer engines would do
 pub record SheetsRead : Type 0 where
-  pub is_right : (fewer : Bool) → sheet_outcome_of (Right fewer) ≡ right fewer
-  pub input : (n : ℕ) → sheet_outcome_of (NotRight (Input n)) ≡ wrong from_input n
-  pub state : (n : ℕ) → sheet_outcome_of (NotRight (State n)) ≡ wrong from_state n
+  pub is_right : (fewer : Bool) → sheet_outcome_of (Ok fewer) ≡ right fewer
+  pub input : (n : ℕ) → sheet_outcome_of (Err (Input n)) ≡ wrong from_input n
+  pub state : (n : ℕ) → sheet_outcome_of (Err (State n)) ≡ wrong from_state n
 
 -- a count: the good assignments, then all
 pub record CountsRead : Type 0 where
-  pub counted : (c : Counts) → counted_outcome (Counted c) ≡ accepted (c.good ∷ c.total ∷ [])
-  pub input : (n : ℕ) → counted_outcome (NotCounted (Input n)) ≡ refused from_input n
-  pub state : (n : ℕ) → counted_outcome (NotCounted (State n)) ≡ refused from_state n
+  pub counted : (c : Counts) → counted_outcome (Ok c) ≡ accepted (c.good ∷ c.total ∷ [])
+  pub input : (n : ℕ) → counted_outcome (Err (Input n)) ≡ refused from_input n
+  pub state : (n : ℕ) → counted_outcome (Err (State n)) ≡ refused from_state n
 
 -- a run: its idle ticks, and that no deadline was missed or when the first was
 pub record RunsRead : Type 0 where
-  pub kept : (idle : ℕ) → run_outcome_of (Ran (record { idle = idle; missed = Never })) ≡ ran idle all_kept
-  pub missed : (idle d : ℕ) → run_outcome_of (Ran (record { idle = idle; missed = At d })) ≡ ran idle (first_at d)
-  pub input : (n : ℕ) → run_outcome_of (NotRun (Input n)) ≡ not_run from_input n
-  pub state : (n : ℕ) → run_outcome_of (NotRun (State n)) ≡ not_run from_state n
+  pub kept : (idle : ℕ) → run_outcome_of (Ok (record { idle = idle; missed = None })) ≡ ran idle all_kept
+  pub missed : (idle d : ℕ) → run_outcome_of (Ok (record { idle = idle; missed = Some d })) ≡ ran idle (first_at d)
+  pub input : (n : ℕ) → run_outcome_of (Err (Input n)) ≡ not_run from_input n
+  pub state : (n : ℕ) → run_outcome_of (Err (State n)) ≡ not_run from_state n
 
 -- and the number of a refusal whose text is written
 pub record NumbersRead : Type 0 where
@@ -89,14 +78,14 @@ pub record OneOfThese : Type 0 where
   -- and the two lists are two
   pub apart : from_input ≡ from_state → ⊥
   pub refusal : (why : Refusal) → ((n : ℕ) × (why ≡ Input n)) ⊎ ((n : ℕ) × (why ≡ State n))
-  pub answer : (r : Answer) → (r ≡ Accepted) ⊎ (((n : ℕ) × (r ≡ Number n)) ⊎ ((why : Refusal) × (r ≡ Refused why)))
-  pub cause : (r : CauseAnswer) → ((c : Cause) × (r ≡ Because c)) ⊎ ((why : Refusal) × (r ≡ NoCause why))
+  pub answer : (r : Answer) → (r ≡ (Ok None)) ⊎ (((n : ℕ) × (r ≡ Ok (Some n))) ⊎ ((why : Refusal) × (r ≡ Err why)))
+  pub cause : (r : Result Cause Refusal) → ((c : Cause) × (r ≡ Ok c)) ⊎ ((why : Refusal) × (r ≡ Err why))
   pub one_cause : (c : Cause) → (c ≡ Possible) ⊎ ((c ≡ NoEngine) ⊎ (((t : ℕ) × (c ≡ OneTooLarge t)) ⊎ ((c ≡ TooMuchTime)
       ⊎ ((c ≡ TooMuchMemory) ⊎ ((c ≡ TooManyReplicas) ⊎ (c ≡ NoArrangement))))))
-  pub sheet : (r : SheetAnswer) → ((fewer : Bool) × (r ≡ Right fewer)) ⊎ ((why : Refusal) × (r ≡ NotRight why))
-  pub count : (r : CountAnswer) → ((c : Counts) × (r ≡ Counted c)) ⊎ ((why : Refusal) × (r ≡ NotCounted why))
-  pub run : (r : RunAnswer) → ((p : Report) × (r ≡ Ran p)) ⊎ ((why : Refusal) × (r ≡ NotRun why))
-  pub report : (p : Report) → ((idle : ℕ) × (p ≡ record { idle = idle; missed = Never })) ⊎ ((idle d : ℕ) × (p ≡ record { idle = idle; missed = At d }))
+  pub sheet : (r : Result Bool Refusal) → ((fewer : Bool) × (r ≡ Ok fewer)) ⊎ ((why : Refusal) × (r ≡ Err why))
+  pub count : (r : Result Counts Refusal) → ((c : Counts) × (r ≡ Ok c)) ⊎ ((why : Refusal) × (r ≡ Err why))
+  pub run : (r : Result Report Refusal) → ((p : Report) × (r ≡ Ok p)) ⊎ ((why : Refusal) × (r ≡ Err why))
+  pub report : (p : Report) → ((idle : ℕ) × (p ≡ record { idle = idle; missed = None })) ⊎ ((idle d : ℕ) × (p ≡ record { idle = idle; missed = Some d }))
   pub run_outcome : (o : RunOutcome) → ((idle : ℕ) × (miss : FirstMiss) × (o ≡ ran idle miss)) ⊎ ((s : Source) × (n : ℕ) × (o ≡ not_run s n))
   pub first_miss : (m : FirstMiss) → (m ≡ all_kept) ⊎ ((d : ℕ) × (m ≡ first_at d))
   -- and a run that missed none is not one that missed
@@ -108,7 +97,7 @@ abbrev pub GaveIs : Type 0
 GaveIs = (r : Turn) (after : Lent) → ((gave r after).outcome ≡ outcome_of r.answer) × ((gave r after).board ≡ r.board) × ((gave r after).table ≡ after)
 
 abbrev pub DoesIs : Type 0
-DoesIs = (x : Result) (r : Turn) (after : Lent) → Does x r after ↔ ((outcome_of r.answer ≡ x.outcome) × (r.board ≡ x.board) × (after ≡ x.table))
+DoesIs = (x : Gives) (r : Turn) (after : Lent) → Does x r after ↔ ((outcome_of r.answer ≡ x.outcome) × (r.board ≡ x.board) × (after ≡ x.table))
 
 -- Request 2026-08, "Causes 1 to 5 each imply refusal", closed: of every system, load and engines
 abbrev pub ImpliedAlways : Type 1

@@ -5,16 +5,11 @@
 -- how an input comes apart into a file and a sheet; what the text of a plan handed in tells; that an engine of a plan misses no deadline; the number of each
 -- cause; and a system of which nothing was read,
 -- with its board; that a refusal keeps the board; which plan a listing tells; and which runs of an engine are refused, of any counts and ticks.
-use Rattle.std.specs.Prelude.{ℕ, ◌+◌, ◌-◌, ◌*◌, ◌≤◌, ◌<◌, List, [], ◌∷◌, ◌++◌, Bool, false, ◌≡◌, ◌↔◌, ◌⊎◌, length, get_or, take, drop, replicate}
-use Rattle.system.specs.declared.Answer.TheVariants.{Refused}
+use Rattle.std.specs.Prelude.{ℕ, ◌+◌, ◌-◌, ◌*◌, ◌≤◌, ◌<◌, List, [], ◌∷◌, ◌++◌, Bool, false, ◌≡◌, ◌↔◌, ◌⊎◌, length, get_or, take, drop, replicate, None, Option, Some, Err}
+use Rattle.system.specs.declared.Kind.{Kind}
 use Rattle.system.specs.declared.Refusal.{Refusal}
 use Rattle.system.specs.declared.Refusal.TheVariants.{Input, State}
-use Rattle.system.specs.declared.Most.TheVariants.{NotGiven}
-use Rattle.system.specs.declared.Pace.TheVariants.{Unpaced}
-use Rattle.system.specs.declared.There.TheVariants.{Absent}
 use Rattle.system.specs.declared.TaskType.{TaskType}
-use Rattle.system.specs.declared.Second.{Second}
-use Rattle.system.specs.declared.Second.TheVariants.{OneKind, TwoKinds}
 use Rattle.system.specs.declared.System.{System}
 use Rattle.system.specs.Layout.{Reading, opened, unread, read_card, read_file}
 use Rattle.system.specs.Card.{card_of}
@@ -50,9 +45,9 @@ BoardSays11 b rows predecessors o =
     IsTrue b → (o ≡ refused from_input 11) ↔ ((length rows < columns_out b.system) ⊎ (length predecessors < columns_out b.system))
 
 -- the engines of one kind, or of both
-abbrev pub engines_in : System → Second → ℕ
-engines_in y OneKind = y.engines
-engines_in y (TwoKinds k) = y.engines + k.number
+abbrev pub engines_in : System → Option Kind → ℕ
+engines_in y None = y.engines
+engines_in y (Some k) = y.engines + k.number
 
 -- where both parts are long enough, 15 is said exactly where the list has fewer records than there are engines
 abbrev pub Says15 : Reading → List ℕ → List ℕ → ℕ → Outcome → Type 0
@@ -60,9 +55,9 @@ Says15 x rows predecessors room o =
     (y : System) → x ≡ opened y → columns_out y ≤ length rows → columns_out y ≤ length predecessors → (o ≡ refused from_input 15) ↔ (room < engines_in y y.second)
 
 -- and where parts and list are long enough, 12 is said exactly where no assignment partitions all instances among the engines of one kind, or of both
-abbrev pub NoPartition : System → Second → Type 0
-NoPartition y OneKind = (χ : Assignment) → Partition y (EngineOf y) (ceiling_no y) χ → ⊥
-NoPartition y (TwoKinds k) = (χ : Assignment) → MixedPartition y k (ceiling_no y) χ → ⊥
+abbrev pub NoPartition : System → Option Kind → Type 0
+NoPartition y None = (χ : Assignment) → Partition y (EngineOf y) (ceiling_no y) χ → ⊥
+NoPartition y (Some k) = (χ : Assignment) → MixedPartition y k (ceiling_no y) χ → ⊥
 
 abbrev pub Says12 : Reading → List ℕ → List ℕ → ℕ → Outcome → Type 0
 Says12 x rows predecessors room o =
@@ -116,9 +111,9 @@ sheet_in input = drop (256 * get_or input 0 0 + get_or input 1 0) (drop 2 input)
 -- what a plan's text tells: a refusal from either list with its number, and else the records of the engines that it uses
 abbrev pub TellsOfPlan : Plan → List ℕ → Type 0
 TellsOfPlan p text =
-    ((n : ℕ) → p.answer ≡ Refused (Input n) → TellsRefusal n text)
-    × ((n : ℕ) → p.answer ≡ Refused (State n) → TellsRefusal n text)
-    × (((why : Refusal) → p.answer ≡ Refused why → ⊥) → p.used ≤ length p.loads → p.used ≤ length p.numbers
+    ((n : ℕ) → p.answer ≡ Err (Input n) → TellsRefusal n text)
+    × ((n : ℕ) → p.answer ≡ Err (State n) → TellsRefusal n text)
+    × (((why : Refusal) → p.answer ≡ Err why → ⊥) → p.used ≤ length p.loads → p.used ≤ length p.numbers
     → ((e : ℕ) → 1 ≤ e → e ≤ p.used → p.typecount ≤ length (record_no p.loads e).counts)
     → TellsRecords p.used p.typecount p.numbers p.loads text)
 
@@ -143,7 +138,7 @@ NumberedAsAsked c n =
 
 -- a type of which nothing is known: no time, no memory, no instance, no data, and neither q nor C and T nor costs on a second kind
 abbrev pub unknown_type : TaskType
-unknown_type = record { time = 0; memory = 0; ceiling = 0; «data» = 0; most = NotGiven; pace = Unpaced; there = Absent }
+unknown_type = record { time = 0; memory = 0; ceiling = 0; «data» = 0; most = None; pace = None; there = None }
 
 -- a system of which nothing was read
 abbrev pub NothingRead : System → Type 0
@@ -154,7 +149,7 @@ NothingRead y =
     × (y.memorycap ≡ 0)
     × (y.typecount ≡ 0)
     × (y.types ≡ replicate 6 unknown_type)
-    × (y.second ≡ OneKind)
+    × (y.second ≡ None)
 
 -- and the board of a file that does not read: such a system, sixteen engines that hold nothing, and no mark
 abbrev pub NothingOpened : Board → Type 0
@@ -182,7 +177,7 @@ ListsAnyPlan file text =
 pub record RunsPlainly (x : Reading) (counts : List ℕ) (ticks : ℕ) (o : RunOutcome) : Type 0 where
   pub does_not_read : (n : ℕ) → x ≡ unread n → o ≡ not_run from_input n
   pub says44 : (y : System) → x ≡ opened y → (o ≡ not_run from_input 44)
-      ↔ ((t : ℕ) × (1 ≤ t) × (t ≤ 6) × (1 ≤ get_or counts (t - 1) 0) × ((y.typecount < t) ⊎ ((type_no y t).pace ≡ Unpaced)))
+      ↔ ((t : ℕ) × (1 ≤ t) × (t ≤ 6) × (1 ≤ get_or counts (t - 1) 0) × ((y.typecount < t) ⊎ ((type_no y t).pace ≡ None)))
   pub says45 : (y : System) → x ≡ opened y → (o ≡ not_run from_input 44 → ⊥) → (o ≡ not_run from_input 45)
       ↔ ((64 < get_or counts 0 0 + (get_or counts 1 0 + (get_or counts 2 0 + (get_or counts 3 0 + (get_or counts 4 0 + get_or counts 5 0))))) ⊎ (65535 < ticks))
   pub reports : (y : System) → x ≡ opened y → (o ≡ not_run from_input 44 → ⊥) → (o ≡ not_run from_input 45 → ⊥)

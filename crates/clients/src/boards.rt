@@ -18,10 +18,10 @@ ghost use Rattle.clients.specs.Wide.{Says11, BoardSays11, Says13, Says14, Says38
 ghost use Rattle.clients.specs.Wide.{RunsPlainly};
 
 use board::{Board, Turn};
-use causes::{Cause, CauseAnswer};
-use counting::CountAnswer;
-use deadlines::RunAnswer;
-use system::TYPE_LIMIT;
+use causes::Cause;
+use counting::Counts;
+use runs::Report;
+use system::{Refusal, TYPE_LIMIT};
 
 pub fn true_board(b: Board) -> bool
     ensures value { result ≡ true_board b }
@@ -88,14 +88,23 @@ pub fn restore(b: Board, e: usize) -> Turn
     board_code::restore(b, e)
 }
 
-pub fn why_no_plan(file: &[u8], rows: &mut [u16], predecessors: &mut [u16]) -> CauseAnswer
+pub fn why_no_plan(
+    file: &[u8],
+    rows: &mut [u16],
+    predecessors: &mut [u16],
+) -> Result<Cause, Refusal>
     ensures plan_cause_promises { PlanCausePromises (read_file file.now) (lent rows.old predecessors.old) result (lent rows.new predecessors.new) }
     ensures says11 { Says11 (read_file file.now) rows.old predecessors.old (cause_outcome_of result ≡ refused from_input 11) }
 {
     causes_code::why_no_plan(file, rows, predecessors)
 }
 
-pub fn why_no_room(b: Board, t: usize, rows: &mut [u16], predecessors: &mut [u16]) -> CauseAnswer
+pub fn why_no_room(
+    b: Board,
+    t: usize,
+    rows: &mut [u16],
+    predecessors: &mut [u16],
+) -> Result<Cause, Refusal>
     ensures room_cause_promises { RoomCausePromises b t (lent rows.old predecessors.old) result (lent rows.new predecessors.new) }
     ensures says13 { Says13 b t (cause_outcome_of result) × ((1 ≤ t) × (t ≤ b.system.typecount) → BoardSays11 b rows.old predecessors.old (cause_outcome_of result)) }
 {
@@ -109,7 +118,7 @@ pub fn cause_number(cause: Cause) -> u8
     causes_code::cause_number(cause)
 }
 
-pub fn count_assignments(file: &[u8], part: &mut [u64]) -> CountAnswer
+pub fn count_assignments(file: &[u8], part: &mut [u64]) -> Result<Counts, Refusal>
     ensures count_promises { CountPromises (read_file file.now) part.old result part.new }
     ensures says38 { Says38 (read_file file.now) part.old (counted_outcome result)
         × KeptPastColumns (read_file file.now) part.old part.new (counted_outcome result) }
@@ -117,7 +126,7 @@ pub fn count_assignments(file: &[u8], part: &mut [u64]) -> CountAnswer
     counting_code::count_assignments(file, part)
 }
 
-pub fn run_engine(file: &[u8], counts: [u16; TYPE_LIMIT], ticks: usize) -> RunAnswer
+pub fn run_engine(file: &[u8], counts: [u16; TYPE_LIMIT], ticks: usize) -> Result<Report, Refusal>
     ensures run_promises { RunPromises (read_file file.now) counts ticks result }
     ensures runs_plainly { RunsPlainly (read_file file.now) counts ticks (run_outcome_of result) }
 {

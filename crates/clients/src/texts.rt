@@ -12,7 +12,7 @@ ghost use Rattle.sheets.specs.Checking.{wrong, sheet_outcome_of};
 ghost use Rattle.clients.specs.Wide.{Says11, RightExactly, KeptPastText, KeptPastAnswer, Says30, TellsOfPlan, ListsItsPlan};
 
 use planner::Plan;
-use sheets::{SHEET_BYTES, SheetAnswer};
+use sheets::SHEET_BYTES;
 use system::{Answer, Refusal};
 
 pub fn write_refusal(out: &mut [u8; 4096], why: Refusal) -> usize
@@ -64,7 +64,7 @@ pub fn check_sheet(
     sheet: &[u8],
     rows: &mut [u16],
     predecessors: &mut [u16],
-) -> SheetAnswer
+) -> Result<bool, Refusal>
     ensures check_promises { CheckPromises (read_file file.now) sheet.now (lent rows.old predecessors.old) result (lent rows.new predecessors.new) }
     ensures says11 { Says11 (read_file file.now) rows.old predecessors.old (sheet_outcome_of result ≡ wrong from_input 11)
         × RightExactly (read_file file.now) sheet.now rows.old predecessors.old (sheet_outcome_of result) }

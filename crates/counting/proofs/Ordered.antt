@@ -1,4 +1,7 @@
 -- Refusals 37 and 38 in plain words, and what an accepted count means: each follows from the answer alone, by the three cases of a file that opens.
+use Rattle.std.proofs.Common.{Result}
+use Rattle.system.specs.declared.Refusal.{Refusal}
+use Rattle.counting.specs.declared.Counts.{Counts}
 use Prim.Native.Nat.{ℕ, ◌*◌, ◌^◌, ◌≤◌, ◌<◌}
 use mathlib.Core.Path.{◌≡◌, refl, sym, ap, subst, ◌∙◌}
 use mathlib.Core.List.{List, [], ◌∷◌}
@@ -15,7 +18,6 @@ use Rattle.system.specs.Outcome.{Outcome, Source, accepted, refused, from_input,
 use Rattle.system.proofs.Laws.{Limits}
 use Rattle.partition.specs.Plain.{columns_out}
 use Rattle.partition.proofs.Plain.{columns-out}
-use Rattle.counting.specs.declared.CountAnswer.{CountAnswer}
 use Rattle.counting.specs.Counts.{good_count, total_count, greatest, total_check, part_check, count_outcome}
 use Rattle.counting.specs.Meaning.{instances_out, CountMeans, counted_outcome, CountPromises}
 use Rattle.counting.proofs.Counted.{instances-out, counts-mean}
@@ -75,7 +77,7 @@ module _ {y : System} {entries : ℕ} where
 
 -- main: what follows from the answer alone, where a file that opens keeps the limits
 
-module _ (x : Reading) (limits : (y : System) → x ≡ opened y → Limits y) (entries : ℕ) (r : CountAnswer) (answers : counted_outcome r ≡ count_outcome x entries) where
+module _ (x : Reading) (limits : (y : System) → x ≡ opened y → Limits y) (entries : ℕ) (r : Result Counts Refusal) (answers : counted_outcome r ≡ count_outcome x entries) where
   case_at : (y : System) → x ≡ opened y → Case y entries (counted_outcome r)
   case_at y is = subst (Case y entries) (sym (answers ∙ ap (λ (z : Reading). count_outcome z entries) is)) (case-of y (limits y is) entries)
 
@@ -95,7 +97,7 @@ module _ (x : Reading) (limits : (y : System) → x ≡ opened y → Limits y) (
   counts-are y good total is = counted-means (limits y is) (case_at y is) good total
 
 -- all that the call promises, from its answer and what it leaves of the part
-pub order-of : (x : Reading) → ((y : System) → x ≡ opened y → Limits y) → (part : List ℕ) (r : CountAnswer) (after : List ℕ) → counted_outcome r ≡ count_outcome x (length part)
+pub order-of : (x : Reading) → ((y : System) → x ≡ opened y → Limits y) → (part : List ℕ) (r : Result Counts Refusal) (after : List ℕ) → counted_outcome r ≡ count_outcome x (length part)
     → ((s : Source) (n : ℕ) → counted_outcome r ≡ refused s n → after ≡ part) → length after ≡ length part
     → ((y : System) (i : ℕ) → x ≡ opened y → 2 * columns_out y ≤ i → get_or after i 0 ≡ get_or part i 0) → CountPromises x part r after
 order-of x limits part r after answers as_lent_lem as_long_lem past = record {

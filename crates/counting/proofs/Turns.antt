@@ -1,9 +1,10 @@
 -- Laws of the loops that fill a list entry by entry, or multiply: the triangle of ways, the strides, the first row, the instances, the power.
+use Rattle.std.proofs.Common.{Some, None}
 use Prim.Native.Nat.{ℕ, zero, suc, ◌+◌, ◌-◌, ◌*◌, ◌/◌, ◌%◌, ◌^◌, ◌≤◌, ◌<◌}
 use mathlib.Core.Path.{◌≡◌, refl, sym, ap, ◌∙◌}
 use mathlib.Core.List.{List, [], ◌∷◌, map}
 use mathlib.Core.Bool.{Bool, true, false, cond}
-use native.Mathlib.Nat.{le_trans, mul_comm, pow-suc, pow-le-pow_right, div-lt_iff_lt-mul, le-div_iff_mul-le}
+use native.Mathlib.Nat.{le_trans, mul_comm, pow-suc, pow-le-pow_right, div-lt_iff_lt-mul}
 use native.Mathlib.Numerals.{add-one}
 use native.Mathlib.Omega.{arith}
 use borrow.Author.Tests.{eqb-true, eqb-false, le-leb, lt-leb}
@@ -129,14 +130,24 @@ module _ (ts : List TaskType) (t : ℕ) where
 -- main: a power
 
 module _ (base times : ℕ) where
-  pub power-within : base ^ times ≤ greatest → record { within = true; value = base ^ times } ≡ power_of base times
+  pub past-said : None ≡ power_of base times → leb (base ^ times) greatest ≡ false
+  past-said = go (leb (base ^ times) greatest)
+    where
+      go : (b : Bool) → None ≡ cond b (Some (base ^ times)) None → b ≡ false
+      go true e = let z : ◌≡◌ {A = ℕ} 0 1 = cc in absurd (omega arith)
+      go false e = refl
+
+  pub within-said : (n : ℕ) → Some n ≡ power_of base times → (leb (base ^ times) greatest ≡ true) × (n ≡ base ^ times)
+  within-said n = go (leb (base ^ times) greatest)
+    where
+      go : (b : Bool) → Some n ≡ cond b (Some (base ^ times)) None → (b ≡ true) × (n ≡ base ^ times)
+      go true e = (refl, cc)
+      go false e = let z : ◌≡◌ {A = ℕ} 0 1 = cc in absurd (omega arith)
+
+  pub power-within : base ^ times ≤ greatest → Some (base ^ times) ≡ power_of base times
   power-within h = rw (le-leb (base ^ times) greatest h)
 
-  pub power-past : (k : ℕ) → 1 ≤ base → k < times → greatest / base < base ^ k → record { within = false; value = 0 } ≡ power_of base times
-  power-past k some h past =
-      let over : greatest < base ^ k * base = (div-lt_iff_lt-mul {k = base} {x = greatest} some).0 past in
+  pub power-past : (k : ℕ) → 1 ≤ base → k < times → greatest < base ^ k * base → None ≡ power_of base times
+  power-past k some h over =
       let up : base ^ suc k ≤ base ^ times = pow-le-pow_right {n = base} some {i = suc k} {j = times} h in
       rw (lt-leb (base ^ times) greatest (omega (arith, pow-suc base k)))
-
-pub times-small : (base value : ℕ) → 1 ≤ base → value ≤ greatest / base → value * base ≤ greatest
-times-small base value some h = (le-div_iff_mul-le {k = base} {x = value} {y = greatest} some).0 h

@@ -1,12 +1,12 @@
 -- What the call that counts promises, in plain words: both numbers are lengths of listings, of good assignments and of all.
-use Rattle.std.specs.Prelude.{ℕ, ◌+◌, ◌*◌, ◌^◌, ◌≤◌, ◌<◌, List, [], ◌∷◌, ◌≡◌, ◌↔◌, length, get_or}
+use Rattle.std.specs.Prelude.{ℕ, ◌+◌, ◌*◌, ◌^◌, ◌≤◌, ◌<◌, List, [], ◌∷◌, ◌≡◌, ◌↔◌, length, get_or, Result, Ok, Err}
+use Rattle.system.specs.declared.Refusal.{Refusal}
+use Rattle.counting.specs.declared.Counts.{Counts}
 use Rattle.system.specs.declared.System.{System}
 use Rattle.system.specs.Layout.{Reading, opened, unread}
 use Rattle.system.specs.Outcome.{Outcome, Source, accepted, refused, from_input, refusal_of}
 use Rattle.partition.specs.Assignment.{Assignment}
 use Rattle.partition.specs.Plain.{ceiling_no, columns_out, EngineOf, places_no, Partition}
-use Rattle.counting.specs.declared.CountAnswer.{CountAnswer}
-use Rattle.counting.specs.declared.CountAnswer.TheVariants.{Counted, Refused}
 use Rattle.counting.specs.Counts.{count_outcome}
 
 -- a list has every assignment that is meant exactly once, and no other
@@ -38,13 +38,13 @@ pub record CountMeans (y : System) (good total : ℕ) : Type 0 where
   pub nothing : instances_out y ≡ 0 → (good ≡ 1) × (total ≡ 1)
 
 -- the answer in document 01's words
-abbrev pub counted_outcome : CountAnswer → Outcome
-counted_outcome (Counted c) = accepted (c.good ∷ c.total ∷ [])
-counted_outcome (Refused r) = refusal_of r
+abbrev pub counted_outcome : Result Counts Refusal → Outcome
+counted_outcome (Ok c) = accepted (c.good ∷ c.total ∷ [])
+counted_outcome (Err r) = refusal_of r
 
 -- what the call promises of its answer and of the part that it was lent: "37, when the total passes 2^64 - 1; 38, when the lent part of 64-bit numbers has
 -- fewer than 2 × columns entries; in this order, after 10"
-pub record CountPromises (x : Reading) (part : List ℕ) (r : CountAnswer) (after : List ℕ) : Type 0 where
+pub record CountPromises (x : Reading) (part : List ℕ) (r : Result Counts Refusal) (after : List ℕ) : Type 0 where
   pub answers : counted_outcome r ≡ count_outcome x (length part)
   pub file_first : (n : ℕ) → x ≡ unread n → counted_outcome r ≡ refused from_input n
   pub then_total : (y : System) → x ≡ opened y → (counted_outcome r ≡ refused from_input 37) ↔ (18446744073709551615 < y.engines ^ instances_out y)

@@ -1,21 +1,20 @@
 -- What the functions that count promise: the sums that a pass goes through, by the lent part as it is, and what the part has between the passes. Inner
 -- contracts cite this.
-use Rattle.std.specs.Prelude.{ℕ, zero, suc, ◌+◌, ◌-◌, ◌*◌, ◌^◌, ◌≤◌, ◌<◌, List, ◌≡◌, Bool, true, cond, length, get_or, drop, leb}
+use Rattle.std.specs.Prelude.{ℕ, zero, suc, ◌+◌, ◌-◌, ◌*◌, ◌^◌, ◌≤◌, ◌<◌, List, ◌≡◌, Bool, true, cond, length, get_or, drop, leb, Option, Some, None}
 use Rattle.system.specs.declared.System.{System}
 use Rattle.system.specs.Values.{ceilings_of}
 use Rattle.system.specs.Limits.{columns, keeps_limits}
 use Rattle.loads.specs.Load.{fits_engine}
 use Rattle.loads.specs.Column.{load_of}
 use Rattle.partition.specs.Listing.{instances}
-use Rattle.counting.specs.declared.Total.{Total}
 use Rattle.counting.specs.Counts.{greatest}
 use Rattle.counting.specs.Tally.{sum_to, choose, bit, tally, stride_at, over_columns}
 
--- a power, where it does not pass 64 bits; 0 where it does
-abbrev pub power_of : ℕ → ℕ → Total
-power_of base times = record { within = leb (base ^ times) greatest; value = cond (leb (base ^ times) greatest) (base ^ times) 0 }
+-- a power, where it does not pass 64 bits
+abbrev pub power_of : ℕ → ℕ → Option ℕ
+power_of base times = cond (leb (base ^ times) greatest) (Some (base ^ times)) None
 
-abbrev pub total_of : System → Total
+abbrev pub total_of : System → Option ℕ
 total_of y = power_of y.engines (instances (ceilings_of y))
 
 -- the table of ways to choose: entry 64 × n + x

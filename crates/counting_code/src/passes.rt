@@ -5,6 +5,8 @@ ghost use Rattle.system.specs.Limits.{keeps_limits};
 ghost use Rattle.counting.specs.Counts.{good_count};
 ghost use Rattle.counting.specs.Walk.{over_one, over_two, over_by, reach_by, held_ways, SumIn, CountsIn, StridesOf, PassIn, Passed, RowOf, Beyond, CountIn};
 
+// The loops over j and over columns go over numbers, which the places in the part are reckoned from; no list holds them. The sums over types 1 and 2 take
+// plain numbers and no Walk: they are inmost, and a Walk would be copied at each of their calls.
 use crate::chosen::{SIDE, chosen};
 use system::{System, TYPE_LIMIT};
 
@@ -29,12 +31,10 @@ fn strides_of(y: System) -> [usize; TYPE_LIMIT]
     requires { keeps_limits y ≡ true }
     ensures { StridesOf y result }
 {
-    let types = y.types;
     let mut strides = [0usize; TYPE_LIMIT];
     let mut stride: usize = 1;
-    for t in 0..TYPE_LIMIT {
+    for (t, task) in y.types.iter().enumerate() {
         strides[t] = stride;
-        let task = types[t];
         stride = stride * (wide(task.ceiling) + 1);
     }
     strides
@@ -47,10 +47,7 @@ fn first_row(part: &mut [u64], y: System, columns: usize)
 {
     for column in 0..columns {
         let load = loads_code::load_of(y, column);
-        let mut bit: u64 = 0;
-        if loads_code::fits_engine(y, load) {
-            bit = 1;
-        }
+        let bit = u64::from(loads_code::fits_engine(y, load));
         part[column] = bit;
         part[columns + column] = bit;
     }
@@ -137,9 +134,7 @@ fn pass(part: &mut [u64], ways: &[u64], y: System, columns: usize)
     ensures { Passed y part.old part.new }
 {
     let strides = strides_of(y);
-    let mut column = columns;
-    while column > 0 {
-        column -= 1;
+    for column in (0..columns).rev() {
         let walk = Walk {
             columns: columns,
             column: column,

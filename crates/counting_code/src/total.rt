@@ -5,46 +5,29 @@ ghost use Rattle.system.specs.Limits.{keeps_limits};
 ghost use Rattle.partition.specs.Listing.{instances};
 ghost use Rattle.counting.specs.Walk.{power_of, total_of};
 
-use counting::Total;
-use system::{System, TYPE_LIMIT};
+use system::System;
 
 // The instances of all types.
 fn instances_of(y: System) -> usize
     ensures { result ≡ instances (ceilings_of y) }
 {
-    let types = y.types;
-    let mut all: usize = 0;
-    for t in 0..TYPE_LIMIT {
-        let task = types[t];
-        all += task.ceiling as usize;
-    }
-    all
+    y.types.iter().map(|task| task.ceiling as usize).sum()
 }
 
-// The base, at least 1, to the power `times`.
-fn power(base: u64, times: usize) -> Total
+// The base, at least 1, to the power `times`, where it does not pass 64 bits.
+fn power(base: u64, times: usize) -> Option<u64>
     requires { 1 ≤ base }
     ensures { result ≡ power_of base times }
 {
-    let most = 18446744073709551615 / base;
     let mut value: u64 = 1;
     for _k in 0..times {
-        if value > most {
-            return Total {
-                within: false,
-                value: 0,
-            };
-        }
-        value = value * base;
+        value = value.checked_mul(base)?;
     }
-    Total {
-        within: true,
-        value: value,
-    }
+    Some(value)
 }
 
-// The total of all assignments of a system's instances to its engines.
-pub fn total_of(y: System) -> Total
+// The total of all assignments of a system's instances to its engines, where it does not pass 64 bits.
+pub fn total_of(y: System) -> Option<u64>
     requires { keeps_limits y ≡ true }
     ensures { result ≡ total_of y }
 {

@@ -1,4 +1,5 @@
 -- No engine of a plan of one kind misses a deadline: the u of its instances sum to at most U, and C × U is at most u × T for each, so that the demand bound holds.
+use Rattle.std.proofs.Common.{Some}
 use Prim.Native.Nat.{ℕ, zero, suc, ◌+◌, ◌-◌, ◌*◌, ◌≤◌, ◌<◌, zero-le}
 use mathlib.Core.Path.{◌≡◌, refl, sym, ap, ◌∙◌}
 use mathlib.Core.List.{List, [], ◌∷◌, ◌++◌}
@@ -10,7 +11,6 @@ use borrow.Author.Tests.{leb-true, leb-false, ne_eqb}
 use lib.ListN.{length, get_or, replicate}
 use lib.Dec.{leb, eqb}
 use Rattle.system.specs.declared.Cycle.{Cycle}
-use Rattle.system.specs.declared.Pace.TheVariants.{Paced}
 use Rattle.system.specs.declared.TaskType.{TaskType}
 use Rattle.system.specs.declared.System.{System}
 use Rattle.system.specs.Layout.{read_file, opened}
@@ -116,11 +116,11 @@ module _ (file : List ℕ) (y : System) (is : read_file file ≡ opened y) (χ :
 
   module _ (paced : all_paced y.types counts ≡ true) where
     -- C and T of a type on the engine
-    within : (k : ℕ) → k < length y.types → 1 ≤ get_or counts k 0 → (c : Cycle) × ((get_or y.types k no_type).pace ≡ Paced c) × PaceWithin y.timecap (get_or y.types k no_type).time c
+    within : (k : ℕ) → k < length y.types → 1 ≤ get_or counts k 0 → (c : Cycle) × ((get_or y.types k no_type).pace ≡ Some c) × PaceWithin y.timecap (get_or y.types k no_type).time c
     within k h s =
         let f = paced-each no_type y.types counts paced k h s in
         let back : suc k - 1 ≡ k = omega arith in
-        let g : (type_no y (suc k)).pace ≡ Paced f.0 = ap (λ (n : ℕ). (get_or y.types n no_type).pace) back ∙ f.1 in
+        let g : (type_no y (suc k)).pace ≡ Some f.0 = ap (λ (n : ℕ). (get_or y.types n no_type).pace) back ∙ f.1 in
         (f.0, f.1, rw back at (cycle-within y limits (suc k) f.0 (omega arith) g))
 
     shares : Shares y.timecap (jobs_of y.types counts) (time_on e y.types χ)

@@ -1,4 +1,5 @@
 -- Who has a C and a T: what the check of the call says, type by type, and that then every period is at least 1.
+use Rattle.std.proofs.Common.{Option, None, Some}
 use Prim.Native.Nat.{ℕ, zero, suc, ◌+◌, ◌-◌, ◌≤◌, ◌<◌}
 use mathlib.Core.Path.{◌≡◌, refl, sym}
 use mathlib.Core.List.{List, [], ◌∷◌, ◌++◌}
@@ -9,8 +10,6 @@ use borrow.Author.Tests.{eqb-true, eqb-false}
 use lib.ListN.{length, get_or, replicate}
 use lib.Dec.{eqb}
 use Rattle.system.specs.declared.Cycle.{Cycle}
-use Rattle.system.specs.declared.Pace.{Pace}
-use Rattle.system.specs.declared.Pace.TheVariants.{Unpaced, Paced}
 use Rattle.system.specs.declared.TaskType.{TaskType}
 use Rattle.runs.specs.declared.Job.{Job}
 use Rattle.runs.specs.Run.{Periods, none, more}
@@ -18,16 +17,16 @@ use Rattle.deadlines.specs.Engine.{has_pace, all_paced, job_of_type, jobs_of}
 
 -- entry k, with d where there is none
 module _ (d : TaskType) where
-  has-pace : (p : Pace) → has_pace p ≡ true → (c : Cycle) × (p ≡ Paced c)
-  has-pace Unpaced e = absurd (false≢true e)
-  has-pace (Paced c) e = (c, refl)
+  has-pace : (p : Option Cycle) → has_pace p ≡ true → (c : Cycle) × (p ≡ Some c)
+  has-pace None e = absurd (false≢true e)
+  has-pace (Some c) e = (c, refl)
 
-  no-pace : (p : Pace) → has_pace p ≡ false → p ≡ Unpaced
-  no-pace Unpaced e = refl
-  no-pace (Paced c) e = absurd (false≢true (sym e))
+  no-pace : (p : Option Cycle) → has_pace p ≡ false → p ≡ None
+  no-pace None e = refl
+  no-pace (Some c) e = absurd (false≢true (sym e))
 
   -- every type of which an instance stands has them
-  pub paced-each : (ts : List TaskType) (ns : List ℕ) → all_paced ts ns ≡ true → (k : ℕ) → k < length ts → 1 ≤ get_or ns k 0 → (c : Cycle) × ((get_or ts k d).pace ≡ Paced c)
+  pub paced-each : (ts : List TaskType) (ns : List ℕ) → all_paced ts ns ≡ true → (k : ℕ) → k < length ts → 1 ≤ get_or ns k 0 → (c : Cycle) × ((get_or ts k d).pace ≡ Some c)
   unfolding all_paced
   paced-each [] ns e k h s = absurd (not-suc-le-zero h)
   paced-each (t ∷ ts) [] e k h s = absurd (omega arith)
@@ -39,11 +38,11 @@ module _ (d : TaskType) where
           → (b : Bool)
           → has_pace t.pace ≡ b
           → ((a || b) && all_paced ts ns) ≡ true
-          → (all_paced ts ns ≡ true → (k : ℕ) → k < length ts → 1 ≤ get_or ns k 0 → (c : Cycle) × ((get_or ts k d).pace ≡ Paced c))
+          → (all_paced ts ns ≡ true → (k : ℕ) → k < length ts → 1 ≤ get_or ns k 0 → (c : Cycle) × ((get_or ts k d).pace ≡ Some c))
           → (k : ℕ)
           → k < length (t ∷ ts)
           → 1 ≤ get_or (n ∷ ns) k 0
-          → (c : Cycle) × ((get_or (t ∷ ts) k d).pace ≡ Paced c)
+          → (c : Cycle) × ((get_or (t ∷ ts) k d).pace ≡ Some c)
       go true p b q e ih zero h s = absurd (omega (arith, eqb-true n 0 p))
       go true p b q e ih (suc k) h s = ih e k (le_of_suc-le-suc h) s
       go false p true q e ih zero h s = has-pace t.pace q
@@ -51,14 +50,14 @@ module _ (d : TaskType) where
       go false p false q e ih k h s = absurd (false≢true e)
 
   -- or there is one of which an instance stands and that has none
-  pub unpaced-some : (ts : List TaskType) (ns : List ℕ) → all_paced ts ns ≡ false → (k : ℕ) × (k < length ts) × (1 ≤ get_or ns k 0) × ((get_or ts k d).pace ≡ Unpaced)
+  pub unpaced-some : (ts : List TaskType) (ns : List ℕ) → all_paced ts ns ≡ false → (k : ℕ) × (k < length ts) × (1 ≤ get_or ns k 0) × ((get_or ts k d).pace ≡ None)
   unfolding all_paced
   unpaced-some [] ns e = absurd (false≢true (sym e))
   unpaced-some (t ∷ ts) [] e = absurd (false≢true (sym e))
   unpaced-some (t ∷ ts) (n ∷ ns) e = go (eqb n 0) refl (has_pace t.pace) refl e (unpaced-some ts ns)
     where
       Some : List TaskType → List ℕ → Type 0
-      Some ts ns = (k : ℕ) × (k < length ts) × (1 ≤ get_or ns k 0) × ((get_or ts k d).pace ≡ Unpaced)
+      Some ts ns = (k : ℕ) × (k < length ts) × (1 ≤ get_or ns k 0) × ((get_or ts k d).pace ≡ None)
 
       later : Some ts ns → Some (t ∷ ts) (n ∷ ns)
       later f = (suc f.0, omega (arith, f.1), f.2, f.3)

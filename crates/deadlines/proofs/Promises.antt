@@ -1,4 +1,5 @@
 -- What the call promises follows from its whole answer: the order of its refusals, each exactly where it is due, and what a report means.
+use Rattle.std.proofs.Common.{None, Option, Some, Result, Ok, Err}
 use Prim.Native.Nat.{ℕ, suc, ◌-◌, ◌≤◌, ◌<◌}
 use mathlib.Core.Path.{◌≡◌, refl, sym, ap, ◌∙◌}
 use mathlib.Core.List.{List, [], ◌∷◌}
@@ -7,7 +8,6 @@ use mathlib.Core.Logic.{◌⊎◌, inl, inr, ◌↔◌}
 use native.Mathlib.Omega.{arith}
 use borrow.Author.Tests.{leb-true, leb-false}
 use lib.ListN.{length, get_or}
-use Rattle.system.specs.declared.Pace.TheVariants.{Unpaced}
 use Rattle.system.specs.declared.Refusal.{Refusal}
 use Rattle.system.specs.declared.Refusal.TheVariants.{Input, State}
 use Rattle.system.specs.declared.System.{System}
@@ -15,12 +15,8 @@ use Rattle.system.specs.Layout.{Reading, opened}
 use Rattle.system.specs.Outcome.{from_input}
 use Rattle.partition.specs.OwnWords.{no_type}
 use Rattle.partition.specs.Plain.{type_no, LimitsOut}
-use Rattle.runs.specs.declared.Missed.{Missed}
-use Rattle.runs.specs.declared.Missed.TheVariants.{Never, At}
 use Rattle.runs.specs.declared.Report.{Report}
 use Rattle.runs.specs.Run.{run_of}
-use Rattle.deadlines.specs.declared.RunAnswer.{RunAnswer}
-use Rattle.deadlines.specs.declared.RunAnswer.TheVariants.{Ran, Refused}
 use Rattle.deadlines.specs.Outcome.{FirstMiss, RunOutcome, ran, not_run, miss_of, reported_as, not_run_for, run_outcome_of}
 use Rattle.deadlines.specs.Engine.{all_paced, instances, jobs_of, few_instances, few_ticks, few_enough, run_over, run_engine}
 use Rattle.deadlines.specs.Meaning.{NoPace, instances_on, TooMuch, RunMeans, RunPromises}
@@ -29,11 +25,11 @@ use Rattle.deadlines.proofs.Told.{run-means}
 
 -- no two answers say the same: what is promised of the outcome is promised of the whole answer
 
-one-miss : (a b : Missed) → miss_of a ≡ miss_of b → a ≡ b
-one-miss Never Never e = refl
-one-miss Never (At d) e = let z : ◌≡◌ {A = ℕ} 0 1 = cc in absurd (omega arith)
-one-miss (At d) Never e = let z : ◌≡◌ {A = ℕ} 0 1 = cc in absurd (omega arith)
-one-miss (At d) (At k) e = let same : d ≡ k = cc in ap At same
+one-miss : (a b : Option ℕ) → miss_of a ≡ miss_of b → a ≡ b
+one-miss None None e = refl
+one-miss None (Some d) e = let z : ◌≡◌ {A = ℕ} 0 1 = cc in absurd (omega arith)
+one-miss (Some d) None e = let z : ◌≡◌ {A = ℕ} 0 1 = cc in absurd (omega arith)
+one-miss (Some d) (Some k) e = let same : d ≡ k = cc in ap Some same
 
 one-report : (a b : Report) → reported_as a ≡ reported_as b → a ≡ b
 one-report a b e =
@@ -52,11 +48,11 @@ run-no-refusal : (a : Report) (why : Refusal) → reported_as a ≡ not_run_for 
 run-no-refusal a (Input n) e = let z : ◌≡◌ {A = ℕ} 0 1 = cc in omega arith
 run-no-refusal a (State n) e = let z : ◌≡◌ {A = ℕ} 0 1 = cc in omega arith
 
-pub one_answer : (a b : RunAnswer) → run_outcome_of a ≡ run_outcome_of b → a ≡ b
-one_answer (Ran a) (Ran b) e = ap Ran (one-report a b e)
-one_answer (Ran a) (Refused why) e = absurd (run-no-refusal a why e)
-one_answer (Refused why) (Ran b) e = absurd (run-no-refusal b why (sym e))
-one_answer (Refused why) (Refused other) e = ap Refused (one-refusal why other e)
+pub one_answer : (a b : Result Report Refusal) → run_outcome_of a ≡ run_outcome_of b → a ≡ b
+one_answer (Ok a) (Ok b) e = ap Ok (one-report a b e)
+one_answer (Ok a) (Err why) e = absurd (run-no-refusal a why e)
+one_answer (Err why) (Ok b) e = absurd (run-no-refusal b why (sym e))
+one_answer (Err why) (Err other) e = ap Err (one-refusal why other e)
 
 -- the instances of six types
 pub instances-out : (ns : List ℕ) → length ns ≡ 6 → instances ns ≡ instances_on ns
@@ -100,7 +96,7 @@ module _ (y : System) (ns : List ℕ) (ticks : ℕ) where
     pub unpaced-told : all_paced y.types ns ≡ false → NoPace y ns
     unpaced-told e = go (unpaced-some no_type y.types ns e)
       where
-        go : (k : ℕ) × (k < length y.types) × (1 ≤ get_or ns k 0) × ((get_or y.types k no_type).pace ≡ Unpaced) → NoPace y ns
+        go : (k : ℕ) × (k < length y.types) × (1 ≤ get_or ns k 0) × ((get_or y.types k no_type).pace ≡ None) → NoPace y ns
         go (k, l, s, p) =
             let e : suc k - 1 ≡ k = omega arith in
             record { kind = suc k; is_type = (omega arith, omega (arith, limits.six)); some = rw e s; without = inr (ap (λ (n : ℕ). (get_or y.types n no_type).pace) e ∙ p) }
@@ -108,7 +104,7 @@ module _ (y : System) (ns : List ℕ) (ticks : ℕ) where
     pub told-unpaced : NoPace y ns → all_paced y.types ns ≡ false
     told-unpaced n = go (all_paced y.types ns) refl
       where
-        none : (y.typecount < n.kind) ⊎ ((type_no y n.kind).pace ≡ Unpaced) → (type_no y n.kind).pace ≡ Unpaced
+        none : (y.typecount < n.kind) ⊎ ((type_no y n.kind).pace ≡ None) → (type_no y n.kind).pace ≡ None
         none (inl h) = (limits.past n.kind h).5
         none (inr e) = e
 
@@ -116,7 +112,7 @@ module _ (y : System) (ns : List ℕ) (ticks : ℕ) where
         go false e = refl
         go true e =
             let f = paced-each no_type y.types ns e (n.kind - 1) (omega (arith, limits.six, n.is_type.0, n.is_type.1)) n.some in
-            let p : (type_no y n.kind).pace ≡ Unpaced = none n.without in
+            let p : (type_no y n.kind).pace ≡ None = none n.without in
             let z : ◌≡◌ {A = ℕ} 0 1 = cc f.1 in
             absurd (omega arith)
 
@@ -140,7 +136,7 @@ module _ (y : System) (ns : List ℕ) (ticks : ℕ) where
 
 -- main
 module _ (x : Reading) (counts : List ℕ) (ticks : ℕ) (limits : (y : System) → x ≡ opened y → LimitsOut y) (six : length counts ≡ 6) where
-  pub promises-of : (r : RunAnswer) → run_outcome_of r ≡ run_engine x counts ticks → RunPromises x counts ticks r
+  pub promises-of : (r : Result Report Refusal) → run_outcome_of r ≡ run_engine x counts ticks → RunPromises x counts ticks r
   unfolding run_engine
   promises-of r whole = record { answers = whole; file_first = λ n is. rw is at whole; then44 = refused-44; then45 = refused-45; else = runs; means = meant }
     where

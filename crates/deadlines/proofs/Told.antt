@@ -1,4 +1,5 @@
 -- What a report means: the schedule that the run makes, tick by tick, and the report of it, in instances of types.
+use Rattle.std.proofs.Common.{None, Some, Option}
 use Prim.Native.Nat.{ℕ, zero, suc, ◌+◌, ◌-◌, ◌*◌, ◌%◌, ◌≤◌, ◌<◌}
 use mathlib.Core.Path.{◌≡◌, refl, sym, ap, ◌∙◌}
 use mathlib.Core.List.{List}
@@ -10,13 +11,10 @@ use borrow.Author.Tests.{leb-true, leb-false, le-leb, ltb-true, ltb-false, eqb-t
 use lib.ListN.{length, get_or}
 use lib.Dec.{eqb, ltb, leb}
 use Rattle.system.specs.declared.Cycle.{Cycle}
-use Rattle.system.specs.declared.Pace.TheVariants.{Unpaced, Paced}
 use Rattle.system.specs.declared.System.{System}
 use Rattle.partition.specs.OwnWords.{no_type}
 use Rattle.partition.specs.Plain.{type_no, PaceWithin, LimitsOut}
 use Rattle.runs.specs.declared.Job.{Job}
-use Rattle.runs.specs.declared.Missed.{Missed}
-use Rattle.runs.specs.declared.Missed.TheVariants.{Never, At}
 use Rattle.runs.specs.Run.{job_of, Periods, run_of}
 use Rattle.runs.specs.Trace.{runner, ran_between, idle_before}
 use Rattle.runs.proofs.Choice.{job_at}
@@ -58,22 +56,22 @@ past-test ns q n e l = go (eqb q n) refl
     go false f = ne_eqb (kind_at ns q) 0 (λ (z : kind_at ns q ≡ 0). omega (arith, eqb-false q n f, (stood-type (stood-here ns q (omega (arith, eqb-false q n f)))).0))
 
 -- what is said of the first missed deadline is what the code's report has
-pub kept-never : (m : Missed) → miss_of m ≡ all_kept → m ≡ Never
-kept-never Never e = refl
-kept-never (At d) e = let z : ◌≡◌ {A = ℕ} 0 1 = cc in absurd (omega arith)
+pub kept-never : (m : Option ℕ) → miss_of m ≡ all_kept → m ≡ None
+kept-never None e = refl
+kept-never (Some d) e = let z : ◌≡◌ {A = ℕ} 0 1 = cc in absurd (omega arith)
 
-pub first-at : (m : Missed) (d : ℕ) → miss_of m ≡ first_at d → m ≡ At d
-first-at Never d e = let z : ◌≡◌ {A = ℕ} 0 1 = cc in absurd (omega arith)
-first-at (At k) d e = let same : k ≡ d = cc in ap At same
+pub first-at : (m : Option ℕ) (d : ℕ) → miss_of m ≡ first_at d → m ≡ Some d
+first-at None d e = let z : ◌≡◌ {A = ℕ} 0 1 = cc in absurd (omega arith)
+first-at (Some k) d e = let same : k ≡ d = cc in ap Some same
 
 -- C and T of a type that has them are within their limits
-pub cycle-within : (y : System) → LimitsOut y → (t : ℕ) (c : Cycle) → 1 ≤ t → (type_no y t).pace ≡ Paced c → PaceWithin y.timecap (type_no y t).time c
+pub cycle-within : (y : System) → LimitsOut y → (t : ℕ) (c : Cycle) → 1 ≤ t → (type_no y t).pace ≡ Some c → PaceWithin y.timecap (type_no y t).time c
 cycle-within y limits t c l e = go (leb t y.typecount) refl
   where
     go : (b : Bool) → leb t y.typecount ≡ b → PaceWithin y.timecap (type_no y t).time c
     go true q = limits.paces t c l (leb-true t y.typecount q) e
     go false q =
-        let none : (type_no y t).pace ≡ Unpaced = (limits.past t (leb-false t y.typecount q)).5 in
+        let none : (type_no y t).pace ≡ None = (limits.past t (leb-false t y.typecount q)).5 in
         let z : ◌≡◌ {A = ℕ} 0 1 = cc in
         absurd (omega arith)
 
@@ -88,7 +86,7 @@ module _ (y : System) (counts : List ℕ) (limits : LimitsOut y) (six : length c
   length-js = length-jobs y.types counts same_length
 
   -- C and T of each instance
-  pub has-cycle : (t : ℕ) → 1 ≤ t → t ≤ 6 → 1 ≤ count_no counts t → (c : Cycle) × ((type_no y t).pace ≡ Paced c)
+  pub has-cycle : (t : ℕ) → 1 ≤ t → t ≤ 6 → 1 ≤ count_no counts t → (c : Cycle) × ((type_no y t).pace ≡ Some c)
   has-cycle t l h s = paced-each no_type y.types counts paced (t - 1) (omega (arith, limits.six)) s
 
   pub periods-js : Periods js
@@ -98,7 +96,7 @@ module _ (y : System) (counts : List ℕ) (limits : LimitsOut y) (six : length c
       each k h s =
           let e : suc k - 1 ≡ k = omega arith in
           let f = paced-each no_type y.types counts paced k h s in
-          let g : (type_no y (suc k)).pace ≡ Paced f.0 = ap (λ (n : ℕ). (get_or y.types n no_type).pace) e ∙ f.1 in
+          let g : (type_no y (suc k)).pace ≡ Some f.0 = ap (λ (n : ℕ). (get_or y.types n no_type).pace) e ∙ f.1 in
           rw f.1 (cycle-within y limits (suc k) f.0 (omega arith) g).period.0
 
   -- the schedule that the run makes
@@ -125,7 +123,7 @@ module _ (y : System) (counts : List ℕ) (limits : LimitsOut y) (six : length c
     job : job_at js place ≡ job_of c.run c.period 0 0
     inside : place < length js
 
-  job_is : {p t i : ℕ} {c : Cycle} → Stood counts p t i → (type_no y t).pace ≡ Paced c → job_at js p ≡ job_of c.run c.period 0 0
+  job_is : {p t i : ℕ} {c : Cycle} → Stood counts p t i → (type_no y t).pace ≡ Some c → job_at js p ≡ job_of c.run c.period 0 0
   job_is s e = job-stood y.types no_type same_length s ∙ ap paced_job e
 
   has : {t i : ℕ} {c : Cycle} → Runs y counts t i c → Has t i c
@@ -140,7 +138,7 @@ module _ (y : System) (counts : List ℕ) (limits : LimitsOut y) (six : length c
       go : Stood counts p (kind_at counts p) (instance_at counts p) → (c : Cycle) × Runs y counts (kind_at counts p) (instance_at counts p) c × (job_at js p ≡ job_of c.run c.period 0 0)
       go s = with-cycle (has-cycle (kind_at counts p) (stood-type s).0 (omega (arith, (stood-type s).1)) (omega (arith, (stood-instance s).0, (stood-instance s).1)))
         where
-          with-cycle : (c : Cycle) × ((type_no y (kind_at counts p)).pace ≡ Paced c) → (c : Cycle) × Runs y counts (kind_at counts p) (instance_at counts p) c × (job_at js p ≡ job_of c.run c.period 0 0)
+          with-cycle : (c : Cycle) × ((type_no y (kind_at counts p)).pace ≡ Some c) → (c : Cycle) × Runs y counts (kind_at counts p) (instance_at counts p) c × (job_at js p ≡ job_of c.run c.period 0 0)
           with-cycle (c, e) = (c, record { is_type = ((stood-type s).0, omega (arith, (stood-type s).1)); is_instance = stood-instance s; paced = e }, job_is s e)
 
   -- the ticks that it ran since the last arrival, and when its job is due

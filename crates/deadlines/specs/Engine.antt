@@ -1,7 +1,6 @@
 -- Request 2026-14, the call: from what a file reads as, six counts and a number of ticks to the report of the run, or 44, 45 in this order.
-use Rattle.std.specs.Prelude.{ℕ, ◌+◌, List, [], ◌∷◌, ◌++◌, Bool, true, false, ◌&&◌, ◌||◌, replicate, eqb, leb}
-use Rattle.system.specs.declared.Pace.{Pace}
-use Rattle.system.specs.declared.Pace.TheVariants.{Unpaced, Paced}
+use Rattle.std.specs.Prelude.{ℕ, ◌+◌, List, [], ◌∷◌, ◌++◌, Bool, true, false, ◌&&◌, ◌||◌, replicate, eqb, leb, Option, None, Some}
+use Rattle.system.specs.declared.Cycle.{Cycle}
 use Rattle.system.specs.declared.TaskType.{TaskType}
 use Rattle.system.specs.declared.System.{System}
 use Rattle.system.specs.Limits.{tick_limit}
@@ -12,9 +11,9 @@ use Rattle.runs.specs.Run.{job_of, no_job, job_limit, run_of}
 use Rattle.deadlines.specs.Outcome.{RunOutcome, not_run, reported_as}
 
 -- the type has a C and a T. One past k has none
-abbrev pub has_pace : Pace → Bool
-has_pace Unpaced = false
-has_pace (Paced c) = true
+abbrev pub has_pace : Option Cycle → Bool
+has_pace None = false
+has_pace (Some c) = true
 
 abbrev pub paced_type : TaskType → Bool
 paced_type t = has_pace t.pace
@@ -31,9 +30,9 @@ instances [] = 0
 instances (n ∷ ns) = n + instances ns
 
 -- an instance of a type, before its first job
-abbrev pub paced_job : Pace → Job
-paced_job Unpaced = no_job
-paced_job (Paced c) = job_of c.run c.period 0 0
+abbrev pub paced_job : Option Cycle → Job
+paced_job None = no_job
+paced_job (Some c) = job_of c.run c.period 0 0
 
 abbrev pub job_of_type : TaskType → Job
 job_of_type t = paced_job t.pace

@@ -1,13 +1,13 @@
 -- Request 2026-14 in words of its own: who runs in each tick, how many ticks a job ran between its arrival and its deadline, and what is reported of it.
 -- None of these words stands in the definitions by which the code is described, so that code and statement cannot be wrong together.
-use Rattle.std.specs.Prelude.{ℕ, zero, suc, ◌+◌, ◌-◌, ◌*◌, ◌/◌, ◌%◌, ◌≤◌, ◌<◌, List, cond, ◌&&◌, ◌≡◌, ◌⊎◌, ◌↔◌, get_or, eqb}
+use Rattle.std.specs.Prelude.{ℕ, zero, suc, ◌+◌, ◌-◌, ◌*◌, ◌/◌, ◌%◌, ◌≤◌, ◌<◌, List, cond, ◌&&◌, ◌≡◌, ◌⊎◌, ◌↔◌, get_or, eqb, None, Some, Result}
+use Rattle.system.specs.declared.Refusal.{Refusal}
+use Rattle.runs.specs.declared.Report.{Report}
 use Rattle.system.specs.declared.Cycle.{Cycle}
-use Rattle.system.specs.declared.Pace.TheVariants.{Unpaced, Paced}
 use Rattle.system.specs.declared.System.{System}
 use Rattle.system.specs.Layout.{Reading, opened, unread}
 use Rattle.system.specs.Outcome.{from_input}
 use Rattle.partition.specs.Plain.{type_no}
-use Rattle.deadlines.specs.declared.RunAnswer.{RunAnswer}
 use Rattle.deadlines.specs.Outcome.{FirstMiss, all_kept, first_at, ran, not_run, run_outcome_of}
 use Rattle.deadlines.specs.Engine.{run_engine}
 
@@ -36,7 +36,7 @@ count_no counts t = get_or counts (t - 1) 0
 pub record Runs (y : System) (counts : List ℕ) (t i : ℕ) (c : Cycle) : Type 0 where
   pub is_type : (1 ≤ t) × (t ≤ 6)
   pub is_instance : (1 ≤ i) × (i ≤ count_no counts t)
-  pub paced : (type_no y t).pace ≡ Paced c
+  pub paced : (type_no y t).pace ≡ Some c
 
 -- "jobs arrive at 0 and every T, each due at the next arrival": the last arrival at or before the instant τ, and the deadline of the job that came with it
 abbrev pub arrival : Cycle → ℕ → ℕ
@@ -95,7 +95,7 @@ pub record NoPace (y : System) (counts : List ℕ) : Type 0 where
   pub kind : ℕ
   pub is_type : (1 ≤ kind) × (kind ≤ 6)
   pub some : 1 ≤ count_no counts kind
-  pub without : (y.typecount < kind) ⊎ ((type_no y kind).pace ≡ Unpaced)
+  pub without : (y.typecount < kind) ⊎ ((type_no y kind).pace ≡ None)
 
 -- "45, when instances or ticks exceed the numbers above": "up to 64 instances and 65,535 ticks"
 abbrev pub instances_on : List ℕ → ℕ
@@ -107,7 +107,7 @@ TooMuch counts ticks = (64 < instances_on counts) ⊎ (65535 < ticks)
 -- What the call `run_engine` promises of what every file reads as, six counts and number of ticks: its whole answer; the order of its refusals; and what a
 -- report means.
 -- The bytes of the file are not known here: two files that read alike are run alike
-pub record RunPromises (x : Reading) (counts : List ℕ) (ticks : ℕ) (r : RunAnswer) : Type 0 where
+pub record RunPromises (x : Reading) (counts : List ℕ) (ticks : ℕ) (r : Result Report Refusal) : Type 0 where
   pub answers : run_outcome_of r ≡ run_engine x counts ticks
   pub file_first : (n : ℕ) → x ≡ unread n → run_outcome_of r ≡ not_run from_input n
   pub then44 : (y : System) → x ≡ opened y → (run_outcome_of r ≡ not_run from_input 44) ↔ NoPace y counts

@@ -1,5 +1,7 @@
 -- Request 2026-14: "For every engine of a plan of one kind, unless refused, that report is `none missed`, at each horizon."
-use Rattle.std.specs.Prelude.{ℕ, ◌≤◌, List, [], ◌∷◌, ◌≡◌}
+use Rattle.std.specs.Prelude.{ℕ, ◌≤◌, List, [], ◌∷◌, ◌≡◌, Result}
+use Rattle.system.specs.declared.Refusal.{Refusal}
+use Rattle.runs.specs.declared.Report.{Report}
 use Rattle.system.specs.declared.System.{System}
 use Rattle.system.specs.Layout.{read_file, opened}
 use Rattle.system.specs.Outcome.{Outcome, accepted}
@@ -8,13 +10,12 @@ use Rattle.partition.specs.Lent.{Lent}
 use Rattle.partition.specs.Plain.{EngineOf, record_no}
 use Rattle.planner.specs.declared.EngineRecord.{EngineRecord}
 use Rattle.planner.specs.Demands.{Demand2, entry_no, ListHolds}
-use Rattle.deadlines.specs.declared.RunAnswer.{RunAnswer}
 use Rattle.deadlines.specs.Outcome.{FirstMiss, all_kept, ran, run_outcome_of}
 use Rattle.deadlines.specs.Meaning.{RunPromises}
 
 -- whatever a run of these counts on the file answers, at whatever number of ticks: a report says that none is missed
 abbrev pub NoneMissed : List ℕ → List ℕ → Type 0
-NoneMissed file counts = (ticks : ℕ) (r : RunAnswer) (idle : ℕ) (miss : FirstMiss) → RunPromises (read_file file) counts ticks r → run_outcome_of r ≡ ran idle miss → miss ≡ all_kept
+NoneMissed file counts = (ticks : ℕ) (r : Result Report Refusal) (idle : ℕ) (miss : FirstMiss) → RunPromises (read_file file) counts ticks r → run_outcome_of r ≡ ran idle miss → miss ≡ all_kept
 
 -- of every load of a plan that was given
 abbrev pub PlanRuns : List ℕ → List EngineLoad → Type 0

@@ -4,10 +4,3 @@
 
 use runs::Report;
 use system::Refusal;
-
-// What a run answers: its report, or refused.
-#[derive(Clone, Copy)]
-pub enum RunAnswer {
-    Ran(Report),
-    Refused(Refusal),
-}

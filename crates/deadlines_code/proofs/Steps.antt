@@ -1,14 +1,18 @@
 -- The loops over the six types: what is left of a definition after the types before i, by its next type, and nothing at the end. And the jobs written so far.
+use Rattle.std.proofs.Common.{Option, Ok, Err}
+use Rattle.std.specs.List.{list_all, zip}
 use Prim.Native.Nat.{ℕ, ◌+◌, ◌^◌, ◌≤◌, ◌<◌}
-use mathlib.Core.Path.{◌≡◌, refl, sym, ap, ◌∙◌}
-use mathlib.Core.List.{List, [], ◌++◌, append_assoc, append-nil}
+use mathlib.Core.Path.{◌≡◌, refl, sym, ap, ap₂, ◌∙◌}
+use mathlib.Core.List.{List, [], ◌∷◌, ◌++◌, append_assoc, append-nil}
 use mathlib.Core.Bool.{Bool, true, false, ◌&&◌, ◌||◌, not, false≢true}
-use native.Mathlib.Numerals.{add-one}
 use native.Mathlib.Omega.{arith}
 use borrow.Author.Tests.{leb-true, not-true, not-false}
-use lib.ListN.{length, get_or, set, take, drop, replicate, length-replicate, get_or-replicate, drop_of_length-le}
-use lib.Seq.{drop-cons, take_all, paste, paste-suc, length-paste, take-paste}
+use lib.ListN.{length, take, drop, replicate, length-replicate}
+use lib.Seq.{take_all, paste, length-paste, take-paste}
 use lib.Dec.{eqb}
+use Rattle.system.specs.declared.Opened.{Opened}
+use Rattle.system.specs.Layout.{Reading, opened, Reads}
+use Rattle.system.proofs.Laws.{opened-unless}
 use Rattle.system.specs.Outcome.{from_input, passes, fails, check, and_then, fails_with}
 use Rattle.runs.specs.Run.{job_limit, run_of}
 use Rattle.system.specs.declared.TaskType.{TaskType}
@@ -16,69 +20,25 @@ use Rattle.system.specs.declared.System.{System}
 use Rattle.system.specs.declared.Refusal.{Refusal}
 use Rattle.system.specs.declared.Refusal.TheVariants.{Input, State}
 use Rattle.runs.specs.declared.Report.{Report}
-use Rattle.system.specs.Values.{no_task}
 use Rattle.runs.specs.declared.Job.{Job}
 use Rattle.deadlines.specs.Engine.{paced_type, all_paced, instances, job_of_type, jobs_of, few_instances, few_ticks, few_enough, run_checks, run_over}
 use Rattle.deadlines.specs.Outcome.{reported_as, not_run_for}
 
--- the counts alone
+-- an answer that is no refusal is that of a file that opens
+pub ok-opens : (x : Reading) (r : Opened) → Reads x r → {v : Option ℕ} → r.answer ≡ Ok v → x ≡ opened r.system
+ok-opens x r reads {v = v} e = opened-unless x r reads (λ why f. ok_err why (sym e ∙ f))
+  where
+    ok_err : (why : Refusal) → Ok v ≡ Err why → ⊥
+    ok_err why g = let z : ◌≡◌ {A = ℕ} 0 1 = cc in omega arith
 
-pub instances-turn : (ns : List ℕ) (i : ℕ) → i < length ns → instances (drop i ns) ≡ get_or ns i 0 + instances (drop (i + 1) ns)
-unfolding instances
-instances-turn ns i h = rw (add-one i, drop-cons ns i 0)
-
-pub instances-end : (ns : List ℕ) (i : ℕ) → length ns ≤ i → instances (drop i ns) ≡ 0
-unfolding instances
-instances-end ns i h = rw (drop_of_length-le ns {i = i})
-
--- types and counts
-
-module _ (ts : List TaskType) (ns : List ℕ) (i : ℕ) (ht : i < length ts) (hn : i < length ns) where
-  pub paced-turn :
-      all_paced (drop i ts) (drop i ns) ≡ ((eqb (get_or ns i 0) 0 || paced_type (get_or ts i no_task)) && all_paced (drop (i + 1) ts) (drop (i + 1) ns))
-  unfolding all_paced
-  paced-turn = rw (add-one i, drop-cons ts i no_task, drop-cons ns i 0)
-
-  pub jobs-turn : jobs_of (drop i ts) (drop i ns) ≡ replicate (get_or ns i 0) (job_of_type (get_or ts i no_task)) ++ jobs_of (drop (i + 1) ts) (drop (i + 1) ns)
-  unfolding jobs_of
-  jobs-turn = rw (add-one i, drop-cons ts i no_task, drop-cons ns i 0)
-
-module _ (ts : List TaskType) (ns : List ℕ) (i : ℕ) (h : length ts ≤ i) where
-  pub paced-end : all_paced (drop i ts) ns ≡ true
-  unfolding all_paced
-  paced-end = rw (drop_of_length-le ts {i = i})
-
-  pub jobs-end : jobs_of (drop i ts) ns ≡ []
-  unfolding jobs_of
-  jobs-end = rw (drop_of_length-le ts {i = i})
-
--- a type of which an instance stands and that has no C and T
-module _ (ts : List TaskType) (ns : List ℕ) (i : ℕ) (ht : i < length ts) (hn : i < length ns) (paced : Bool) (e : paced ≡ paced_type (get_or ts i no_task)) where
-  pub paced-found : (not (eqb (get_or ns i 0) 0) && not paced) ≡ true → all_paced (drop i ts) (drop i ns) ≡ false
-  paced-found s = rw (paced-turn ts ns i ht hn, ← e) (go (eqb (get_or ns i 0) 0) paced s)
-    where
-      go : (a b : Bool) → (not a && not b) ≡ true → ((a || b) && all_paced (drop (i + 1) ts) (drop (i + 1) ns)) ≡ false
-      go true b s = let z : false ≡ true = s in absurd (false≢true z)
-      go false true s = absurd (false≢true s)
-      go false false s = refl
-
-  pub paced-more : (not (eqb (get_or ns i 0) 0) && not paced) ≡ false → all_paced (drop i ts) (drop i ns) ≡ all_paced (drop (i + 1) ts) (drop (i + 1) ns)
-  paced-more s = rw (paced-turn ts ns i ht hn, ← e) (go (eqb (get_or ns i 0) 0) paced s)
-    where
-      go : (a b : Bool) → (not a && not b) ≡ false → ((a || b) && all_paced (drop (i + 1) ts) (drop (i + 1) ns)) ≡ all_paced (drop (i + 1) ts) (drop (i + 1) ns)
-      go true b s = refl
-      go false true s = refl
-      go false false s = absurd (false≢true (sym s))
+-- every type with its count
+pub paced-zip : (ts : List TaskType) (ns : List ℕ) → list_all (λ (p : TaskType × ℕ). eqb p.1 0 || paced_type p.0) (zip ts ns) ≡ all_paced ts ns
+unfolding all_paced
+paced-zip [] ns = refl
+paced-zip (t ∷ ts) [] = refl
+paced-zip (t ∷ ts) (n ∷ ns) = ap (λ (b : Bool). (eqb n 0 || paced_type t) && b) (paced-zip ts ns)
 
 -- the jobs of one type, written from a place on
-
-pub wrote-turn : (jobs : List Job) (at count i : ℕ) (j : Job) → at + count ≤ length jobs → i < count
-    → set (paste jobs at (replicate count j) i) (at + i) j ≡ paste jobs at (replicate count j) (i + 1)
-wrote-turn jobs at count i j h l =
-    let n : length (replicate count j) ≡ count = length-replicate count j in
-    ap (λ (k : Job). set (paste jobs at (replicate count j) i) (at + i) k) (sym (get_or-replicate count i j j l))
-    ∙ paste-suc jobs at (replicate count j) i j (omega arith) (omega arith)
-    ∙ rw (add-one i)
 
 pub wrote-all : (jobs : List Job) (at count : ℕ) (j : Job) → paste jobs at (replicate count j) count ≡ take at jobs ++ (replicate count j ++ drop (at + count) jobs)
 wrote-all jobs at count j =
@@ -103,30 +63,38 @@ module _ (jobs next : List Job) (at count : ℕ) (j : Job) (e : next ≡ take at
       ∙ take-paste jobs at (replicate count j) count (omega arith) (omega arith)
       ∙ ap (λ (l : List Job). take at jobs ++ l) (take_all count (replicate count j) (omega arith))
 
--- one type more, and after the last
-module _ (ts : List TaskType) (ns : List ℕ) (i at : ℕ) (jobs whole : List Job) (e : take at jobs ++ jobs_of (drop i ts) (drop i ns) ≡ whole) where
-  pub jobs-more :
-      i < length ts
-      → i < length ns
-      → (next : List Job) (j : Job)
-      → j ≡ job_of_type (get_or ts i no_task)
-      → next ≡ take at jobs ++ (replicate (get_or ns i 0) j ++ drop (at + get_or ns i 0) jobs)
-      → at + get_or ns i 0 ≤ length jobs
-      → take (at + get_or ns i 0) next ++ jobs_of (drop (i + 1) ts) (drop (i + 1) ns) ≡ whole
-  jobs-more ht hn next j same n h =
-      let rest : List Job = jobs_of (drop (i + 1) ts) (drop (i + 1) ns) in
-      ap (λ (l : List Job). l ++ rest) (take-wrote jobs next at (get_or ns i 0) j n h)
-      ∙ append_assoc (take at jobs) (replicate (get_or ns i 0) j) rest
-      ∙ ap (λ (k : Job). take at jobs ++ (replicate (get_or ns i 0) k ++ rest)) same
-      ∙ ap (λ (l : List Job). take at jobs ++ l) (sym (jobs-turn ts ns i ht hn))
+-- one type more with its count
+module _ (ts later : List TaskType) (ns rest : List ℕ) (t : TaskType) (n : ℕ) (et : ts ≡ t ∷ later) (en : ns ≡ n ∷ rest) where
+  pub instances-next : instances ns ≡ n + instances rest
+  unfolding instances
+  instances-next = ap instances en
+
+  jobs-next : jobs_of ts ns ≡ replicate n (job_of_type t) ++ jobs_of later rest
+  unfolding jobs_of
+  jobs-next = ap₂ jobs_of et en
+
+  pub jobs-more : (at : ℕ) (jobs all-jobs : List Job) → take at jobs ++ jobs_of ts ns ≡ all-jobs → (next : List Job) (j : Job) → j ≡ job_of_type t
+      → next ≡ take at jobs ++ (replicate n j ++ drop (at + n) jobs) → at + n ≤ length jobs → take (at + n) next ++ jobs_of later rest ≡ all-jobs
+  jobs-more at jobs all-jobs e next j same is h =
+      let left : List Job = jobs_of later rest in
+      ap (λ (l : List Job). l ++ left) (take-wrote jobs next at n j is h)
+      ∙ append_assoc (take at jobs) (replicate n j) left
+      ∙ ap (λ (k : Job). take at jobs ++ (replicate n k ++ left)) same
+      ∙ ap (λ (l : List Job). take at jobs ++ l) (sym jobs-next)
       ∙ e
 
-  pub jobs-done : length ts ≤ i → at ≡ instances ns → take (instances ns) jobs ≡ whole
-  jobs-done h a =
-      ap (λ (n : ℕ). take n jobs) (sym a)
-      ∙ sym (append-nil (take at jobs))
-      ∙ ap (λ (l : List Job). take at jobs ++ l) (sym (jobs-end ts (drop i ns) i h))
-      ∙ e
+-- after the last
+pub instances-none : (ns : List ℕ) → ns ≡ [] → instances ns ≡ 0
+unfolding instances
+instances-none ns e = ap instances e
+
+pub jobs-done : (ts : List TaskType) (ns all : List ℕ) (at : ℕ) (jobs all-jobs : List Job) → ts ≡ [] → take at jobs ++ jobs_of ts ns ≡ all-jobs → at ≡ instances all → take (instances all) jobs ≡ all-jobs
+unfolding jobs_of
+jobs-done ts ns all at jobs all-jobs none e a =
+    ap (λ (n : ℕ). take n jobs) (sym a)
+    ∙ sym (append-nil (take at jobs))
+    ∙ ap (λ (l : List TaskType). take at jobs ++ jobs_of l ns) (sym none)
+    ∙ e
 
 -- two checks in their order: the first fails, the second does, neither
 module _ (a b : Bool) (m n : ℕ) where

@@ -2,21 +2,19 @@
 // It is proved like everything here, and needs no proof file: `write_system` has no `requires`, and there is no loop.
 #![tactic(auto)]
 
-use system::{Answer, Refusal, System, TaskType};
+use system::{Refusal, System, TaskType};
 use system_code::{blank_system, no_task};
 use writer_code::write_system;
 
 // Writes the file of a system to standard output. A system outside the limits gets its refusal, on standard error.
 fn main(rt: HostRuntime) {
-    let y = first_system();
     // A system of six types, each with data memory, a q, C and T, and costs on a second kind of engine, has a file of 307 bytes. A buffer that is too short
     // is refused 30.
     let mut file = [0u8; 307];
-    let answer = write_system(y, &mut file);
-    match answer {
-        Answer::Number(n) => write_first(&rt, &file, n),
-        Answer::Refused(why) => say_refusal(&rt, why),
-        Answer::Accepted => {}
+    match write_system(first_system(), &mut file) {
+        Ok(Some(n)) => write_first(&rt, &file, n),
+        Ok(None) => {}
+        Err(why) => say_refusal(&rt, why),
     }
 }
 
@@ -36,28 +34,23 @@ fn first_system() -> System {
 // A type: the time and the memory that an instance takes, and how many of it a plan places. Its data memory stays 0 and it has no q, no C and no T, as
 // `no_task` has it.
 fn task(time: u32, memory: u32, ceiling: u16) -> TaskType {
-    let mut t = no_task();
-    t.time = time;
-    t.memory = memory;
-    t.ceiling = ceiling;
-    t
+    TaskType {
+        time,
+        memory,
+        ceiling,
+        ..no_task()
+    }
 }
 
 // The first n bytes of a buffer: the file is as long as the answer says, and what stands past it is no part of it.
 fn write_first(rt: &HostRuntime, buffer: &[u8], n: usize) {
-    if n <= buffer.len() {
-        let _ = rt.write_all(&buffer[0..n]);
+    if let Some(file) = buffer.get(..n) {
+        let _ = rt.write_all(file);
     }
 }
 
 // One line. The writer refuses from the input only.
 fn say_refusal(rt: &HostRuntime, why: Refusal) {
-    match why {
-        Refusal::Input(n) => say_number(rt, n as u64),
-        Refusal::State(n) => say_number(rt, n as u64),
-    }
-}
-
-fn say_number(rt: &HostRuntime, n: u64) {
+    let (Refusal::Input(n) | Refusal::State(n)) = why;
     let _ = eprintln!(rt; "refused {n}");
 }

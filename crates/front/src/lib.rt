@@ -1,16 +1,18 @@
 // What the programs read of standard input: `plan`, `sheet`, `why` and `tight` of a system file, `make` of a text of numbers, `watch` of
-// three numbers and a file, and `sheet_check` of a file and a sheet, joined. One function reads for all of them, as many bytes as it is
-// lent room for; a program has no length to choose, as it is handed the bytes.
+// three numbers and a file, and `sheet_check` of a file and a sheet, joined; and how they write their answer. One function reads for all of them, as many bytes
+// as it is lent room for; a program has no length to choose, as it is handed the bytes.
 //
 // The contracts say that the bytes counted are bytes of the buffer. No contract can say what is read: that it is all there is, at whatever
 // pieces it comes in, and 0 past it, is run. `trial_front` goes on where all three sizes end, and `tests/outside` hands each program its
 // input in pieces.
 #![tactic(auto)]
 
-ghost use Rattle.std.specs.Prelude.{◌≡◌, length};
+ghost use Rattle.std.specs.Prelude.{◌≡◌, ◌≤◌, length, take};
 ghost use Rattle.io.specs.Counts.{IsPrefixLen};
+ghost use Rattle.std.specs.Process.{exit_status};
 
 use std::io::Read;
+use std::process::ExitCode;
 use system::FILE_BYTES;
 
 // What `watch` reads at most: nine bytes for its numbers, and a file as the others read it.
@@ -21,25 +23,14 @@ const JOINED_BYTES: usize = 2 + 4096 + 4096;
 
 // The bytes that were read, 0 past them, and how many they are.
 #[derive(Clone, Copy)]
-pub struct Front {
-    pub bytes: [u8; FILE_BYTES],
+pub struct Front<const N: usize> {
+    pub bytes: [u8; N],
     pub read: usize,
-}
-
-// The same for `watch`, and for `sheet_check`.
-#[derive(Clone, Copy)]
-pub struct Watched {
-    pub bytes: [u8; WATCHED_BYTES],
-    pub read: usize,
-}
-
-#[derive(Clone, Copy)]
-pub struct Joined {
-    pub bytes: [u8; JOINED_BYTES],
-    pub read: usize,
+    ghost within: { IsPrefixLen read bytes },
 }
 
 // Reads until the buffer is full or the input ends, and answers how many bytes were put at its start. A read that fails is an end of the input.
+// Crate trial reads by a function of its own, so that no test rests on what it tests.
 fn read_into(rt: &HostRuntime, bytes: &mut [u8]) -> usize
     ensures { IsPrefixLen result bytes.new }
 {
@@ -55,27 +46,50 @@ fn read_into(rt: &HostRuntime, bytes: &mut [u8]) -> usize
     done
 }
 
+impl<const N: usize> Front<N> {
+    // Reads at most N bytes.
+    fn read(rt: &HostRuntime) -> Front<N>
+        ensures { IsPrefixLen result.read result.bytes × (length result.bytes ≡ N) }
+    {
+        let mut bytes = [0u8; N];
+        let read = read_into(rt, &mut bytes);
+        Front { bytes, read }
+    }
+
+    // The bytes that were read.
+    pub fn as_slice(&self) -> &[u8]
+        ensures { result.now ≡ take self.now.read self.now.bytes }
+    {
+        &self.bytes[..self.read]
+    }
+}
+
 // At most 384 bytes: `plan` reads as many (02).
-pub fn read_front(rt: &HostRuntime) -> Front
+pub fn read_front(rt: &HostRuntime) -> Front<FILE_BYTES>
     ensures { IsPrefixLen result.read result.bytes × (length result.bytes ≡ 384) }
 {
-    let mut bytes = [0u8; FILE_BYTES];
-    let read = read_into(rt, &mut bytes);
-    Front { bytes, read }
+    Front::read(rt)
 }
 
-pub fn read_watched(rt: &HostRuntime) -> Watched
+pub fn read_watched(rt: &HostRuntime) -> Front<WATCHED_BYTES>
     ensures { IsPrefixLen result.read result.bytes × (length result.bytes ≡ 393) }
 {
-    let mut bytes = [0u8; WATCHED_BYTES];
-    let read = read_into(rt, &mut bytes);
-    Watched { bytes, read }
+    Front::read(rt)
 }
 
-pub fn read_joined(rt: &HostRuntime) -> Joined
+pub fn read_joined(rt: &HostRuntime) -> Front<JOINED_BYTES>
     ensures { IsPrefixLen result.read result.bytes × (length result.bytes ≡ 8194) }
 {
-    let mut bytes = [0u8; JOINED_BYTES];
-    let read = read_into(rt, &mut bytes);
-    Joined { bytes, read }
+    Front::read(rt)
+}
+
+// What comes before it stands in each program: the function that answers takes arrays, and a bound `FnOnce` cannot name a const parameter (tried).
+// How a program ends: it writes its answer to standard output, and its status, 0 or 1, says whether all of it could be written.
+pub fn write_answer(rt: &HostRuntime, answer: &[u8]) -> ExitCode
+    ensures { exit_status result ≤ 1 }
+{
+    match rt.write_all(answer) {
+        Ok(()) => ExitCode::SUCCESS,
+        Err(_) => ExitCode::FAILURE,
+    }
 }

@@ -23,10 +23,7 @@ fn loads_after(
     ensures { result ≡ paste loads at more count }
 {
     let mut both = loads;
-    for i in 0..count {
-        let to = at + i;
-        both[to] = more[i];
-    }
+    both[at..at + count].copy_from_slice(&more[..count]);
     both
 }
 
@@ -75,7 +72,7 @@ pub(crate) fn joined(first: Placement, second: Placement, m: usize) -> Mixed
     Mixed {
         placed: true,
         used: first.used + second.used,
-        numbers: numbers,
+        numbers,
         loads: loads_after(loads, first.used, more, second.used),
     }
 }

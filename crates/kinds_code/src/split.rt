@@ -4,7 +4,7 @@ ghost use Rattle.system.specs.Limits.{engine_limit};
 ghost use Rattle.partition.specs.Kinds.{least_at};
 ghost use Rattle.kinds.specs.Inner.{cost_of, cost_at, SplitIn};
 
-// What a split costs that one of the kinds cannot hold: more than any other.
+// What a split costs that one of the kinds cannot hold: more than any other, so that one comparison of costs picks the best, as partition's `least_at` does.
 const NO_SPLIT: u16 = 65535;
 
 // What a split costs where the first kind's column has the row `a` of m, and the second's the row `b` of n: the engines of both kinds together count

@@ -1,6 +1,7 @@
 -- The refusals and demand 2 of the listing, from what a plan promises of the card that the file is: the records that are listed are those of the partition that the plan's loads are.
 -- Of one kind of engine load e is that of engine e, so that the lines tell the partition itself; of two kinds they tell the records under the used engines' own numbers.
 -- The text of a refusal is no plan's, so that it says what the plan's refusal says.
+use Rattle.std.proofs.Common.{Option, None, Some, Err}
 use Prim.Native.Nat.{ℕ, zero, suc, ◌+◌, ◌-◌, ◌≤◌, ◌<◌}
 use mathlib.Core.Path.{◌≡◌, refl, sym, ap, subst, ◌∙◌}
 use mathlib.Core.Bool.{Bool, true, false, cond}
@@ -11,17 +12,13 @@ use borrow.Author.Tests.{eqb-true, eqb-false, leb-true, leb-false}
 use lib.Dec.{eqb, leb}
 use lib.ListN.{length, get_or}
 use Rattle.system.specs.declared.Kind.{Kind}
-use Rattle.system.specs.declared.Second.{Second}
-use Rattle.system.specs.declared.Second.TheVariants.{OneKind, TwoKinds}
 use Rattle.system.specs.declared.System.{System}
-use Rattle.system.specs.declared.Answer.{Answer}
-use Rattle.system.specs.declared.Answer.TheVariants.{Refused}
+use Rattle.system.specs.Outcome.{Answer, accepted, refused, from_input, outcome_of}
 use Rattle.system.specs.declared.Refusal.{Refusal}
 use Rattle.system.specs.declared.Refusal.TheVariants.{Input, State}
 use Rattle.system.specs.Limits.{engine_limit}
 use Rattle.system.specs.Layout.{read_card, read_file, opened, unread}
 use Rattle.system.specs.Card.{card_of}
-use Rattle.system.specs.Outcome.{accepted, refused, from_input, outcome_of}
 use Rattle.system.proofs.Laws.{Limits, CardLimits, read-limits, read-card-limits, read-keeps-card, file-card, card-file}
 use Rattle.system.proofs.CardLaws.{both-engines}
 use Rattle.system.proofs.Cards.{card-is}
@@ -116,14 +113,14 @@ tells y used numbers loads text rule few named idle all stands told = record {
 }
 
 -- an accepted plan is not refused
-not-refused : (a : Answer) (ns : List ℕ) → outcome_of a ≡ accepted ns → (why : Refusal) → a ≡ Refused why → ⊥
+not-refused : (a : Answer) (ns : List ℕ) → outcome_of a ≡ accepted ns → (why : Refusal) → a ≡ Err why → ⊥
 not-refused a ns given (Input n) e = let z : ◌≡◌ {A = ℕ} 0 1 = cc in absurd (omega arith)
 not-refused a ns given (State n) e = let z : ◌≡◌ {A = ℕ} 0 1 = cc in absurd (omega arith)
 
 -- what `write_listing` says of a plan that is not refused
 abbrev Given : Plan → Type 0
 Given p =
-    ((why : Refusal) → p.answer ≡ Refused why → ⊥) → p.used ≤ length p.loads → p.used ≤ length p.numbers
+    ((why : Refusal) → p.answer ≡ Err why → ⊥) → p.used ≤ length p.loads → p.used ≤ length p.numbers
     → ((e : ℕ) → 1 ≤ e → e ≤ p.used → p.typecount ≤ length (record_no p.loads e).counts)
     → TellsRecords p.used p.typecount p.numbers p.loads (plan_listing p)
 
@@ -208,7 +205,7 @@ module _ (file : List ℕ) (table : Lent) (p : Plan) (after : Lent) (promises : 
   one-promised : (y : System) → read_file file ≡ opened y → PlanPromises (opened y) table engine_limit p after
   one-promised y opens = let (card, one) = file-card file y opens in promises.one_kind (opened y) (card-is.one_kind (read_card file) y card one)
 
-  module _ (y : System) (k : Kind) (card : read_card file ≡ opened y) (two : y.second ≡ TwoKinds k) where
+  module _ (y : System) (k : Kind) (card : read_card file ≡ opened y) (two : y.second ≡ Some k) where
     two-promised : MixedPromises y k table engine_limit p after
     two-promised = promises.two_kinds y k (card-is.two_kinds (read_card file) y k card two)
 
@@ -229,9 +226,9 @@ module _ (file : List ℕ) (table : Lent) (p : Plan) (after : Lent) (promises : 
     short_table = λ y card. go y card y.second refl;
   }
     where
-      go : (y : System) → read_card file ≡ opened y → (s : Second) → y.second ≡ s → TellsRefusal 11 (plan_listing p) ↔ TooShort y table
-      go y card OneKind one =
+      go : (y : System) → read_card file ≡ opened y → (s : Option Kind) → y.second ≡ s → TellsRefusal 11 (plan_listing p) ↔ TooShort y table
+      go y card None one =
           let opens = card-file file y card one in
           plan-short y (read-limits file y opens) table p after (one-promised y opens) records
-      go y card (TwoKinds k) two =
+      go y card (Some k) two =
           mixed-short y k (read-card-limits file y card) (two-engines y k card two) table p after (two-promised y k card two) records

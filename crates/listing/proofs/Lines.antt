@@ -1,4 +1,5 @@
 -- The definition's lines are the bytes that a reader finds: a refusal tells its number, and a plan's lines tell the records, each under its engine's number.
+use Rattle.std.proofs.Common.{Ok, Err, Some, None}
 use Prim.Native.Nat.{ℕ, zero, suc, ◌+◌, ◌-◌, ◌≤◌}
 use mathlib.Core.Path.{◌≡◌, refl, sym, ap, ap₂, ◌∙◌}
 use mathlib.Core.List.{List, [], ◌∷◌, ◌++◌, append_assoc, append-nil, append_cancel_right, map}
@@ -7,11 +8,9 @@ use native.Mathlib.Numerals.{add-one}
 use lib.ListN.{length, get_or, take, drop}
 use Rattle.buffer.specs.Written.{Written}
 use Rattle.system.specs.declared.System.{System}
-use Rattle.system.specs.declared.Answer.{Answer}
-use Rattle.system.specs.declared.Answer.TheVariants.{Accepted, Number, Refused}
+use Rattle.system.specs.Outcome.{Answer, Source, refused, from_input, from_state, outcome_of}
 use Rattle.system.specs.declared.Refusal.{Refusal}
 use Rattle.system.specs.declared.Kind.{Kind}
-use Rattle.system.specs.Outcome.{Source, refused, from_input, from_state, outcome_of}
 use Rattle.loads.specs.declared.EngineLoad.{EngineLoad}
 use Rattle.partition.specs.Plain.{record_no}
 use Rattle.partition.specs.PlainKinds.{number_no}
@@ -111,11 +110,11 @@ plan-told used k numbers loads h named each = record {
 
 -- what `write_listing` promises
 
-listing-given : (a : Answer) (used k : ℕ) (records : List EngineRecord) → ((why : Refusal) → a ≡ Refused why → ⊥) → listing_of (outcome_of a) used k records ≡ plan_lines used k records
+listing-given : (a : Answer) (used k : ℕ) (records : List EngineRecord) → ((why : Refusal) → a ≡ Err why → ⊥) → listing_of (outcome_of a) used k records ≡ plan_lines used k records
 unfolding listing_of
-listing-given Accepted used k records h = refl
-listing-given (Number n) used k records h = refl
-listing-given (Refused why) used k records h = absurd (h why refl)
+listing-given (Ok None) used k records h = refl
+listing-given (Ok (Some n)) used k records h = refl
+listing-given (Err why) used k records h = absurd (h why refl)
 
 pub write-promised : (p : Plan) {old new : List ℕ} {r : ℕ} → Written (plan_listing p) old new r → WriteListingPromises p old new r
 write-promised p written = record {

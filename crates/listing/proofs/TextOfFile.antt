@@ -1,5 +1,6 @@
 -- The listing of a file over any table that is long enough is the file's text. Where 11 and 15 pass, what is listed does not know the table: of one kind of engine
 -- the verdict is that of the reading, and the engines are numbered from 1; of two kinds only 12 is left to be judged. The first 384 bytes have the text of the file.
+use Rattle.std.proofs.Common.{Option, None, Some}
 use Prim.Native.Nat.{ℕ, ◌+◌, ◌≤◌}
 use mathlib.Core.Path.{◌≡◌, refl, sym, ap, ◌∙◌}
 use mathlib.Core.Bool.{true}
@@ -8,8 +9,6 @@ use native.Mathlib.Omega.{arith}
 use lib.ListN.{length, take, length-map, length-replicate}
 use borrow.Author.Tests.{le-leb}
 use Rattle.system.specs.declared.Kind.{Kind}
-use Rattle.system.specs.declared.Second.{Second}
-use Rattle.system.specs.declared.Second.TheVariants.{OneKind, TwoKinds}
 use Rattle.system.specs.declared.System.{System}
 use Rattle.system.specs.Values.{ceilings_of}
 use Rattle.system.specs.Limits.{engine_limit}
@@ -84,11 +83,11 @@ module _ (file : List ℕ) (table : Lent) (long : (y : System) → read_card fil
       by-card : (c : Card) → card_of (read_card file) ≡ c → card_listing c table engine_limit ≡ card_text c → file_listing file table ≡ file_text file
       by-card c is same = rw is same
 
-      kinds : (y : System) → read_card file ≡ opened y → (s : Second) → y.second ≡ s → file_listing file table ≡ file_text file
-      kinds y card OneKind one =
+      kinds : (y : System) → read_card file ≡ opened y → (s : Option Kind) → y.second ≡ s → file_listing file table ≡ file_text file
+      kinds y card None one =
           by-card (plain (opened y)) (card-is.one_kind (read_card file) y card one)
           (plain-alone (opened y) table (λ z e. (long-test z (card ∙ e), (read-card-limits file z (card ∙ e)).engines)))
-      kinds y card (TwoKinds k) two =
+      kinds y card (Some k) two =
           by-card (mixed y k) (card-is.two_kinds (read_card file) y k card two)
           (mixed-alone y k table (long-test y card) (both-engines y k (read-keeps-card file y card) two))
 

@@ -1,13 +1,11 @@
 -- What a reader finds in a listing, in bytes, plain arithmetic and assignments of single instances (partition/specs/Plain), whatever a listing is defined as.
-use Rattle.std.specs.Prelude.{ℕ, zero, suc, ◌+◌, ◌-◌, ◌*◌, ◌≤◌, ◌<◌, List, [], ◌∷◌, ◌++◌, Bool, true, cond, ◌&&◌, ◌≡◌, ◌↔◌, length, get_or, leb, eqb}
+use Rattle.std.specs.Prelude.{ℕ, zero, suc, ◌+◌, ◌-◌, ◌*◌, ◌≤◌, ◌<◌, List, [], ◌∷◌, ◌++◌, Bool, true, cond, ◌&&◌, ◌≡◌, ◌↔◌, length, get_or, leb, eqb, Some, Err}
 use Rattle.buffer.specs.Written.{Written}
 use Rattle.system.specs.declared.System.{System}
-use Rattle.system.specs.declared.Answer.TheVariants.{Refused}
 use Rattle.system.specs.declared.Refusal.{Refusal}
 use Rattle.system.specs.declared.Refusal.TheVariants.{Input, State}
 use Rattle.system.specs.Limits.{engine_limit}
 use Rattle.system.specs.declared.Kind.{Kind}
-use Rattle.system.specs.declared.Second.TheVariants.{TwoKinds}
 use Rattle.system.specs.Layout.{read_card, read_file, opened, unread}
 use Rattle.system.specs.Card.{card_of}
 use Rattle.loads.specs.declared.EngineLoad.{EngineLoad}
@@ -109,9 +107,9 @@ pub record TellsMixed (y : System) (k : Kind) (text : List ℕ) : Type 0 where
 pub record ListingDemand2 (file : List ℕ) (table : Lent) (text : List ℕ) : Type 0 where
   pub given : (y : System) → read_file file ≡ opened y → LongEnough y table → (χ : Assignment) → Partition y (EngineOf y) (ceiling_no y) χ → TellsPlan y text
   pub impossible : (y : System) → read_file file ≡ opened y → LongEnough y table → TellsRefusal 12 text ↔ Impossible y (EngineOf y) (ceiling_no y)
-  pub given_mixed : (y : System) (k : Kind) → read_card file ≡ opened y → y.second ≡ TwoKinds k → LongEnough y table → (χ : Assignment)
+  pub given_mixed : (y : System) (k : Kind) → read_card file ≡ opened y → y.second ≡ Some k → LongEnough y table → (χ : Assignment)
       → MixedPartition y k (ceiling_no y) χ → TellsMixed y k text
-  pub impossible_mixed : (y : System) (k : Kind) → read_card file ≡ opened y → y.second ≡ TwoKinds k → LongEnough y table
+  pub impossible_mixed : (y : System) (k : Kind) → read_card file ≡ opened y → y.second ≡ Some k → LongEnough y table
       → TellsRefusal 12 text ↔ MixedImpossible y k (ceiling_no y)
 
 -- before that the number of the file's own refusal, whichever it is, and `refused 11` exactly if a part of the table is shorter than the columns
@@ -133,9 +131,9 @@ pub record RefusalPromises (why : Refusal) (old new : List ℕ) (r : ℕ) : Type
 -- There is a record for each used engine, and in it a count for each type: a plan has 16 records with 6 counts each
 pub record WriteListingPromises (p : Plan) (old new : List ℕ) (r : ℕ) : Type 0 where
   pub written : Written (plan_listing p) old new r
-  pub on_input : (n : ℕ) → p.answer ≡ Refused (Input n) → TellsRefusal n (plan_listing p)
-  pub on_state : (n : ℕ) → p.answer ≡ Refused (State n) → TellsRefusal n (plan_listing p)
-  pub given : ((why : Refusal) → p.answer ≡ Refused why → ⊥) → p.used ≤ length p.loads → p.used ≤ length p.numbers
+  pub on_input : (n : ℕ) → p.answer ≡ Err (Input n) → TellsRefusal n (plan_listing p)
+  pub on_state : (n : ℕ) → p.answer ≡ Err (State n) → TellsRefusal n (plan_listing p)
+  pub given : ((why : Refusal) → p.answer ≡ Err why → ⊥) → p.used ≤ length p.loads → p.used ≤ length p.numbers
       → ((e : ℕ) → 1 ≤ e → e ≤ p.used → p.typecount ≤ length (record_no p.loads e).counts)
       → TellsRecords p.used p.typecount p.numbers p.loads (plan_listing p)
 

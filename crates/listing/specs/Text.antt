@@ -1,10 +1,9 @@
 -- The listing of a file with no table lent: what program `plan` writes, for every file.
-use Rattle.std.specs.Prelude.{ℕ, List, ◌≡◌, ◌↔◌, length, take}
+use Rattle.std.specs.Prelude.{ℕ, List, ◌≡◌, ◌↔◌, length, take, Some}
 use Rattle.buffer.specs.Written.{Counts, Written}
 use Rattle.system.specs.declared.System.{System}
 use Rattle.system.specs.Limits.{engine_limit}
 use Rattle.system.specs.declared.Kind.{Kind}
-use Rattle.system.specs.declared.Second.TheVariants.{TwoKinds}
 use Rattle.system.specs.Layout.{Reading, read_card, read_file, opened, unread}
 use Rattle.system.specs.Card.{Card, plain, mixed, card_of}
 use Rattle.system.specs.Outcome.{from_input, Checked}
@@ -42,8 +41,8 @@ pub record TellsFile (file text : List ℕ) : Type 0 where
   pub impossible : (y : System) → read_file file ≡ opened y → TellsRefusal 12 text ↔ Impossible y (EngineOf y) (ceiling_no y)
   pub given : (y : System) → read_file file ≡ opened y → (χ : Assignment) → Partition y (EngineOf y) (ceiling_no y) χ → TellsPlan y text
   -- and of two kinds of engine
-  pub impossible_mixed : (y : System) (k : Kind) → read_card file ≡ opened y → y.second ≡ TwoKinds k → TellsRefusal 12 text ↔ MixedImpossible y k (ceiling_no y)
-  pub given_mixed : (y : System) (k : Kind) → read_card file ≡ opened y → y.second ≡ TwoKinds k → (χ : Assignment) → MixedPartition y k (ceiling_no y) χ
+  pub impossible_mixed : (y : System) (k : Kind) → read_card file ≡ opened y → y.second ≡ Some k → TellsRefusal 12 text ↔ MixedImpossible y k (ceiling_no y)
+  pub given_mixed : (y : System) (k : Kind) → read_card file ≡ opened y → y.second ≡ Some k → (χ : Assignment) → MixedPartition y k (ceiling_no y) χ
       → TellsMixed y k text
 
 -- what the call `listing_of` promises of its result and the buffer. The plan that it lists is the one that `plan_of` gives over any table that is long enough:

@@ -17,11 +17,11 @@ ghost use Rattle.listing.specs.Text.{TextPromises, ReadPromises};
 use buffer::{least, put_byte, put_bytes};
 use loads::EngineLoad;
 use planner::Plan;
-use system::{Answer, COLUMN_LIMIT, ENGINE_LIMIT, FILE_BYTES, Refusal, TYPE_LIMIT};
+use system::{COLUMN_LIMIT, ENGINE_LIMIT, FILE_BYTES, Refusal, TYPE_LIMIT};
 
 // The words of a listing, one behind the other: all the text that the program has. A word is a part of them, given by its start and its size; `engine` is the
-// first six bytes of `engines`.
-const WORDS: [u8; 26] = *b"enginesutilmemtypesrefused";
+// first six bytes of `engines`. They are a static: of a constant the compiler builds all bytes on the stack, out of numbers in the code, at each use.
+static WORDS: [u8; 26] = *b"enginesutilmemtypesrefused";
 
 // Where `engines` starts, and `engine`.
 const ENGINES: usize = 0;
@@ -41,41 +41,11 @@ const REFUSED: usize = 19;
 // The most digits of a number of 64 bits.
 const NUMBER_ROOM: usize = 20;
 
-// The byte of the words at a place, 0 past their end. Of an arm for each place the compiler makes a table, which is the words as the program's file holds them;
-// for `words[place]` it would build all of them on the stack, out of numbers in the code, at each use.
+// The byte of the words at a place, 0 past their end.
 fn letter(place: usize) -> u8
     ensures { result ≡ get_or (engines_word ++ util_word ++ mem_word ++ types_word ++ refused_word) place 0 }
 {
-    let words = WORDS;
-    match place {
-        0 => words[0],
-        1 => words[1],
-        2 => words[2],
-        3 => words[3],
-        4 => words[4],
-        5 => words[5],
-        6 => words[6],
-        7 => words[7],
-        8 => words[8],
-        9 => words[9],
-        10 => words[10],
-        11 => words[11],
-        12 => words[12],
-        13 => words[13],
-        14 => words[14],
-        15 => words[15],
-        16 => words[16],
-        17 => words[17],
-        18 => words[18],
-        19 => words[19],
-        20 => words[20],
-        21 => words[21],
-        22 => words[22],
-        23 => words[23],
-        24 => words[24],
-        25 => words[25],
-        _ => 0,
-    }
+    WORDS.get(place).copied().unwrap_or(0)
 }
 
 // Puts a number in decimal.
@@ -133,22 +103,11 @@ fn put_entry(out: &mut [u8], at: usize, start: usize, size: usize, n: u64, end: 
     put_numbered(out, at, start, size, &numbers, end)
 }
 
-// A count as a number to put.
-fn wide(n: u16) -> u64
-    ensures { result ≡ n }
-{
-    n as u64
-}
-
 // The counts of a load as numbers to put.
 fn wide_counts(counts: [u16; TYPE_LIMIT]) -> [u64; TYPE_LIMIT]
     ensures { result ≡ counts }
 {
-    let mut numbers = [0u64; TYPE_LIMIT];
-    for t in 0..TYPE_LIMIT {
-        numbers[t] = wide(counts[t]);
-    }
-    numbers
+    counts.map(|count| count as u64)
 }
 
 // Puts the line of one engine.
@@ -159,45 +118,31 @@ fn put_engine(out: &mut [u8], at: usize, number: usize, load: EngineLoad, typeco
     let named = put_entry(out, at, ENGINES, 6, number as u64, b' ');
     let timed = put_entry(out, named, UTIL, 4, load.time as u64, b' ');
     let sized = put_entry(out, timed, MEM, 3, load.memory as u64, b' ');
-    let counts = load.counts;
-    let numbers = wide_counts(counts);
+    let numbers = wide_counts(load.counts);
     let end = least(typecount, TYPE_LIMIT);
     put_numbered(out, sized, TYPES, 5, &numbers[..end], b'\n')
 }
 
-// Puts the lines of the first `used` engines, which have these numbers.
-fn put_engines(
-    out: &mut [u8],
-    at: usize,
-    numbers: [usize; ENGINE_LIMIT],
-    loads: [EngineLoad; ENGINE_LIMIT],
-    used: usize,
-    typecount: usize,
-) -> usize
+// Puts the lines of a plan's used engines, which have these numbers. Numbers and loads stand side by side in `Plan`, whose shape the theorems name.
+fn put_engines(out: &mut [u8], at: usize, p: Plan) -> usize
     requires { at + engines_room ≤ length out.old }
-    ensures { Puts (record_lines typecount (take used (records_with numbers loads))) at out.old out.new result × (result ≤ at + engines_room) }
+    ensures { Puts (record_lines p.typecount (take p.used (records_with p.numbers p.loads))) at out.old out.new result × (result ≤ at + engines_room) }
 {
-    let end = least(used, ENGINE_LIMIT);
+    let end = least(p.used, ENGINE_LIMIT);
     let mut next = at;
     for i in 0..end {
-        next = put_engine(out, next, numbers[i], loads[i], typecount);
+        next = put_engine(out, next, p.numbers[i], p.loads[i], p.typecount);
     }
     next
 }
 
 // Puts the listing of a plan that was given.
-fn put_plan(
-    out: &mut [u8],
-    used: usize,
-    typecount: usize,
-    numbers: [usize; ENGINE_LIMIT],
-    loads: [EngineLoad; ENGINE_LIMIT],
-) -> usize
+fn put_plan(out: &mut [u8], p: Plan) -> usize
     requires { listing_room ≤ length out.old }
-    ensures { Puts (plan_lines used typecount (records_with numbers loads)) 0 out.old out.new result × (result ≤ listing_room) }
+    ensures { Puts (plan_lines p.used p.typecount (records_with p.numbers p.loads)) 0 out.old out.new result × (result ≤ listing_room) }
 {
-    let next = put_entry(out, 0, ENGINES, 7, used as u64, b'\n');
-    put_engines(out, next, numbers, loads, used, typecount)
+    let next = put_entry(out, 0, ENGINES, 7, p.used as u64, b'\n');
+    put_engines(out, next, p)
 }
 
 // Puts the listing of a refusal, from whichever list.
@@ -206,8 +151,7 @@ fn put_refusal(out: &mut [u8], why: Refusal) -> usize
     ensures { Puts (listing_of (refusal_of why) 0 0 []) 0 out.old out.new result × (result ≤ line_room refused_word) }
 {
     match why {
-        Refusal::Input(n) => put_entry(out, 0, REFUSED, 7, n as u64, b'\n'),
-        Refusal::State(n) => put_entry(out, 0, REFUSED, 7, n as u64, b'\n'),
+        Refusal::Input(n) | Refusal::State(n) => put_entry(out, 0, REFUSED, 7, n as u64, b'\n'),
     }
 }
 
@@ -222,13 +166,10 @@ pub fn write_refusal(out: &mut [u8; 4096], why: Refusal) -> usize
 pub fn write_listing(out: &mut [u8; 4096], p: Plan) -> usize
     ensures { WriteListingPromises p out.old out.new result }
 {
-    let answer = p.answer;
-    let Answer::Refused(why) = answer else {
-        let numbers = p.numbers;
-        let loads = p.loads;
-        return put_plan(out, p.used, p.typecount, numbers, loads);
-    };
-    put_refusal(out, why)
+    match p.answer {
+        Ok(_) => put_plan(out, p),
+        Err(why) => put_refusal(out, why),
+    }
 }
 
 // Writes the listing of a system file, planned over the lent table, at the start of the buffer, and answers its length.
@@ -241,8 +182,7 @@ pub fn listing(
 ) -> usize
     ensures { ListingPromises file.now (lent rows.old predecessors.old) out.old out.new result (lent rows.new predecessors.new) }
 {
-    let p = planner_code::plan_of(file, rows, predecessors);
-    write_listing(out, p)
+    write_listing(out, planner_code::plan_of(file, rows, predecessors))
 }
 
 // Writes the listing of a system file at the start of the buffer, and answers its length. The table is the function's own.

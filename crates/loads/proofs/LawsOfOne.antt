@@ -1,5 +1,6 @@
 -- Laws of time, memory, q and fit: what one type takes, the sum over the types, the empty load and a smaller load.
 -- Those of time and memory are proved once, of the sum over the types.
+use Rattle.std.proofs.Common.{Option, None, Some}
 use Prim.Native.Nat.{ℕ, zero, suc, ◌+◌, ◌-◌, ◌*◌, ◌≤◌, ◌<◌, zero-le}
 use mathlib.Core.Path.{◌≡◌, refl, sym, ap, ◌∙◌}
 use mathlib.Core.List.{List, [], ◌∷◌}
@@ -11,8 +12,6 @@ use native.Mathlib.Omega.{arith}
 use borrow.Author.Tests.{leb-true, le-leb, eqb-true, eqb-false, eq-eqb, ne_eqb}
 use lib.ListN.{length, get_or, set, replicate, get_or-eq_default}
 use lib.Dec.{leb, eqb}
-use Rattle.system.specs.declared.Most.{Most}
-use Rattle.system.specs.declared.Most.TheVariants.{NotGiven, AtMost}
 use Rattle.system.specs.declared.TaskType.{TaskType}
 use Rattle.system.specs.declared.System.{System}
 use Rattle.system.specs.Values.{no_task}
@@ -147,39 +146,39 @@ shared-none t x e = ap (λ (b : Bool). cond b 0 (shared_code t x)) (eq-eqb x 0 e
 
 -- intermediate: q of one type
 
-not-given : (q : ℕ) → NotGiven ≡ AtMost q → ⊥
+not-given : (q : ℕ) → None ≡ Some q → ⊥
 not-given q e = let z : ◌≡◌ {A = ℕ} 0 1 = cc in omega arith
 
-same-most : (p q : ℕ) → AtMost p ≡ AtMost q → p ≡ q
+same-most : (p q : ℕ) → Some p ≡ Some q → p ≡ q
 same-most p q e = cc
 
 -- "no engine holds more than q of that type. Without it there is no limit"
-apart_at-keeps : (m : Most) (x : ℕ) → (apart_at m x ≡ true) ↔ ((q : ℕ) → m ≡ AtMost q → x ≤ q)
-apart_at-keeps NotGiven x = ((λ h q e. absurd (not-given q e)), (λ h. refl))
-apart_at-keeps (AtMost p) x = ((λ h q e. omega (arith, leb-true x p h, same-most p q e)), (λ h. le-leb x p (h p refl)))
+apart_at-keeps : (m : Option ℕ) (x : ℕ) → (apart_at m x ≡ true) ↔ ((q : ℕ) → m ≡ Some q → x ≤ q)
+apart_at-keeps None x = ((λ h q e. absurd (not-given q e)), (λ h. refl))
+apart_at-keeps (Some p) x = ((λ h q e. omega (arith, leb-true x p h, same-most p q e)), (λ h. le-leb x p (h p refl)))
 
-apart_at-none : (m : Most) → apart_at m 0 ≡ true
+apart_at-none : (m : Option ℕ) → apart_at m 0 ≡ true
 apart_at-none m = (apart_at-keeps m 0).1 (λ q e. zero-le)
 
-apart_at-le : (m : Most) (x z : ℕ) → x ≤ z → apart_at m z ≡ true → apart_at m x ≡ true
+apart_at-le : (m : Option ℕ) (x z : ℕ) → x ≤ z → apart_at m z ≡ true → apart_at m x ≡ true
 apart_at-le m x z h k = (apart_at-keeps m x).1 (λ q e. le_trans h ((apart_at-keeps m z).0 k q e))
 
 -- main: a load keeps q exactly where each of its counts is at most the q of its type
 
-apart-kept : (ts : List TaskType) (xs : List ℕ) → apart ts xs ≡ true → (i q : ℕ) → (get_or ts i no_task).most ≡ AtMost q → get_or xs i 0 ≤ q
+apart-kept : (ts : List TaskType) (xs : List ℕ) → apart ts xs ≡ true → (i q : ℕ) → (get_or ts i no_task).most ≡ Some q → get_or xs i 0 ≤ q
 unfolding apart
 apart-kept [] xs h i q e = absurd (not-given q e)
 apart-kept (t ∷ ts) [] h i q e = zero-le
 apart-kept (t ∷ ts) (x ∷ xs) h zero q e = (apart_at-keeps t.most x).0 (and_parts (apart_at t.most x) (apart ts xs) h).0 q e
 apart-kept (t ∷ ts) (x ∷ xs) h (suc i) q e = apart-kept ts xs (and_parts (apart_at t.most x) (apart ts xs) h).1 i q e
 
-apart_of : (ts : List TaskType) (xs : List ℕ) → ((i q : ℕ) → (get_or ts i no_task).most ≡ AtMost q → get_or xs i 0 ≤ q) → apart ts xs ≡ true
+apart_of : (ts : List TaskType) (xs : List ℕ) → ((i q : ℕ) → (get_or ts i no_task).most ≡ Some q → get_or xs i 0 ≤ q) → apart ts xs ≡ true
 unfolding apart
 apart_of [] xs h = refl
 apart_of (t ∷ ts) [] h = refl
 apart_of (t ∷ ts) (x ∷ xs) h = and_both (apart_at t.most x) (apart ts xs) ((apart_at-keeps t.most x).1 (h zero)) (apart_of ts xs (λ i. h (suc i)))
 
-pub apart-entries : (ts : List TaskType) (xs : List ℕ) → (apart ts xs ≡ true) ↔ ((i q : ℕ) → (get_or ts i no_task).most ≡ AtMost q → get_or xs i 0 ≤ q)
+pub apart-entries : (ts : List TaskType) (xs : List ℕ) → (apart ts xs ≡ true) ↔ ((i q : ℕ) → (get_or ts i no_task).most ≡ Some q → get_or xs i 0 ≤ q)
 apart-entries ts xs = (apart-kept ts xs, apart_of ts xs)
 
 apart-empty : (ts : List TaskType) (n : ℕ) → apart ts (replicate n 0) ≡ true

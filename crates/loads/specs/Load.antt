@@ -1,7 +1,5 @@
 -- A load, its time, its memory and whether it fits an engine: document 01's "Words". A load is a list, the number of instances of each type in order.
-use Rattle.std.specs.Prelude.{ℕ, ◌+◌, ◌-◌, ◌*◌, List, [], ◌∷◌, Bool, true, false, cond, ◌&&◌, get_or, set, replicate, leb, eqb}
-use Rattle.system.specs.declared.Most.{Most}
-use Rattle.system.specs.declared.Most.TheVariants.{NotGiven, AtMost}
+use Rattle.std.specs.Prelude.{ℕ, ◌+◌, ◌-◌, ◌*◌, List, [], ◌∷◌, Bool, true, false, cond, ◌&&◌, get_or, set, replicate, leb, eqb, Option, None, Some}
 use Rattle.system.specs.declared.TaskType.{TaskType}
 use Rattle.system.specs.declared.System.{System}
 use Rattle.system.specs.Limits.{type_limit}
@@ -34,9 +32,9 @@ abbrev pub sums_of : System → List ℕ → Sums
 sums_of y x = record { time = time_of y.types x; memory = memory_of y.rule y.types x }
 
 -- request 2026-04: "no engine holds more than q of that type. Without it there is no limit"
-abbrev pub apart_at : Most → ℕ → Bool
-apart_at NotGiven x = true
-apart_at (AtMost q) x = leb x q
+abbrev pub apart_at : Option ℕ → ℕ → Bool
+apart_at None x = true
+apart_at (Some q) x = leb x q
 
 -- every count of the load keeps the q of its type
 unfoldable pub apart : List TaskType → List ℕ → Bool

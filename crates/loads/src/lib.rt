@@ -4,7 +4,7 @@
 use system::TYPE_LIMIT;
 
 // What one engine holds: the number of instances of each type, with their time and memory.
-#[derive(Clone, Copy)]
+#[derive(Clone, Copy, PartialEq, Eq)]
 pub struct EngineLoad {
     pub time: u32,
     pub memory: u32,
@@ -12,7 +12,7 @@ pub struct EngineLoad {
 }
 
 // The time and the memory of a load, before anybody asked whether it fits.
-#[derive(Clone, Copy)]
+#[derive(Clone, Copy, PartialEq, Eq)]
 pub struct Sums {
     pub time: u64,
     pub memory: u64,

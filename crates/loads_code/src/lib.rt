@@ -8,7 +8,8 @@ ghost use Rattle.loads.specs.Load.{memory_at, sums_of, apart_at, apart, fits_eng
 ghost use Rattle.loads.specs.Column.{column_of, load_of};
 
 use loads::{EngineLoad, Sums};
-use system::{Most, System, TYPE_LIMIT, TaskType};
+use std::array;
+use system::{System, TYPE_LIMIT, TaskType};
 
 // What `count` instances cost at `each`. Six such products are far below 2^64.
 fn cost(count: u16, each: u32) -> u64
@@ -34,28 +35,22 @@ fn memory_at(rule: u8, task: TaskType, count: u16) -> u64
 pub fn sums_of(y: System, counts: [u16; TYPE_LIMIT]) -> Sums
     ensures { result ≡ sums_of y counts }
 {
-    let types = y.types;
     let mut time: u64 = 0;
     let mut memory: u64 = 0;
-    for i in 0..TYPE_LIMIT {
-        let task = types[i];
-        let count = counts[i];
-        time += cost(count, task.time);
-        memory += memory_at(y.rule, task, count);
+    for (task, count) in y.types.iter().zip(counts.iter()) {
+        time += cost(*count, task.time);
+        memory += memory_at(y.rule, *task, *count);
     }
-    Sums {
-        time: time,
-        memory: memory,
-    }
+    Sums { time, memory }
 }
 
 // Whether `count` instances of one type may be on one engine, by the type's q.
-fn apart_at(most: Most, count: u16) -> bool
+fn apart_at(most: Option<u16>, count: u16) -> bool
     ensures { result ≡ apart_at most count }
 {
     match most {
-        Most::NotGiven => true,
-        Most::AtMost(q) => count <= q,
+        None => true,
+        Some(q) => count <= q,
     }
 }
 
@@ -63,13 +58,10 @@ fn apart_at(most: Most, count: u16) -> bool
 fn apart(types: [TaskType; TYPE_LIMIT], counts: [u16; TYPE_LIMIT]) -> bool
     ensures { result ≡ apart types counts }
 {
-    let mut keep = true;
-    for i in 0..TYPE_LIMIT {
-        let task = types[i];
-        let most = task.most;
-        keep = keep & apart_at(most, counts[i]);
-    }
-    keep
+    types
+        .iter()
+        .zip(counts.iter())
+        .all(|(task, count)| apart_at(task.most, *count))
 }
 
 // Whether a load fits an engine of the system.
@@ -77,8 +69,7 @@ pub fn fits_engine(y: System, counts: [u16; TYPE_LIMIT]) -> bool
     ensures { result ≡ fits_engine y counts }
 {
     let sums = sums_of(y, counts);
-    let types = y.types;
-    (sums.time <= y.timecap as u64) & (sums.memory <= y.memorycap as u64) & apart(types, counts)
+    (sums.time <= y.timecap as u64) & (sums.memory <= y.memorycap as u64) & apart(y.types, counts)
 }
 
 // The engine that holds a load, its sums computed anew.
@@ -90,7 +81,7 @@ pub fn engine_with(y: System, counts: [u16; TYPE_LIMIT]) -> EngineLoad
     EngineLoad {
         time: sums.time as u32,
         memory: sums.memory as u32,
-        counts: counts,
+        counts,
     }
 }
 
@@ -109,29 +100,14 @@ pub fn idle_engine() -> EngineLoad
 pub fn holds_none(counts: [u16; TYPE_LIMIT]) -> bool
     ensures { result ≡ holds_none counts }
 {
-    let mut none = true;
-    for i in 0..TYPE_LIMIT {
-        none = none & (counts[i] == 0);
-    }
-    none
+    counts.iter().all(|count| *count == 0)
 }
 
-// What is left of a when b are taken away: nothing where there are fewer.
-fn difference(a: u16, b: u16) -> u16
-    ensures { result ≡ a - b }
-{
-    if b <= a { a - b } else { 0 }
-}
-
-// The load x less the load y.
+// The load x less the load y: nothing is left of a type of which there are fewer.
 pub fn minus(x: [u16; TYPE_LIMIT], y: [u16; TYPE_LIMIT]) -> [u16; TYPE_LIMIT]
     ensures { result ≡ less x y }
 {
-    let mut left: [u16; TYPE_LIMIT] = [0; TYPE_LIMIT];
-    for i in 0..TYPE_LIMIT {
-        left[i] = difference(x[i], y[i]);
-    }
-    left
+    array::from_fn(|i| x[i].saturating_sub(y[i]))
 }
 
 // The load with one instance more of the type at index i. 65535 is the largest number of a u16: a count there has no next one.
@@ -140,7 +116,7 @@ pub fn one_more(counts: [u16; TYPE_LIMIT], i: usize) -> [u16; TYPE_LIMIT]
     ensures { result ≡ one_more i counts }
 {
     let mut next = counts;
-    next[i] = counts[i] + 1;
+    next[i] += 1;
     next
 }
 
@@ -150,7 +126,7 @@ pub fn one_less(counts: [u16; TYPE_LIMIT], i: usize) -> [u16; TYPE_LIMIT]
     ensures { result ≡ one_less i counts }
 {
     let mut next = counts;
-    next[i] = difference(counts[i], 1);
+    next[i] = counts[i].saturating_sub(1);
     next
 }
 
@@ -180,13 +156,11 @@ pub fn column_of(y: System, counts: [u16; TYPE_LIMIT]) -> usize
     requires { columns y ≤ column_limit }
     ensures { result ≡ column_of (ceilings_of y) counts }
 {
-    let types = y.types;
     let mut stride: usize = 1;
     let mut column: usize = 0;
-    for i in 0..TYPE_LIMIT {
-        let task = types[i];
-        column += wide(counts[i]) * stride;
-        stride = stride * base(task.ceiling);
+    for (task, count) in y.types.iter().zip(counts.iter()) {
+        column += wide(*count) * stride;
+        stride *= base(task.ceiling);
     }
     column
 }
@@ -195,13 +169,11 @@ pub fn column_of(y: System, counts: [u16; TYPE_LIMIT]) -> usize
 pub fn load_of(y: System, column: usize) -> [u16; TYPE_LIMIT]
     ensures { result ≡ load_of (ceilings_of y) column }
 {
-    let types = y.types;
     let mut counts: [u16; TYPE_LIMIT] = [0; TYPE_LIMIT];
     let mut rest = column;
-    for i in 0..TYPE_LIMIT {
-        let task = types[i];
+    for (i, task) in y.types.iter().enumerate() {
         counts[i] = digit(rest, task.ceiling);
-        rest = rest / base(task.ceiling);
+        rest /= base(task.ceiling);
     }
     counts
 }

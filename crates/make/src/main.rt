@@ -2,17 +2,13 @@
 // seven numbers`.
 #![tactic(auto)]
 
-use front::read_front;
+use front::{read_front, write_answer};
 use std::process::ExitCode;
 
 // What was read is enough: `make_read` promises the answer of every text that is shorter than what is read at most, and that any other is not seven numbers.
 fn main(rt: HostRuntime) -> ExitCode {
     let front = read_front(&rt);
-    let bytes = front.bytes;
     let mut out = io::buffer();
-    let written = recipes_code::make_read(bytes, front.read, &mut out);
-    match rt.write_all(&out[..written]) {
-        Ok(()) => ExitCode::SUCCESS,
-        Err(_) => ExitCode::FAILURE,
-    }
+    let written = recipes_code::make_read(front.bytes, front.read, &mut out);
+    write_answer(&rt, &out[..written])
 }

@@ -1,4 +1,6 @@
 -- The system that a recipe makes, in plain words: its platform, the draws of each type, and that it is within document 01's limits, with a file of 13 + 13 × k bytes.
+use Rattle.std.proofs.Common.{None, Option}
+use Rattle.system.specs.declared.Kind.{Kind}
 use Prim.Native.Nat.{ℕ, zero, suc, ◌+◌, ◌-◌, ◌*◌, ◌%◌, ◌^◌, ◌≤◌, ◌<◌}
 use mathlib.Core.Path.{◌≡◌, refl, sym, ap, subst, ◌∙◌}
 use mathlib.Core.List.{List, [], ◌∷◌}
@@ -9,11 +11,6 @@ use borrow.Author.Tests.{leb-true, leb-false, eqb-true, eqb-false}
 use lib.ListN.{length, get_or, set, length-append}
 use lib.Seq.{get_or-set_same, get_or-set_other, ext_get_or}
 use lib.Dec.{leb, eqb}
-use Rattle.system.specs.declared.Most.TheVariants.{NotGiven}
-use Rattle.system.specs.declared.Pace.TheVariants.{Unpaced}
-use Rattle.system.specs.declared.There.TheVariants.{Absent}
-use Rattle.system.specs.declared.Second.{Second}
-use Rattle.system.specs.declared.Second.TheVariants.{OneKind}
 use Rattle.system.specs.declared.TaskType.{TaskType}
 use Rattle.system.specs.declared.System.{System}
 use Rattle.system.specs.Values.{no_task, ceilings_of}
@@ -68,7 +65,7 @@ module _ (w : Recipe) where
   drawn-platform zero = (refl, refl, refl, refl)
   drawn-platform (suc t) = drawn-platform t
 
-  drawn-second : (t : ℕ) → (drawn_to w t).second ≡ OneKind
+  drawn-second : (t : ℕ) → (drawn_to w t).second ≡ None
   unfolding drawn_to
   drawn-second zero = refl
   drawn-second (suc t) = drawn-second t
@@ -151,12 +148,12 @@ module _ (w : Recipe) (y : System) (made : Made w y) (within : NumbersWithin w) 
   made-columns = columns-few (ceilings_of y) w.top w.typecount ceiling-few ceiling-past
 
   -- nothing of a second kind: of types 1 to k by the draws, and past them there is nothing
-  made-absent : (i : ℕ) → (get_or y.types i no_task).there ≡ Absent
+  made-absent : (i : ℕ) → (get_or y.types i no_task).there ≡ None
   made-absent i =
       let same : suc i - 1 ≡ i = omega arith in
-      subst (λ (j : ℕ). (get_or y.types j no_task).there ≡ Absent) same (go (leb (suc i) w.typecount) refl)
+      subst (λ (j : ℕ). (get_or y.types j no_task).there ≡ None) same (go (leb (suc i) w.typecount) refl)
     where
-      go : (b : Bool) → leb (suc i) w.typecount ≡ b → (type_no y (suc i)).there ≡ Absent
+      go : (b : Bool) → leb (suc i) w.typecount ≡ b → (type_no y (suc i)).there ≡ None
       go true q = (made.bare (suc i) (omega arith) (leb-true (suc i) w.typecount q)).3
       go false q = ap (λ (task : TaskType). task.there) (made.past (suc i) (leb-false (suc i) w.typecount q))
 
@@ -196,7 +193,7 @@ module _ (w : Recipe) (y : System) (made : Made w y) (within : NumbersWithin w) 
 
 -- main: the bytes of its file
 
-type-length : (t : TaskType) → t.data ≡ 0 → t.most ≡ NotGiven → t.pace ≡ Unpaced → t.there ≡ Absent → length (type_out false t) ≡ 13
+type-length : (t : TaskType) → t.data ≡ 0 → t.most ≡ None → t.pace ≡ None → t.there ≡ None → length (type_out false t) ≡ 13
 type-length t none bare idle alone = rw (none, bare, idle, alone)
 
 module _ (w : Recipe) (y : System) (made : Made w y) where
@@ -212,7 +209,7 @@ module _ (w : Recipe) (y : System) (made : Made w y) where
   made-length =
       let types : length (types_out (λ (t : ℕ). false) y y.typecount) ≡ 13 * w.typecount =
       ap (λ (k : ℕ). length (types_out (λ (t : ℕ). false) y k)) made.typecount ∙ types-length w.typecount (omega arith) in
-      let second : length (second_out y.second) ≡ 0 = ap (λ (s : Second). length (second_out s)) made.second in
+      let second : length (second_out y.second) ≡ 0 = ap (λ (s : Option Kind). length (second_out s)) made.second in
       omega (arith, length-append (second_out y.second) (types_out (λ (t : ℕ). false) y y.typecount))
 
 -- main: a recipe makes one system

@@ -1,4 +1,5 @@
 -- What the call promises, from the two laws that say its answer and the buffer: the order of refusals, demand 1, and the file that is made and reads back.
+use Rattle.std.proofs.Common.{Err}
 use Prim.Native.Nat.{ℕ, ◌+◌, ◌*◌, ◌^◌, ◌≤◌, ◌<◌}
 use mathlib.Core.Path.{◌≡◌, refl, sym, ap, subst, ◌∙◌}
 use mathlib.Core.List.{List, [], ◌∷◌}
@@ -9,10 +10,8 @@ use borrow.Author.Tests.{ne_eqb}
 use lib.ListN.{length, take, drop}
 use lib.Seq.{take-append_seam}
 use lib.Dec.{eqb}
-use Rattle.system.specs.declared.Answer.{Answer}
-use Rattle.system.specs.declared.Answer.TheVariants.{Refused}
+use Rattle.system.specs.Outcome.{Answer, Source, accepted, refused, outcome_of}
 use Rattle.system.specs.declared.Refusal.TheVariants.{Input}
-use Rattle.system.specs.Outcome.{Source, accepted, refused, outcome_of}
 use Rattle.partition.specs.Plain.{LimitsOut}
 use Rattle.writer.specs.Meaning.{file_out, WritePromises}
 use Rattle.writer.proofs.Exactly.{limits-reads}
@@ -58,11 +57,11 @@ module _ (w : Recipe) (short : w.seed < 2 ^ 64) (old new : List ℕ) (r : Answer
 
 module _ (w : Recipe) (short : w.seed < 2 ^ 64) (old : List ℕ) where
   -- the recipe is refused
-  pub promised-refusal : {fault : ℕ} → fault ≡ recipe_fault w → (fault ≡ 0 → ⊥) → MakePromises w old old (Refused (Input fault))
+  pub promised-refusal : {fault : ℕ} → fault ≡ recipe_fault w → (fault ≡ 0 → ⊥) → MakePromises w old old (Err (Input fault))
   unfolding make_outcome made_in
   promised-refusal {fault = fault} said some =
       let out : eqb (recipe_fault w) 0 ≡ false = rw (← said) (ne_eqb fault 0 some) in
-      make-promises w short old old (Refused (Input fault)) (rw (out, said)) (rw out)
+      make-promises w short old old (Err (Input fault)) (rw (out, said)) (rw out)
       (λ n e. (let z : ◌≡◌ {A = ℕ} 0 1 = cc in absurd (omega arith))) (λ s n e. refl)
 
   -- the writer answers for the system that the recipe makes

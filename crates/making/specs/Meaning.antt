@@ -1,14 +1,9 @@
 -- What the call that makes a file promises, in plain words: the generator bit by bit, the draws of each type, and which numbers are refused.
 -- None of these words stands in the definitions by which the code is described, so that code and statement cannot be wrong together.
-use Rattle.std.specs.Prelude.{ℕ, suc, ◌+◌, ◌-◌, ◌*◌, ◌/◌, ◌%◌, ◌^◌, ◌≤◌, ◌<◌, List, [], ◌∷◌, ◌++◌, ◌≡◌, ◌↔◌, length, take, drop}
-use Rattle.system.specs.declared.Most.TheVariants.{NotGiven}
-use Rattle.system.specs.declared.Pace.TheVariants.{Unpaced}
-use Rattle.system.specs.declared.There.TheVariants.{Absent}
-use Rattle.system.specs.declared.Second.TheVariants.{OneKind}
+use Rattle.std.specs.Prelude.{ℕ, suc, ◌+◌, ◌-◌, ◌*◌, ◌/◌, ◌%◌, ◌^◌, ◌≤◌, ◌<◌, List, [], ◌∷◌, ◌++◌, ◌≡◌, ◌↔◌, length, take, drop, None}
 use Rattle.system.specs.declared.System.{System}
-use Rattle.system.specs.declared.Answer.{Answer}
+use Rattle.system.specs.Outcome.{Answer, Source, accepted, refused, from_input, outcome_of}
 use Rattle.system.specs.Layout.{read_file, opened}
-use Rattle.system.specs.Outcome.{Source, accepted, refused, from_input, outcome_of}
 use Rattle.partition.specs.OwnWords.{no_type}
 use Rattle.partition.specs.Plain.{type_no, LimitsOut}
 use Rattle.writer.specs.Meaning.{file_out}
@@ -56,8 +51,8 @@ pub record Made (w : Recipe) (y : System) : Type 0 where
   pub memories : (t : ℕ) → 1 ≤ t → t ≤ w.typecount → (type_no y t).memory ≡ 1 + value (3 * t - 1) % w.memorycap
   pub ceilings : (t : ℕ) → 1 ≤ t → t ≤ w.typecount → (type_no y t).ceiling ≡ value (3 * t) % (w.top + 1)
   -- no d, no q, no C and T, and nothing on a second kind of engine, which there is not
-  pub bare : (t : ℕ) → 1 ≤ t → t ≤ w.typecount → ((type_no y t).data ≡ 0) × ((type_no y t).most ≡ NotGiven) × ((type_no y t).pace ≡ Unpaced) × ((type_no y t).there ≡ Absent)
-  pub second : y.second ≡ OneKind
+  pub bare : (t : ℕ) → 1 ≤ t → t ≤ w.typecount → ((type_no y t).data ≡ 0) × ((type_no y t).most ≡ None) × ((type_no y t).pace ≡ None) × ((type_no y t).there ≡ None)
+  pub second : y.second ≡ None
   pub six : length y.types ≡ 6
   pub past : (t : ℕ) → w.typecount < t → type_no y t ≡ no_type
 

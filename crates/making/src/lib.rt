@@ -4,7 +4,7 @@
 use system::TaskType;
 
 // What a trial system is made from: the seed, the m, rule, U, S and k that it is to have, and g, the top count.
-#[derive(Clone, Copy)]
+#[derive(Clone, Copy, PartialEq, Eq)]
 pub struct Recipe {
     pub seed: u64,
     pub engines: usize,
@@ -16,7 +16,7 @@ pub struct Recipe {
 }
 
 // A type drawn, and the generator's value after its draws.
-#[derive(Clone, Copy)]
+#[derive(Clone, Copy, PartialEq, Eq)]
 pub struct Draw {
     pub value: u64,
     pub task: TaskType,

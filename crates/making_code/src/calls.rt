@@ -4,7 +4,7 @@ ghost use Rattle.making.specs.Meaning.{MakePromises};
 use crate::drawn::drawn_system;
 use crate::limits::recipe_fault;
 use making::Recipe;
-use system::{Answer, Refusal};
+use system::Answer;
 use writer_code::write_system;
 
 // Writes the file of the system that a recipe makes at the start of the buffer, and answers its length; or 39, 40, 30 in this order, and nothing is written.
@@ -12,9 +12,6 @@ use writer_code::write_system;
 pub fn make_file(w: Recipe, out: &mut [u8]) -> Answer
     ensures { MakePromises w out.old out.new result }
 {
-    let fault = recipe_fault(w);
-    if fault != 0 {
-        return Answer::Refused(Refusal::Input(fault));
-    }
+    recipe_fault(w)?;
     write_system(drawn_system(w), out)
 }

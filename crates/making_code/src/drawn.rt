@@ -32,26 +32,26 @@ fn draw_type(w: Recipe, x: u64) -> Draw
     let first = step(x);
     let second = step(first);
     let third = step(second);
-    let mut task = no_task();
-    task.time = one_to(first, w.timecap);
-    task.memory = one_to(second, w.memorycap);
-    task.ceiling = zero_to(third, w.top);
-    Draw {
-        value: third,
-        task: task,
-    }
+    let task = TaskType {
+        time: one_to(first, w.timecap),
+        memory: one_to(second, w.memorycap),
+        ceiling: zero_to(third, w.top),
+        ..no_task()
+    };
+    Draw { value: third, task }
 }
 
 // The platform, and no type.
 fn drawn_platform(w: Recipe) -> System
     ensures { result ≡ drawn_to w 0 }
 {
-    let mut y = blank_system();
-    y.engines = w.engines;
-    y.rule = w.rule;
-    y.timecap = w.timecap;
-    y.memorycap = w.memorycap;
-    y
+    System {
+        engines: w.engines,
+        rule: w.rule,
+        timecap: w.timecap,
+        memorycap: w.memorycap,
+        ..blank_system()
+    }
 }
 
 // The system with its k types.
@@ -63,8 +63,7 @@ pub fn drawn_system(w: Recipe) -> System
     let mut x = w.seed;
     for t in 0..w.typecount {
         let draw = draw_type(w, x);
-        let task = draw.task;
-        y.types[t] = task;
+        y.types[t] = draw.task;
         y.typecount = t + 1;
         x = draw.value;
     }

@@ -1,23 +1,24 @@
 // What a recipe is refused with: 39, 40, in this order.
 ghost use Rattle.std.specs.Prelude.{◌≡◌, ◌+◌, ◌^◌, leb};
 ghost use Rattle.system.specs.Limits.{column_limit};
+ghost use Rattle.system.specs.Outcome.{within};
 ghost use Rattle.making.specs.Making.{numbers_fault, power_fault, recipe_fault};
 
 use making::Recipe;
-use system::{COLUMN_LIMIT, TYPE_LIMIT};
+use system::{COLUMN_LIMIT, Refusal, TYPE_LIMIT};
 use system_code::platform_fault;
 
 // The seed, U and S are not 0, and every number but g is within its limit: 39.
-fn numbers_fault(w: Recipe) -> u8
-    ensures { result ≡ numbers_fault w }
+fn numbers_fault(w: Recipe) -> Result<(), Refusal>
+    ensures { result ≡ within (numbers_fault w) }
 {
-    let platform = platform_fault(w.engines, w.rule, w.timecap, w.memorycap);
+    let platform = platform_fault(w.engines, w.rule, w.timecap, w.memorycap).is_ok();
     let some = (1 <= w.seed) & (1 <= w.timecap) & (1 <= w.memorycap);
     let counted = (1 <= w.typecount) & (w.typecount <= TYPE_LIMIT);
-    if !(some & (platform == 0) & counted) {
-        return 39;
+    if !(some & platform & counted) {
+        return Err(Refusal::Input(39));
     }
-    0
+    Ok(())
 }
 
 // g + 1 to a power is at most 4,096. A product p × (g + 1) is, exactly where g is less than 4,096 / p: so none is made that is not, and g may be any number.
@@ -36,22 +37,19 @@ fn power_within(top: u64, times: usize) -> bool
 }
 
 // The power of g + 1: 40.
-fn power_fault(w: Recipe) -> u8
-    ensures { result ≡ power_fault w }
+fn power_fault(w: Recipe) -> Result<(), Refusal>
+    ensures { result ≡ within (power_fault w) }
 {
     if !power_within(w.top, w.typecount) {
-        return 40;
+        return Err(Refusal::Input(40));
     }
-    0
+    Ok(())
 }
 
-// All that refuses a recipe, whatever the buffer; 0 where nothing does.
-pub fn recipe_fault(w: Recipe) -> u8
-    ensures { result ≡ recipe_fault w }
+// All that refuses a recipe, whatever the buffer.
+pub fn recipe_fault(w: Recipe) -> Result<(), Refusal>
+    ensures { result ≡ within (recipe_fault w) }
 {
-    let fault = numbers_fault(w);
-    if fault != 0 {
-        return fault;
-    }
+    numbers_fault(w)?;
     power_fault(w)
 }

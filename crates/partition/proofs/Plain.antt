@@ -1,4 +1,5 @@
 -- The plain words of the demands mean what the theory proves: the columns, the limits, partitions as good assignments, the used engines, and the records on the fewest of them.
+use Rattle.std.proofs.Common.{Some, None, Option}
 use Prim.Native.Nat.{ℕ, zero, suc, ◌+◌, ◌-◌, ◌*◌, ◌≤◌, ◌<◌}
 use mathlib.Core.Path.{◌≡◌, refl, sym, ap, subst, ◌∙◌}
 use mathlib.Core.List.{List, [], ◌∷◌, ◌++◌, map}
@@ -10,12 +11,8 @@ use borrow.Author.Tests.{ltb-true, ltb-false}
 use lib.ListN.{length, get_or, length-map, get_or-map}
 use lib.Dec.{eqb, ltb}
 use Rattle.system.specs.declared.Cycle.{Cycle}
-use Rattle.system.specs.declared.Pace.TheVariants.{Paced}
 use Rattle.system.specs.declared.Costs.{Costs}
-use Rattle.system.specs.declared.There.TheVariants.{Absent, Takes}
 use Rattle.system.specs.declared.Kind.{Kind}
-use Rattle.system.specs.declared.Second.{Second}
-use Rattle.system.specs.declared.Second.TheVariants.{OneKind, TwoKinds}
 use Rattle.system.specs.declared.TaskType.{TaskType}
 use Rattle.system.specs.declared.System.{System}
 use Rattle.system.specs.Values.{no_task, ceilings_of}
@@ -88,18 +85,18 @@ module _ (y : System) where
       costs = λ t c low high is. costs-sized (type_no y t).there c (l.costs (t - 1)) is;
     };
     kinds = record {
-      none = λ is t low high. kinds-absent y.typecount y.types (agree OneKind is) (t - 1) (omega arith);
+      none = λ is t low high. kinds-absent y.typecount y.types (agree None is) (t - 1) (omega arith);
       all = λ k is t low high.
           given-takes (type_no y t).there
-          (kinds-given y.typecount y.types (agree (TwoKinds k) is) (t - 1) (omega arith) (omega (arith, l.six, l.typecount)));
+          (kinds-given y.typecount y.types (agree (Some k) is) (t - 1) (omega arith) (omega (arith, l.six, l.typecount)));
     };
   }
     where
-      within : (k : Kind) → y.second ≡ TwoKinds k → KindLimits y.engines k
+      within : (k : Kind) → y.second ≡ Some k → KindLimits y.engines k
       within k is = second-limits y.engines y.second k l.second is
 
-      agree : (s : Second) → y.second ≡ s → kinds_agree (is_one_kind s) y.typecount y.types ≡ true
-      agree s is = ap (λ (x : Second). kinds_agree (is_one_kind x) y.typecount y.types) (sym is) ∙ l.kinds
+      agree : (s : Option Kind) → y.second ≡ s → kinds_agree (is_one_kind s) y.typecount y.types ≡ true
+      agree s is = ap (λ (x : Option Kind). kinds_agree (is_one_kind x) y.typecount y.types) (sym is) ∙ l.kinds
 
   card-back : CardOut y → CardLimits y
   card-back l = record {
@@ -146,18 +143,18 @@ module _ (y : System) where
       paced t low high =
           cycle-keep y.timecap (type_no y t).time (type_no y t).pace (λ c is. pace-back y.timecap (type_no y t).time c (l.paces t c low high is))
 
-      within : (k : Kind) → y.second ≡ TwoKinds k → KindLimits y.engines k
+      within : (k : Kind) → y.second ≡ Some k → KindLimits y.engines k
       within k is =
           let n = l.second k is in
           let c = l.second_sizes.capacities k is in
           record { some-engine = n.0; engines = n.1; time = c.0; memory = c.1 }
 
-      takes-given : (t : ℕ) → (c : Costs) × ((type_no y t).there ≡ Takes c) → given (type_no y t).there ≡ true
+      takes-given : (t : ℕ) → (c : Costs) × ((type_no y t).there ≡ Some c) → given (type_no y t).there ≡ true
       takes-given t (c, is) = ap given is
 
-      agree : (s : Second) → y.second ≡ s → kinds_agree (is_one_kind s) y.typecount y.types ≡ true
-      agree OneKind is = absent-kinds y.typecount y.types (each (λ (task : TaskType). task.there ≡ Absent) refl (l.kinds.none is))
-      agree (TwoKinds k) is =
+      agree : (s : Option Kind) → y.second ≡ s → kinds_agree (is_one_kind s) y.typecount y.types ≡ true
+      agree None is = absent-kinds y.typecount y.types (each (λ (task : TaskType). task.there ≡ None) refl (l.kinds.none is))
+      agree (Some k) is =
           given-kinds y.typecount y.types
           (first (λ (task : TaskType). given task.there ≡ true) (λ t low high. takes-given t (l.kinds.all k is t low high)))
 
@@ -194,10 +191,10 @@ module _ (y : System) where
   limits-back : LimitsOut y → Limits y
   limits-back l = card-limits y (card-back whole) l.one_kind
     where
-      never : (k : Kind) → y.second ≡ TwoKinds k → ⊥
+      never : (k : Kind) → y.second ≡ Some k → ⊥
       never k is = let z : ◌≡◌ {A = ℕ} 0 1 = cc l.one_kind in omega arith
 
-      never-takes : (t : ℕ) (c : Costs) → (type_no y t).there ≡ Takes c → ⊥
+      never-takes : (t : ℕ) (c : Costs) → (type_no y t).there ≡ Some c → ⊥
       never-takes t c is = let z : ◌≡◌ {A = ℕ} 0 1 = cc (l.absent t) in omega arith
 
       whole : CardOut y

@@ -1,5 +1,7 @@
 -- Request 2026-13, "Cards with two kinds of engine": the plain words of a card's plan mean what the theory proves of its two systems. What a type costs on an engine is what it costs in the system of that
 -- engine's kind, so that a good assignment is one that keeps Definition 1 by kinds; the split that is taken is then a partition of all instances on the fewest engines, and on the fewest of the second kind.
+use Rattle.std.proofs.Common.{Some, Option, None}
+use Rattle.system.specs.declared.Costs.{Costs}
 use Prim.Native.Nat.{ℕ, zero, suc, ◌+◌, ◌-◌, ◌≤◌, ◌<◌}
 use mathlib.Core.Path.{◌≡◌, refl, sym, ap, ap₂, subst, ◌∙◌}
 use mathlib.Core.List.{List, [], ◌∷◌, ◌++◌, map}
@@ -12,11 +14,7 @@ use borrow.Author.Tests.{leb-true, leb-false, ltb-true, ltb-false}
 use lib.ListN.{length, get_or, length-map, length-append, get_or-map, get_or-append}
 use lib.Seq.{get_or-append-add}
 use lib.Dec.{leb, ltb}
-use Rattle.system.specs.declared.Most.TheVariants.{AtMost}
-use Rattle.system.specs.declared.There.{There}
-use Rattle.system.specs.declared.There.TheVariants.{Absent, Takes}
 use Rattle.system.specs.declared.Kind.{Kind}
-use Rattle.system.specs.declared.Second.TheVariants.{TwoKinds}
 use Rattle.system.specs.declared.TaskType.{TaskType}
 use Rattle.system.specs.declared.System.{System}
 use Rattle.system.specs.Values.{ceilings_of}
@@ -47,13 +45,13 @@ sum_on-map f each on same [] χ = refl
 sum_on-map f each on same (t ∷ types) [] = refl
 sum_on-map f each on same (t ∷ types) (places ∷ χ) = ap₂ ◌+◌ (same t places) (sum_on-map f each on same types χ)
 
-costing-time : (t : TaskType) (x : There) → (task_costing x t).time ≡ time_there x
-costing-time t Absent = refl
-costing-time t (Takes c) = refl
+costing-time : (t : TaskType) (x : Option Costs) → (task_costing x t).time ≡ time_there x
+costing-time t None = refl
+costing-time t (Some c) = refl
 
-costing-memory : (t : TaskType) (x : There) → (task_costing x t).memory ≡ memory_there x
-costing-memory t Absent = refl
-costing-memory t (Takes c) = refl
+costing-memory : (t : TaskType) (x : Option Costs) → (task_costing x t).memory ≡ memory_there x
+costing-memory t None = refl
+costing-memory t (Some c) = refl
 
 module _ (e : ℕ) (types : List TaskType) (χ : Assignment) where
   time-here : time_on e (map task_here types) χ ≡ time_on e types χ
@@ -87,7 +85,7 @@ module _ (e : ℕ) (types : List TaskType) (χ : Assignment) where
 
 -- main: the two systems of a card
 
-module _ (y : System) (k : Kind) (keeps : keeps_card y ≡ true) (two : y.second ≡ TwoKinds k) where
+module _ (y : System) (k : Kind) (keeps : keeps_card y ≡ true) (two : y.second ≡ Some k) where
   pub card-kinds : KindsOf (first_of y) (second_of y k)
   card-kinds = record { first_keeps = first-keeps y k keeps two; second_keeps = second-keeps y k keeps two; same_ceilings = second-ceilings y k ∙ sym (first-ceilings y) }
 
@@ -108,7 +106,7 @@ module _ (y : System) (k : Kind) (keeps : keeps_card y ≡ true) (two : y.second
     separate = λ t q given e at. apart t q given e at (leb e y.engines) refl;
   }
     where
-      apart : (t q : ℕ) → (type_at y t).most ≡ AtMost q → (e : ℕ) → EitherKind y k e → (b : Bool) → leb e y.engines ≡ b → over_instances e 1 (get_or χ t []) ≤ q
+      apart : (t q : ℕ) → (type_at y t).most ≡ Some q → (e : ℕ) → EitherKind y k e → (b : Bool) → leb e y.engines ≡ b → over_instances e 1 (get_or χ t []) ≤ q
       apart t q given e at true h = (m.on_first e at.0 (leb-true e y.engines h)).separate t q (first-most t ∙ given)
       apart t q given e at false h = (m.on_second e (leb-false e y.engines h) at.1).separate t q (second-most y k t ∙ given)
 
@@ -250,7 +248,7 @@ module _ (y : System) (k : Kind) (χ : Assignment) (e : ℕ) (l : EngineLoad) wh
 
 -- main: the split that is taken, with its loads and numbers, is a partition on the fewest engines
 
-module _ (y : System) (k : Kind) (keeps : keeps_card y ≡ true) (two : y.second ≡ TwoKinds k) (can : mixed_placeable (first_of y) (second_of y k) ≡ true) where
+module _ (y : System) (k : Kind) (keeps : keeps_card y ≡ true) (two : y.second ≡ Some k) (can : mixed_placeable (first_of y) (second_of y k) ≡ true) where
   abbrev ours : ℕ
   ours = used_first (first_of y) (second_of y k)
 
@@ -442,7 +440,7 @@ module _ (y : System) (k : Kind) (keeps : keeps_card y ≡ true) (two : y.second
 
 -- main: 12 means that there is no such partition
 
-pub mixed-impossible : (y : System) (k : Kind) → keeps_card y ≡ true → y.second ≡ TwoKinds k → (mixed_placeable (first_of y) (second_of y k) ≡ false) ↔ MixedImpossible y k (ceiling_no y)
+pub mixed-impossible : (y : System) (k : Kind) → keeps_card y ≡ true → y.second ≡ Some k → (mixed_placeable (first_of y) (second_of y k) ≡ false) ↔ MixedImpossible y k (ceiling_no y)
 mixed-impossible y k keeps two =
     ((λ cannot χ p. not-both (mixed-placeable y k keeps two χ p) cannot), (λ never. go never (mixed_placeable (first_of y) (second_of y k)) refl))
   where

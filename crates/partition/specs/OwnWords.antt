@@ -1,9 +1,6 @@
 -- Source 001, Definition 1, in its own words: what a mapping of single instances to engines must keep, said of the instances themselves.
 -- Nothing here goes through counts or loads, so that a wrong definition of these would be caught by the theorem that the two say the same.
-use Rattle.std.specs.Prelude.{ℕ, ◌+◌, ◌≤◌, ◌<◌, List, [], ◌∷◌, cond, ◌≡◌, length, get_or, eqb}
-use Rattle.system.specs.declared.Most.TheVariants.{NotGiven, AtMost}
-use Rattle.system.specs.declared.Pace.TheVariants.{Unpaced}
-use Rattle.system.specs.declared.There.TheVariants.{Absent}
+use Rattle.std.specs.Prelude.{ℕ, ◌+◌, ◌≤◌, ◌<◌, List, [], ◌∷◌, cond, ◌≡◌, length, get_or, eqb, None, Some}
 use Rattle.system.specs.declared.TaskType.{TaskType}
 use Rattle.system.specs.declared.System.{System}
 use Rattle.partition.specs.Assignment.{Assignment, among}
@@ -41,7 +38,7 @@ shared_memory_on e types χ = code_on e types χ + data_on e types χ
 
 -- type t of the system, from 0; where there is none, a type of nothing
 abbrev pub no_type : TaskType
-no_type = record { time = 0; memory = 0; ceiling = 0; «data» = 0; most = NotGiven; pace = Unpaced; there = Absent }
+no_type = record { time = 0; memory = 0; ceiling = 0; «data» = 0; most = None; pace = None; there = None }
 
 abbrev pub type_at : System → ℕ → TaskType
 type_at y t = get_or y.types t no_type
@@ -61,11 +58,11 @@ pub record Definition1 (y : System) (E : ℕ → Type 0) (χ : Assignment) : Typ
   -- rule 1, shared code: the s of the distinct types among them and the d of the instances sum to at most S
   pub shared_code : y.rule ≡ 1 → (e : ℕ) → E e → shared_memory_on e y.types χ ≤ y.memorycap
   -- replicas (request 2026-04): where q is given for type t, at most q of its instances are sent there, each counting 1
-  pub separate : (t q : ℕ) → (type_at y t).most ≡ AtMost q → (e : ℕ) → E e → over_instances e 1 (get_or χ t []) ≤ q
+  pub separate : (t q : ℕ) → (type_at y t).most ≡ Some q → (e : ℕ) → E e → over_instances e 1 (get_or χ t []) ≤ q
 
 -- the same of one engine e alone (request 2026-13: on a card with two kinds of engine each keeps the numbers of its own kind)
 pub record KeepsOn (y : System) (e : ℕ) (χ : Assignment) : Type 0 where
   pub time : time_on e y.types χ ≤ y.timecap
   pub own_copies : y.rule ≡ 0 → memory_on e y.types χ ≤ y.memorycap
   pub shared_code : y.rule ≡ 1 → shared_memory_on e y.types χ ≤ y.memorycap
-  pub separate : (t q : ℕ) → (type_at y t).most ≡ AtMost q → over_instances e 1 (get_or χ t []) ≤ q
+  pub separate : (t q : ℕ) → (type_at y t).most ≡ Some q → over_instances e 1 (get_or χ t []) ≤ q

@@ -3,14 +3,10 @@
 -- Of the parts of a contract by which code is described none cites them; the promises beside those parts are made of them.
 -- Of the words that such a part cites they go through `among` and `any_of` alone (a number is in a list, one of a list passes a test), which proofs/Lists pins,
 -- so that code and statement cannot be wrong together; laws say that the code's words mean the same.
-use Rattle.std.specs.Prelude.{ℕ, zero, suc, ◌+◌, ◌-◌, ◌*◌, ◌≤◌, ◌<◌, List, [], Bool, cond, ◌≡◌, ◌⊎◌, length, get_or}
-use Rattle.system.specs.declared.Most.TheVariants.{NotGiven, AtMost}
+use Rattle.std.specs.Prelude.{ℕ, zero, suc, ◌+◌, ◌-◌, ◌*◌, ◌≤◌, ◌<◌, List, [], Bool, cond, ◌≡◌, ◌⊎◌, length, get_or, None, Some}
 use Rattle.system.specs.declared.Cycle.{Cycle}
-use Rattle.system.specs.declared.Pace.TheVariants.{Unpaced, Paced}
 use Rattle.system.specs.declared.Costs.{Costs}
-use Rattle.system.specs.declared.There.TheVariants.{Absent, Takes}
 use Rattle.system.specs.declared.Kind.{Kind}
-use Rattle.system.specs.declared.Second.TheVariants.{OneKind, TwoKinds}
 use Rattle.system.specs.declared.TaskType.{TaskType}
 use Rattle.system.specs.declared.System.{System}
 use Rattle.loads.specs.declared.EngineLoad.{EngineLoad}
@@ -48,7 +44,7 @@ pub record PaceWithin (whole u : ℕ) (c : Cycle) : Type 0 where
 
 -- those of types 1 to k, where they are given
 abbrev pub PacesWithin : System → Type 0
-PacesWithin y = (t : ℕ) (c : Cycle) → 1 ≤ t → t ≤ y.typecount → (type_no y t).pace ≡ Paced c → PaceWithin y.timecap (type_no y t).time c
+PacesWithin y = (t : ℕ) (c : Cycle) → 1 ≤ t → t ≤ y.typecount → (type_no y t).pace ≡ Some c → PaceWithin y.timecap (type_no y t).time c
 
 -- the limits of document 01, number by number. That there are six types is what an array of the code always has
 pub record LimitsOut (y : System) : Type 0 where
@@ -59,31 +55,31 @@ pub record LimitsOut (y : System) : Type 0 where
   pub six : length y.types ≡ 6
   pub costs : (t : ℕ) → 1 ≤ t → t ≤ y.typecount → ((type_no y t).time ≤ 1000000) × ((type_no y t).memory ≤ 1000000) × ((type_no y t).data ≤ 1000000)
   -- a q that is given is not 0 (request 2026-04)
-  pub replicas : (t q : ℕ) → 1 ≤ t → t ≤ y.typecount → (type_no y t).most ≡ AtMost q → 1 ≤ q
+  pub replicas : (t q : ℕ) → 1 ≤ t → t ≤ y.typecount → (type_no y t).most ≡ Some q → 1 ≤ q
   -- C and T that are given (request 2026-14)
   pub paces : PacesWithin y
   -- "an entry for .. a type past k (the system's own u, s and n too)" is 0, and so is its d, and it has no q, no C and no T
-  pub past : (t : ℕ) → y.typecount < t → ((type_no y t).time ≡ 0) × ((type_no y t).memory ≡ 0) × ((type_no y t).ceiling ≡ 0) × ((type_no y t).data ≡ 0) × ((type_no y t).most ≡ NotGiven) × ((type_no y t).pace ≡ Unpaced)
+  pub past : (t : ℕ) → y.typecount < t → ((type_no y t).time ≡ 0) × ((type_no y t).memory ≡ 0) × ((type_no y t).ceiling ≡ 0) × ((type_no y t).data ≡ 0) × ((type_no y t).most ≡ None) × ((type_no y t).pace ≡ None)
   pub columns : columns_out y ≤ 4096
   -- one kind of engine, and of no type anything on a second (request 2026-13)
-  pub one_kind : y.second ≡ OneKind
-  pub absent : (t : ℕ) → (type_no y t).there ≡ Absent
+  pub one_kind : y.second ≡ None
+  pub absent : (t : ℕ) → (type_no y t).there ≡ None
 
 -- Request 2026-13, "Cards with two kinds of engine": the limits of a card, of one kind or of two
 
 -- "at least 1, total still at most 16"
 abbrev pub SecondWithin : System → Type 0
-SecondWithin y = (k : Kind) → y.second ≡ TwoKinds k → (1 ≤ k.number) × (y.engines + k.number ≤ 16)
+SecondWithin y = (k : Kind) → y.second ≡ Some k → (1 ≤ k.number) × (y.engines + k.number ≤ 16)
 
 -- the second kind's U and S, and u and s of types 1 to k there, are at most 1,000,000
 pub record SecondSizes (y : System) : Type 0 where
-  pub capacities : (k : Kind) → y.second ≡ TwoKinds k → (k.timecap ≤ 1000000) × (k.memorycap ≤ 1000000)
-  pub costs : (t : ℕ) (c : Costs) → 1 ≤ t → t ≤ y.typecount → (type_no y t).there ≡ Takes c → (c.time ≤ 1000000) × (c.memory ≤ 1000000)
+  pub capacities : (k : Kind) → y.second ≡ Some k → (k.timecap ≤ 1000000) × (k.memorycap ≤ 1000000)
+  pub costs : (t : ℕ) (c : Costs) → 1 ≤ t → t ≤ y.typecount → (type_no y t).there ≡ Some c → (c.time ≤ 1000000) × (c.memory ≤ 1000000)
 
 -- "Either all are present or none": without a second kind no type 1 to k has u and s there, with it each has
 pub record AllOrNone (y : System) : Type 0 where
-  pub none : y.second ≡ OneKind → (t : ℕ) → 1 ≤ t → t ≤ y.typecount → (type_no y t).there ≡ Absent
-  pub all : (k : Kind) → y.second ≡ TwoKinds k → (t : ℕ) → 1 ≤ t → t ≤ y.typecount → (c : Costs) × ((type_no y t).there ≡ Takes c)
+  pub none : y.second ≡ None → (t : ℕ) → 1 ≤ t → t ≤ y.typecount → (type_no y t).there ≡ None
+  pub all : (k : Kind) → y.second ≡ Some k → (t : ℕ) → 1 ≤ t → t ≤ y.typecount → (c : Costs) × ((type_no y t).there ≡ Some c)
 
 -- the limits of document 01 for such a card, number by number
 pub record CardOut (y : System) : Type 0 where
@@ -93,7 +89,7 @@ pub record CardOut (y : System) : Type 0 where
   pub known : (1 ≤ y.typecount) × (y.typecount ≤ 6)
   pub six : length y.types ≡ 6
   pub costs : (t : ℕ) → 1 ≤ t → t ≤ y.typecount → ((type_no y t).time ≤ 1000000) × ((type_no y t).memory ≤ 1000000) × ((type_no y t).data ≤ 1000000)
-  pub replicas : (t q : ℕ) → 1 ≤ t → t ≤ y.typecount → (type_no y t).most ≡ AtMost q → 1 ≤ q
+  pub replicas : (t q : ℕ) → 1 ≤ t → t ≤ y.typecount → (type_no y t).most ≡ Some q → 1 ≤ q
   pub paces : PacesWithin y
   pub past : (t : ℕ) → y.typecount < t → type_no y t ≡ no_type
   pub columns : columns_out y ≤ 4096

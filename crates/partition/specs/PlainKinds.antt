@@ -1,10 +1,8 @@
 -- Request 2026-13 in plain words, "Cards with two kinds of engine": source 001's Definition 1 with the kind's own u, s, U and S, and what a plan of such a
 -- card is.
 -- As in `Plain`, of the parts of a contract by which code is described none cites them; the promises beside those parts are made of them.
-use Rattle.std.specs.Prelude.{ℕ, zero, suc, ◌+◌, ◌-◌, ◌≤◌, ◌<◌, List, [], true, false, cond, ◌≡◌, length, get_or}
-use Rattle.system.specs.declared.Most.TheVariants.{AtMost}
-use Rattle.system.specs.declared.There.{There}
-use Rattle.system.specs.declared.There.TheVariants.{Absent, Takes}
+use Rattle.std.specs.Prelude.{ℕ, zero, suc, ◌+◌, ◌-◌, ◌≤◌, ◌<◌, List, [], true, false, cond, ◌≡◌, length, get_or, Some, Option, None}
+use Rattle.system.specs.declared.Costs.{Costs}
 use Rattle.system.specs.declared.Kind.{Kind}
 use Rattle.system.specs.declared.TaskType.{TaskType}
 use Rattle.system.specs.declared.System.{System}
@@ -26,13 +24,13 @@ EitherKind y k e = (1 ≤ e) × (e ≤ y.engines + k.number)
 
 -- The costs on the second kind: "Tag 7 .. gives u and s there"
 
-abbrev pub time_there : There → ℕ
-time_there Absent = 0
-time_there (Takes c) = c.time
+abbrev pub time_there : Option Costs → ℕ
+time_there None = 0
+time_there (Some c) = c.time
 
-abbrev pub memory_there : There → ℕ
-memory_there Absent = 0
-memory_there (Takes c) = c.memory
+abbrev pub memory_there : Option Costs → ℕ
+memory_there None = 0
+memory_there (Some c) = c.memory
 
 -- u there summed over all instances on engine e
 abbrev pub time_there_on : ℕ → List TaskType → Assignment → ℕ
@@ -58,7 +56,7 @@ pub record DefinitionKinds (y : System) (k : Kind) (χ : Assignment) : Type 0 wh
   pub own_copies_second : y.rule ≡ 0 → (e : ℕ) → SecondKind y k e → memory_there_on e y.types χ ≤ k.memorycap
   pub shared_code : y.rule ≡ 1 → (e : ℕ) → FirstKind y e → shared_memory_on e y.types χ ≤ y.memorycap
   pub shared_code_second : y.rule ≡ 1 → (e : ℕ) → SecondKind y k e → shared_there_on e y.types χ ≤ k.memorycap
-  pub separate : (t q : ℕ) → (type_at y t).most ≡ AtMost q → (e : ℕ) → EitherKind y k e → over_instances e 1 (get_or χ t []) ≤ q
+  pub separate : (t q : ℕ) → (type_at y t).most ≡ Some q → (e : ℕ) → EitherKind y k e → over_instances e 1 (get_or χ t []) ≤ q
 
 -- χ sends count(t) instances of each type t to the engines of both kinds, and nothing else, and keeps it
 pub record MixedPartition (y : System) (k : Kind) (count : ℕ → ℕ) (χ : Assignment) : Type 0 where

@@ -1,17 +1,13 @@
 // Program `plan`: reads a system file from standard input and writes its listing to standard output, nothing else.
 #![tactic(auto)]
 
-use front::read_front;
+use front::{read_front, write_answer};
 use std::process::ExitCode;
 
 // What was read is enough: what `listing_read` promises it promises of every file that begins with what was read.
 fn main(rt: HostRuntime) -> ExitCode {
     let front = read_front(&rt);
-    let bytes = front.bytes;
     let mut out = io::buffer();
-    let written = listing_code::listing_read(bytes, front.read, &mut out);
-    match rt.write_all(&out[..written]) {
-        Ok(()) => ExitCode::SUCCESS,
-        Err(_) => ExitCode::FAILURE,
-    }
+    let written = listing_code::listing_read(front.bytes, front.read, &mut out);
+    write_answer(&rt, &out[..written])
 }

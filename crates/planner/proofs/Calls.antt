@@ -1,5 +1,6 @@
 -- What both plan calls promise of any card (request 2026-13). Of one kind of engine it is what was shown of the file as it reads where one kind is wanted; of two kinds it is what `MixedPlans` shows. The lent list after a plan into it
 -- has the records of the used engines at its front, whichever the kinds (`list-call`).
+use Rattle.std.proofs.Common.{None, Some}
 use Prim.Native.Nat.{ℕ, ◌+◌, ◌-◌, ◌≤◌}
 use mathlib.Core.Path.{◌≡◌, refl, sym, ap, subst, ◌∙◌}
 use mathlib.Core.List.{List, [], ◌∷◌}
@@ -7,14 +8,12 @@ use mathlib.Core.Bool.{true}
 use native.Mathlib.Omega.{arith}
 use lib.ListN.{length, get_or}
 use Rattle.system.specs.declared.Kind.{Kind}
-use Rattle.system.specs.declared.Answer.{Answer}
+use Rattle.system.specs.Outcome.{Answer, Source, accepted, refused, outcome_of, Checked}
 use Rattle.system.specs.declared.Opened.{Opened}
-use Rattle.system.specs.declared.Second.TheVariants.{OneKind, TwoKinds}
 use Rattle.system.specs.declared.System.{System}
 use Rattle.system.specs.Limits.{engine_limit}
 use Rattle.system.specs.Layout.{Reading, opened, unread, read_system, Reads, read_card, read_file}
 use Rattle.system.specs.Card.{Card, plain, mixed, card_of}
-use Rattle.system.specs.Outcome.{Source, accepted, refused, outcome_of, Checked}
 use Rattle.system.proofs.Laws.{read-keeps-card, card-file, card-refused}
 use Rattle.partition.specs.Assignment.{engines_to}
 use Rattle.partition.specs.Lent.{Lent}
@@ -39,22 +38,22 @@ use Rattle.planner.proofs.MixedPlans.{can_mix, MixedCase, too_short, too_small, 
 -- main: what the reader says of the card
 
 -- one kind: a file that does not read hands out a system of one kind
-pub one-card : (file : List ℕ) (r : Opened) → Reads (read_card file) r → r.system.second ≡ OneKind → card_of (read_card file) ≡ plain (read_file file)
+pub one-card : (file : List ℕ) (r : Opened) → Reads (read_card file) r → r.system.second ≡ None → card_of (read_card file) ≡ plain (read_file file)
 one-card file r reads one = go (read_card file) refl reads.system
   where
     go : (x : Reading) → read_card file ≡ x → r.system ≡ read_system x → card_of (read_card file) ≡ plain (read_file file)
     go (unread n) is same = card-unread (read_card file) n is ∙ ap plain (sym (card-refused file n is))
     go (opened y) is same =
-        let kind : y.second ≡ OneKind = ap (λ (z : System). z.second) (sym same) ∙ one in
+        let kind : y.second ≡ None = ap (λ (z : System). z.second) (sym same) ∙ one in
         card-one (read_card file) y is kind ∙ ap plain (sym (card-file file y is kind))
 
 -- two kinds: the file opened, and the card keeps the limits
-pub two-card : (file : List ℕ) (r : Opened) (k : Kind) → Reads (read_card file) r → r.system.second ≡ TwoKinds k → TwoKindCard r.system k × (card_of (read_card file) ≡ mixed r.system k)
+pub two-card : (file : List ℕ) (r : Opened) (k : Kind) → Reads (read_card file) r → r.system.second ≡ Some k → TwoKindCard r.system k × (card_of (read_card file) ≡ mixed r.system k)
 two-card file r k reads two = go (read_card file) refl reads.system
   where
     go : (x : Reading) → read_card file ≡ x → r.system ≡ read_system x → TwoKindCard r.system k × (card_of (read_card file) ≡ mixed r.system k)
     go (unread n) is same =
-        let none : OneKind ≡ TwoKinds k = ap (λ (z : System). z.second) (sym same) ∙ two in
+        let none : None ≡ Some k = ap (λ (z : System). z.second) (sym same) ∙ two in
         let z : ◌≡◌ {A = ℕ} 0 1 = cc in absurd (omega arith)
     go (opened y) is same =
         let reads_as : read_card file ≡ opened r.system = is ∙ ap opened (sym same) in

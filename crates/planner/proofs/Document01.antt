@@ -8,10 +8,9 @@ use native.Mathlib.Omega.{arith}
 use borrow.Author.Tests.{le-leb}
 use lib.ListN.{length, get_or}
 use Rattle.system.specs.declared.System.{System}
-use Rattle.system.specs.declared.Answer.{Answer}
+use Rattle.system.specs.Outcome.{Answer, accepted, outcome_of}
 use Rattle.system.specs.Values.{ceilings_of}
 use Rattle.system.specs.Layout.{Reading, opened, read_file}
-use Rattle.system.specs.Outcome.{accepted, outcome_of}
 use Rattle.system.proofs.Laws.{Limits, read-limits}
 use Rattle.loads.proofs.Order.{within-refl}
 use Rattle.partition.specs.Assignment.{engines_to}

@@ -1,4 +1,5 @@
 -- One law for each way in which a plan ends: what the code hands out there is what the plan is defined as.
+use Rattle.std.proofs.Common.{Ok, Err, Some}
 use Prim.Native.Nat.{ℕ}
 use mathlib.Core.Path.{◌≡◌, refl, sym, ap, ◌∙◌}
 use mathlib.Core.Bool.{Bool, true, false, true≢false}
@@ -6,12 +7,11 @@ use Rattle.system.specs.declared.System.{System}
 use Rattle.system.specs.declared.Opened.{Opened}
 use Rattle.system.specs.declared.Refusal.{Refusal}
 use Rattle.system.specs.declared.Refusal.TheVariants.{Input, State}
-use Rattle.system.specs.declared.Answer.TheVariants.{Accepted, Number, Refused}
 use Rattle.system.specs.Values.{ceilings_of}
 use Rattle.system.specs.Limits.{engine_limit}
-use Rattle.system.specs.Layout.{Reading, opened, Reads}
-use Rattle.system.specs.Outcome.{outcome_of, from_input, Checked, passes, and_then, fails_with}
-use Rattle.system.proofs.Laws.{reads-unread}
+use Rattle.system.specs.Layout.{Reading, opened, unread, Reads}
+use Rattle.system.specs.Outcome.{outcome_of, refused, from_input, refusal_of, Checked, passes, and_then, fails_with}
+use Rattle.system.proofs.Laws.{unread-with}
 use Rattle.partition.specs.Assignment.{engines_to}
 use Rattle.partition.specs.ForSystem.{placeable}
 use Rattle.partition.specs.Lent.{Lent}
@@ -32,19 +32,22 @@ pub record Plans (x : Reading) (table : Lent) (room : ℕ) (r : Plan) (after : L
 
 -- what the code hands out where the instances cannot be placed, and where they are placed
 abbrev none_plan : Plan
-none_plan = refused_plan (Refused (Input 12))
+none_plan = refused_plan (Err (Input 12))
 
 abbrev given_plan : System → Placement → Plan
-given_plan y p = record { answer = Number p.used; used = p.used; typecount = y.typecount; numbers = engines_to engine_limit; loads = p.loads }
+given_plan y p = record { answer = Ok (Some p.used); used = p.used; typecount = y.typecount; numbers = engines_to engine_limit; loads = p.loads }
 
 -- ---- a file that was refused
 
--- the answer of the reader is that of the plan
-pub unread-plans : (x : Reading) (r : Opened) → Reads x r → (table : Lent) (room : ℕ) → (r.answer ≡ Accepted → ⊥) → Plans x table room (refused_plan r.answer) table
+number-plans : (x : Reading) (n : ℕ) → x ≡ unread n → (table : Lent) (room : ℕ) (why : Refusal) → refusal_of why ≡ refused from_input n → Plans x table room (refused_plan (Err why)) table
 unfolding verdict_of
-unread-plans x r reads table room h =
-    let (n, is) = reads-unread x r reads h in
-    record { answer = reads.answer ∙ rw is; used = rw is; typecount = rw is; numbers = refl; loads = rw is; left = rw is }
+number-plans x n is table room why number = record { answer = number ∙ rw is; used = rw is; typecount = rw is; numbers = refl; loads = rw is; left = rw is }
+
+-- the answer of the reader is that of the plan
+pub unread-plans : (x : Reading) (r : Opened) → Reads x r → (table : Lent) (room : ℕ) (why : Refusal) → r.answer ≡ Err why → Plans x table room (refused_plan (Err why)) table
+unread-plans x r reads table room why h =
+    let (n, is, number) = unread-with x r reads why h in
+    number-plans x n is table room why number
 
 -- ---- a file that reads as y
 
@@ -62,7 +65,7 @@ module _ (x : Reading) (y : System) (is : x ≡ opened y) (table : Lent) (room :
   plans-of v same r after a u t n l left = record { answer = rw same a; used = rw same u; typecount = rw same t; numbers = n; loads = rw same l; left = sym left }
 
   -- 11 or 15
-  pub lent-plans : (why : Refusal) → fails_with why ≡ lent_check y table room → Plans x table room (refused_plan (Refused why)) table
+  pub lent-plans : (why : Refusal) → fails_with why ≡ lent_check y table room → Plans x table room (refused_plan (Err why)) table
   lent-plans (Input n) failed = plans-of _ (verdict-by _ failed) _ _ refl refl refl refl refl (table-by _ failed)
   lent-plans (State n) failed = plans-of _ (verdict-by _ failed) _ _ refl refl refl refl refl (table-by _ failed)
 

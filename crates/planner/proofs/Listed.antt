@@ -7,10 +7,9 @@ use native.Mathlib.Omega.{arith}
 use lib.ListN.{length, get_or}
 use Rattle.system.specs.declared.TaskType.{TaskType}
 use Rattle.system.specs.declared.System.{System}
-use Rattle.system.specs.declared.Answer.{Answer}
+use Rattle.system.specs.Outcome.{Answer, accepted, refused, from_input, outcome_of}
 use Rattle.system.specs.Limits.{engine_limit}
 use Rattle.system.specs.Layout.{Reading, opened, unread, read_file}
-use Rattle.system.specs.Outcome.{accepted, refused, from_input, outcome_of}
 use Rattle.system.proofs.Laws.{Limits, read-limits}
 use Rattle.loads.specs.declared.EngineLoad.{EngineLoad}
 use Rattle.partition.specs.Assignment.{Assignment}

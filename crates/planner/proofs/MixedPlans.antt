@@ -1,5 +1,6 @@
 -- Request 2026-13, the plan of a card of two kinds. Its verdict and the table after it go by four cases, each with its evidence in plain arithmetic (`mixed_case_of`); in each case the order of refusals and both demands are what
 -- partition proves of the card's two systems (`mixed-promises`). One law for each exit of `plan_mixed` says that what the code hands out there is the plan as it is defined.
+use Rattle.std.proofs.Common.{Ok, Err, Some}
 use Prim.Native.Nat.{ℕ, ◌+◌, ◌-◌, ◌<◌, ◌≤◌}
 use mathlib.Core.Path.{◌≡◌, refl, sym, ap, subst, ◌∙◌}
 use mathlib.Core.List.{List, [], ◌∷◌}
@@ -13,7 +14,6 @@ use lib.Dec.{leb, ltb}
 use Rattle.system.specs.declared.Kind.{Kind}
 use Rattle.system.specs.declared.Refusal.{Refusal}
 use Rattle.system.specs.declared.Refusal.TheVariants.{Input, State}
-use Rattle.system.specs.declared.Answer.TheVariants.{Number, Refused}
 use Rattle.system.specs.declared.System.{System}
 use Rattle.system.specs.Limits.{engine_limit}
 use Rattle.system.specs.Card.{mixed, first_of, second_of}
@@ -273,7 +273,7 @@ module _ (y : System) (k : Kind) (card : TwoKindCard y k) (table : Lent) (room :
   table-by c e = ap (λ (d : Checked). table_left d table (filled_first y table)) (sym e)
 
   -- 11 or 15
-  pub mixed-lent : (why : Refusal) → fails_with why ≡ mixed_lent_check y k table room → MixedPlans y k table room (refused_plan (Refused why)) table
+  pub mixed-lent : (why : Refusal) → fails_with why ≡ mixed_lent_check y k table room → MixedPlans y k table room (refused_plan (Err why)) table
   mixed-lent (Input n) failed = plans-by _ (checks-by _ failed) _ _ refl refl refl refl refl (sym (table-by _ failed))
   mixed-lent (State n) failed = plans-by _ (checks-by _ failed) _ _ refl refl refl refl refl (sym (table-by _ failed))
 
@@ -292,17 +292,17 @@ module _ (y : System) (k : Kind) (card : TwoKindCard y k) (table : Lent) (room :
 
   -- with the placement of all instances
   module _ (passed : passes ≡ mixed_lent_check y k table room) (p : Mixed) (same : p ≡ mixed_plan y k) where
-    pub mixed-none : p.placed ≡ false → MixedPlans y k table room (refused_plan (Refused (Input 12))) (filled_first y table)
+    pub mixed-none : p.placed ≡ false → MixedPlans y k table room (refused_plan (Err (Input 12))) (filled_first y table)
     unfolding mixed_placement
     mixed-none h = go (can_mix y k) refl
       where
-        go : (b : Bool) → can_mix y k ≡ b → MixedPlans y k table room (refused_plan (Refused (Input 12))) (filled_first y table)
+        go : (b : Bool) → can_mix y k ≡ b → MixedPlans y k table room (refused_plan (Err (Input 12))) (filled_first y table)
         go true can = absurd (true≢false (sym (ap (λ (q : Mixed). q.placed) same ∙ rw can) ∙ h))
         go false can = plans-by (fails from_input 12) (checks-by passes passed ∙ rw can) _ _ refl refl refl refl refl (sym (table-by passes passed))
 
     -- the plan that the code makes of it
     abbrev handed : Plan
-    handed = record { answer = Number p.used; used = p.used; typecount = y.typecount; numbers = p.numbers; loads = p.loads }
+    handed = record { answer = Ok (Some p.used); used = p.used; typecount = y.typecount; numbers = p.numbers; loads = p.loads }
 
     pub mixed-placed : p.placed ≡ true → MixedPlans y k table room handed (filled_first y table)
     unfolding mixed_placement

@@ -4,13 +4,12 @@ use native.Mathlib.Omega.{arith}
 use native.Mathlib.Nat.{add-suc, suc-add, add-zero}
 use mathlib.Core.Path.{◌≡◌, refl, sym, ◌∙◌, ap}
 use mathlib.Core.List.{List, [], ◌∷◌}
-use lib.ListN.{length, get_or, set}
+use lib.ListN.{length, get_or}
 use Rattle.loads.specs.declared.EngineLoad.{EngineLoad}
 use Rattle.loads.specs.Load.{idle_engine}
 use Rattle.partition.specs.Assignment.{numbers_from}
 use Rattle.planner.specs.declared.EngineRecord.{EngineRecord}
 use Rattle.planner.specs.Plan.{record_of, records_from, records_of, records_with}
-use Rattle.planner.proofs.Front.{front, set_front}
 
 -- what stands for a record past the end of a list
 abbrev pub no_record : EngineRecord
@@ -52,16 +51,6 @@ get_or-records_with [] (l ∷ ls) i d z h k = absurd (omega arith)
 get_or-records_with (n ∷ ns) [] i d z h k = absurd (omega arith)
 get_or-records_with (n ∷ ns) (l ∷ ls) zero d z h k = refl
 get_or-records_with (n ∷ ns) (l ∷ ls) (suc i) d z h k = get_or-records_with ns ls i d z (omega arith) (omega arith)
-
--- a store of the record at index i makes the front one record longer
-pub set-record : (ns : List ℕ) (ls : List EngineLoad) (i : ℕ) (z : EngineLoad) (old : List EngineRecord) → length ns ≡ length ls → i < length ls → i < length old
-    → set (front i (records_with ns ls) old) i (record_of (get_or ns i 0) (get_or ls i z)) ≡ front (i + 1) (records_with ns ls) old
-set-record ns ls i z old h p q =
-    ap (set (front i (records_with ns ls) old) i) (sym (get_or-records_with ns ls i d z h p))
-    ∙ set_front i (records_with ns ls) old d (rw (length-records_with ns ls h) p) q
-  where
-    d : EngineRecord
-    d = record_of 0 z
 
 -- with the numbers a, a + 1, .. they are those counted from a
 pub records-numbered : (a : ℕ) (ls : List EngineLoad) → records_with (numbers_from a (length ls)) ls ≡ records_from a ls

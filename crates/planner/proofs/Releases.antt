@@ -1,4 +1,5 @@
 -- Request 2026-09 of plans: from demand 2 and from what partition proves of the fewest engines. Rule 1 of two kinds of engine goes by the same argument: the assignment under rule 0 is good under rule 1 too.
+use Rattle.std.proofs.Common.{Some}
 use Prim.Native.Nat.{ℕ, ◌+◌, ◌-◌, ◌≤◌}
 use mathlib.Core.List.{List, [], ◌∷◌}
 use mathlib.Core.Bool.{Bool, true, false, cond, ◌||◌}
@@ -8,12 +9,10 @@ use lib.Dec.{eqb}
 use native.Mathlib.Nat.{le_antisymm, le_trans}
 use native.Mathlib.Omega.{arith}
 use Rattle.system.specs.declared.Kind.{Kind}
-use Rattle.system.specs.declared.Second.TheVariants.{TwoKinds}
 use Rattle.system.specs.declared.TaskType.{TaskType}
 use Rattle.system.specs.declared.System.{System}
-use Rattle.system.specs.declared.Answer.{Answer}
+use Rattle.system.specs.Outcome.{Answer, Outcome, accepted, outcome_of}
 use Rattle.system.specs.Layout.{read_card, read_file, opened}
-use Rattle.system.specs.Outcome.{Outcome, accepted, outcome_of}
 use Rattle.system.proofs.Laws.{read-limits, read-keeps-card}
 use Rattle.system.proofs.CardLaws.{both-engines}
 use Rattle.partition.specs.Assignment.{Assignment, among}
@@ -149,7 +148,7 @@ mixed-rule-aside own shared k alike count χ p =
 
 pub mixed-plans-share : (f1 f2 : List ℕ) (own shared : System) (k j : Kind) (one two : Outcome) → AskedMixed f1 own k one → AskedMixed f2 shared j two → PlansShare own shared one two
 mixed-plans-share f1 f2 own shared k j one two q1 q2 a alike is =
-    let kinds : TwoKinds k ≡ TwoKinds j = sym q1.second ∙ sym alike.second ∙ q2.second in
+    let kinds : Some k ≡ Some j = sym q1.second ∙ sym alike.second ∙ q2.second in
     let same : k ≡ j = cc in
     let first = (q1.given a is).2 in
     let aside = mixed-rule-aside own shared k alike (ceiling_no own) first.mapping first.partition in
@@ -162,12 +161,12 @@ mixed-plans-share f1 f2 own shared k j one two q1 q2 a alike is =
     (second.0, second.1, omega (arith, least, uses))
 
 -- `AskedMixed` asks nothing but what a call promises of such a card, where table and list are long enough: of the plan by value, and of the plan into a list
-pub asked-mixed : (file : List ℕ) (table after : Lent) (y : System) (k : Kind) (r : Plan) → read_card file ≡ opened y → y.second ≡ TwoKinds k → LongEnough y table → MixedPromises y k table 16 r after
+pub asked-mixed : (file : List ℕ) (table after : Lent) (y : System) (k : Kind) (r : Plan) → read_card file ≡ opened y → y.second ≡ Some k → LongEnough y table → MixedPromises y k table 16 r after
     → AskedMixed file y k (outcome_of r.answer)
 asked-mixed file table after y k r reads two long p =
     record { reads = reads; second = two; answered = p.demand2.answered long (both-engines y k (read-keeps-card file y reads) two); given = λ used o. (r.numbers, r.loads, p.demand2.given used o) }
 
-pub asked-mixed-list : (file : List ℕ) (table after : Lent) (list list_after : List EngineRecord) (y : System) (k : Kind) (answer : Answer) → read_card file ≡ opened y → y.second ≡ TwoKinds k → LongEnough y table
+pub asked-mixed-list : (file : List ℕ) (table after : Lent) (list list_after : List EngineRecord) (y : System) (k : Kind) (answer : Answer) → read_card file ≡ opened y → y.second ≡ Some k → LongEnough y table
     → y.engines + k.number ≤ length list → MixedListPromises y k table list answer after list_after → AskedMixed file y k (outcome_of answer)
 asked-mixed-list file table after list list_after y k answer reads two long room p =
     record { reads = reads; second = two; answered = p.answered long room; given = λ used o. (let l = p.holds.lists used o in (l.0, l.1, l.2)) }

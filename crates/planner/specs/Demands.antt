@@ -3,9 +3,8 @@
 -- (partition/specs/Plain; table/specs/Meaning for a filled table), so that no word of a contract can make them true.
 use Rattle.std.specs.Prelude.{ℕ, ◌-◌, ◌≤◌, ◌<◌, List, [], ◌∷◌, ◌≡◌, ◌↔◌, length, get_or}
 use Rattle.system.specs.declared.System.{System}
-use Rattle.system.specs.declared.Answer.{Answer}
+use Rattle.system.specs.Outcome.{Answer, Outcome, Source, accepted, refused, from_input, outcome_of}
 use Rattle.system.specs.Layout.{Reading, opened, unread}
-use Rattle.system.specs.Outcome.{Outcome, Source, accepted, refused, from_input, outcome_of}
 use Rattle.loads.specs.declared.EngineLoad.{EngineLoad}
 use Rattle.partition.specs.Assignment.{Assignment, engines_to}
 use Rattle.partition.specs.Lent.{Lent}

@@ -3,10 +3,9 @@
 use Rattle.std.specs.Prelude.{ℕ, ◌+◌, ◌-◌, ◌≤◌, ◌<◌, List, [], ◌∷◌, ◌≡◌, ◌↔◌, length, get_or}
 use Rattle.system.specs.declared.Kind.{Kind}
 use Rattle.system.specs.declared.System.{System}
-use Rattle.system.specs.declared.Answer.{Answer}
+use Rattle.system.specs.Outcome.{Answer, Outcome, Source, accepted, refused, from_input, outcome_of}
 use Rattle.system.specs.Layout.{Reading}
 use Rattle.system.specs.Card.{Card, plain, mixed}
-use Rattle.system.specs.Outcome.{Outcome, Source, accepted, refused, from_input, outcome_of}
 use Rattle.loads.specs.declared.EngineLoad.{EngineLoad}
 use Rattle.partition.specs.Assignment.{Assignment}
 use Rattle.partition.specs.Lent.{Lent}

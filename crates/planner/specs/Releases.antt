@@ -1,9 +1,8 @@
 -- Request 2026-09 for purchasing: the number that a plan answers, of two releases and of both, and of the same file under either rule, this of one kind of
 -- engine and of two (request 2026-13).
 -- It is said of whatever was answered and keeps demand 2, so of both plan calls, with whatever table and list long enough each was lent.
-use Rattle.std.specs.Prelude.{ℕ, ◌≤◌, List, [], ◌∷◌, ◌≡◌}
+use Rattle.std.specs.Prelude.{ℕ, ◌≤◌, List, [], ◌∷◌, ◌≡◌, Some}
 use Rattle.system.specs.declared.Kind.{Kind}
-use Rattle.system.specs.declared.Second.TheVariants.{TwoKinds}
 use Rattle.system.specs.declared.System.{System}
 use Rattle.system.specs.Layout.{read_card, read_file, opened}
 use Rattle.system.specs.Outcome.{Outcome, accepted}
@@ -46,7 +45,7 @@ PlansAdd first second both one two three =
 -- of both kinds, and it is on the fewest of them
 pub record AskedMixed (file : List ℕ) (y : System) (k : Kind) (outcome : Outcome) : Type 0 where
   pub reads : read_card file ≡ opened y
-  pub second : y.second ≡ TwoKinds k
+  pub second : y.second ≡ Some k
   pub answered : (χ : Assignment) → MixedPartition y k (ceiling_no y) χ → (used : ℕ) × (outcome ≡ accepted (used ∷ []))
   pub given : (used : ℕ) → outcome ≡ accepted (used ∷ []) → (numbers : List ℕ) × (loads : List EngineLoad) × MixedOnFewest y k (ceiling_no y) numbers loads used
 

@@ -5,8 +5,8 @@ use loads::EngineLoad;
 use system::{Answer, ENGINE_LIMIT};
 
 // A plan: its answer, the used engines, the number of types, and the loads of engines with these numbers, of which the used ones come first.
-// Of one kind of engine the numbers are 1 to 16; all loads are 0 where the file is refused.
-#[derive(Clone, Copy)]
+// Of one kind of engine the numbers are 1 to 16; all loads are 0 where the file is refused, as `PlanPromises` says (`refused_nothing`): so it is no Result.
+#[derive(Clone, Copy, PartialEq, Eq)]
 pub struct Plan {
     pub answer: Answer,
     pub used: usize,
@@ -16,14 +16,14 @@ pub struct Plan {
 }
 
 // One engine of the lent list.
-#[derive(Clone, Copy)]
+#[derive(Clone, Copy, PartialEq, Eq)]
 pub struct EngineRecord {
     pub number: usize,
     pub load: EngineLoad,
 }
 
 // A plan with the records of all engines, of which the first `used` go into the lent list.
-#[derive(Clone, Copy)]
+#[derive(Clone, Copy, PartialEq, Eq)]
 pub struct ListPlan {
     pub answer: Answer,
     pub used: usize,
@@ -31,7 +31,7 @@ pub struct ListPlan {
 }
 
 // What a plan into a list by value answers, with the list.
-#[derive(Clone, Copy)]
+#[derive(Clone, Copy, PartialEq, Eq)]
 pub struct PlannedList {
     pub answer: Answer,
     pub list: [EngineRecord; ENGINE_LIMIT],

@@ -1,22 +1,24 @@
 // The plan of a system file, of one kind of engine or two.
+//
+// An array that is a field goes through a variable of its own into a literal or a call: the check covers no other form.
 #![tactic(auto)]
 
-ghost use Rattle.std.specs.Prelude.{◌≡◌, ◌++◌, ◌≤◌, length, take, drop};
+ghost use Rattle.std.specs.Prelude.{◌≡◌, ◌++◌, ◌≤◌, Err, length, take, drop, leb};
 ghost use Rattle.system.specs.Limits.{columns, column_limit, engine_limit};
 ghost use Rattle.system.specs.Layout.{read_card, read_file};
 ghost use Rattle.system.specs.Card.{card_of};
-ghost use Rattle.system.specs.Outcome.{checked_of, and_then};
+ghost use Rattle.system.specs.Outcome.{from_input, checked_of, check, and_then};
 ghost use Rattle.partition.specs.Lent.{lent};
 ghost use Rattle.table.specs.Table.{room_check};
-ghost use Rattle.planner.specs.Plan.{list_check, records_with};
-ghost use Rattle.planner.specs.Mixed.{mixed_list_check};
+ghost use Rattle.planner.specs.Plan.{records_with};
 ghost use Rattle.planner.specs.Demands.{PlanPromises};
 ghost use Rattle.planner.specs.MixedDemands.{PlanCall, ListCall};
-ghost use Rattle.planner.specs.Inner.{refused_plan, Lists, TwoKindCard, MixedPlans};
+ghost use Rattle.planner.specs.Inner.{refused_plan, plan_from, Lists, TwoKindCard, MixedPlans};
 
 use loads::EngineLoad;
 use planner::{EngineRecord, ListPlan, Plan, PlannedList};
-use system::{Answer, Check, ENGINE_LIMIT, Kind, Refusal, Second, System};
+use std::array;
+use system::{Answer, ENGINE_LIMIT, Kind, Refusal, System};
 
 // The numbers of the engines where there is one kind: load i is that of engine i.
 const NUMBERS: [usize; ENGINE_LIMIT] = [1, 2, 3, 4, 5, 6, 7, 8, 9, 10, 11, 12, 13, 14, 15, 16];
@@ -26,9 +28,7 @@ fn put_records(list: &mut [EngineRecord], records: [EngineRecord; ENGINE_LIMIT],
     requires { (used ≤ engine_limit) × (used ≤ length list.old) }
     ensures { list.new ≡ take used records ++ drop used list.old }
 {
-    for i in 0..used {
-        list[i] = records[i];
-    }
+    list[..used].copy_from_slice(&records[..used]);
 }
 
 // The records of engines with these numbers.
@@ -38,27 +38,18 @@ fn records_of(
 ) -> [EngineRecord; ENGINE_LIMIT]
     ensures { result ≡ records_with numbers loads }
 {
-    let first = loads[0];
-    let mut records = [EngineRecord {
-        number: 1,
-        load: first,
-    }; ENGINE_LIMIT];
-    for i in 0..ENGINE_LIMIT {
-        let load = loads[i];
-        records[i] = EngineRecord {
-            number: numbers[i],
-            load: load,
-        };
-    }
-    records
+    array::from_fn(|i| EngineRecord {
+        number: numbers[i],
+        load: loads[i],
+    })
 }
 
 // A plan that is refused: no engine holds anything.
-fn refused_plan(answer: Answer) -> Plan
-    ensures { result ≡ refused_plan answer }
+fn refused_plan(why: Refusal) -> Plan
+    ensures { result ≡ refused_plan (Err why) }
 {
     Plan {
-        answer: answer,
+        answer: Err(why),
         used: 0,
         typecount: 0,
         numbers: NUMBERS,
@@ -66,57 +57,70 @@ fn refused_plan(answer: Answer) -> Plan
     }
 }
 
-// Refusal 15: a list of `room` records is shorter than m.
-fn list_check(y: System, room: usize) -> Check
-    ensures { checked_of result ≡ list_check y room }
+// What a call hands out: the plan, or the refused one.
+fn plan_from(planned: Result<Plan, Refusal>) -> Plan
+    ensures { result ≡ plan_from planned }
 {
-    if y.engines <= room {
-        return Check::Passes;
+    match planned {
+        Ok(plan) => plan,
+        Err(why) => refused_plan(why),
     }
-    Check::Fails(Refusal::Input(15))
 }
 
-// What is lent is judged before any work: 11 for parts of `rows` and of `predecessors` entries, then 15.
-fn lent_check(y: System, rows: usize, predecessors: usize, room: usize) -> Check
-    requires { columns y ≤ column_limit }
-    ensures { checked_of result ≡ and_then (room_check y rows predecessors) (list_check y room) }
+// Refusal 15: a list of `room` records is shorter than the engines.
+fn list_check(engines: usize, room: usize) -> Result<(), Refusal>
+    ensures { checked_of result ≡ check (leb engines room) from_input 15 }
 {
-    let check = table_code::table_check(y, rows, predecessors);
-    if let Check::Fails(why) = check {
-        return Check::Fails(why);
+    if engines <= room {
+        return Ok(());
     }
-    list_check(y, room)
+    Err(Refusal::Input(15))
+}
+
+// What is lent is judged before any work: 11 for parts of `rows` and of `predecessors` entries, then 15 for a list shorter than the engines, of one kind
+// or of both.
+fn lent_check(
+    y: System,
+    rows: usize,
+    predecessors: usize,
+    engines: usize,
+    room: usize,
+) -> Result<(), Refusal>
+    requires { columns y ≤ column_limit }
+    ensures { checked_of result ≡ and_then (room_check y rows predecessors) (check (leb engines room) from_input 15) }
+{
+    table_code::table_check(y, rows, predecessors)?;
+    list_check(engines, room)
 }
 
 // The plan of a file of which one kind of engine is wanted, where the list that is to hold it has room for `room` records: refusals 1 to 10, 31 and 41
 // to 43, then 11, 15, 12.
-fn plan_one(file: &[u8], rows: &mut [u16], predecessors: &mut [u16], room: usize) -> Plan
-    ensures { PlanPromises (read_file file.now) (lent rows.old predecessors.old) room result
+fn plan_one(
+    file: &[u8],
+    rows: &mut [u16],
+    predecessors: &mut [u16],
+    room: usize,
+) -> Result<Plan, Refusal>
+    ensures { PlanPromises (read_file file.now) (lent rows.old predecessors.old) room (plan_from result)
         (lent rows.new predecessors.new) }
 {
     let read = system_code::read_system(file);
-    let answer = read.answer;
-    let Answer::Accepted = answer else {
-        return refused_plan(answer);
-    };
+    read.answer?;
     let y = read.system;
-    let check = lent_check(y, rows.len(), predecessors.len(), room);
-    if let Check::Fails(why) = check {
-        return refused_plan(Answer::Refused(why));
-    }
+    lent_check(y, rows.len(), predecessors.len(), y.engines, room)?;
     let engines = table_code::engines_to(y.engines);
     let placement = table_code::place(rows, predecessors, y, engines, table_code::ceilings_of(y));
     if !placement.placed {
-        return refused_plan(Answer::Refused(Refusal::Input(12)));
+        return Err(Refusal::Input(12));
     }
     let loads = placement.loads;
-    Plan {
-        answer: Answer::Number(placement.used),
+    Ok(Plan {
+        answer: Ok(Some(placement.used)),
         used: placement.used,
         typecount: y.typecount,
         numbers: NUMBERS,
-        loads: loads,
-    }
+        loads,
+    })
 }
 
 // The plan of a file of which one kind of engine is wanted, by value: a sheet is of one kind only.
@@ -124,68 +128,57 @@ pub fn plan_one_kind(file: &[u8], rows: &mut [u16], predecessors: &mut [u16]) ->
     ensures { PlanPromises (read_file file.now) (lent rows.old predecessors.old) engine_limit result
         (lent rows.new predecessors.new) }
 {
-    plan_one(file, rows, predecessors, ENGINE_LIMIT)
-}
-
-// Refusal 15 of two kinds: a list of `room` records is shorter than the engines of both.
-fn mixed_list_check(y: System, k: Kind, room: usize) -> Check
-    requires { TwoKindCard y k }
-    ensures { checked_of result ≡ mixed_list_check y k room }
-{
-    if y.engines + k.number > room {
-        return Check::Fails(Refusal::Input(15));
-    }
-    Check::Passes
-}
-
-// What is lent for a plan of two kinds is judged before any work: 11, then 15.
-fn mixed_lent_check(y: System, k: Kind, rows: usize, predecessors: usize, room: usize) -> Check
-    requires { TwoKindCard y k }
-    ensures { checked_of result ≡ and_then (room_check y rows predecessors) (mixed_list_check y k room) }
-{
-    let tables = table_code::table_check(y, rows, predecessors);
-    if let Check::Fails(why) = tables {
-        return Check::Fails(why);
-    }
-    mixed_list_check(y, k, room)
+    plan_from(plan_one(file, rows, predecessors, ENGINE_LIMIT))
 }
 
 // The plan of a card of two kinds of engine: 11, 15, 12.
-fn plan_mixed(y: System, k: Kind, rows: &mut [u16], predecessors: &mut [u16], room: usize) -> Plan
+fn plan_mixed(
+    y: System,
+    k: Kind,
+    rows: &mut [u16],
+    predecessors: &mut [u16],
+    room: usize,
+) -> Result<Plan, Refusal>
     requires { TwoKindCard y k }
-    ensures { MixedPlans y k (lent rows.old predecessors.old) room result (lent rows.new predecessors.new) }
+    ensures { MixedPlans y k (lent rows.old predecessors.old) room (plan_from result) (lent rows.new predecessors.new) }
 {
-    let check = mixed_lent_check(y, k, rows.len(), predecessors.len(), room);
-    if let Check::Fails(refusal) = check {
-        return refused_plan(Answer::Refused(refusal));
-    }
+    lent_check(
+        y,
+        rows.len(),
+        predecessors.len(),
+        y.engines + k.number,
+        room,
+    )?;
     let first = system_code::first_kind(y);
     let second = system_code::second_kind(y, k);
     let placed = kinds_code::place_mixed(rows, predecessors, first, second);
     if !placed.placed {
-        return refused_plan(Answer::Refused(Refusal::Input(12)));
+        return Err(Refusal::Input(12));
     }
     let numbers = placed.numbers;
     let loads = placed.loads;
-    Plan {
-        answer: Answer::Number(placed.used),
+    Ok(Plan {
+        answer: Ok(Some(placed.used)),
         used: placed.used,
         typecount: y.typecount,
-        numbers: numbers,
-        loads: loads,
-    }
+        numbers,
+        loads,
+    })
 }
 
 // The plan of a file, where the list that is to hold it has room for `room` records: of two kinds of engine, or of one. A file that does not read hands
 // out a system of one kind.
-fn plan_for(file: &[u8], rows: &mut [u16], predecessors: &mut [u16], room: usize) -> Plan
-    ensures { PlanCall (card_of (read_card file.now)) (lent rows.old predecessors.old) room result
+fn plan_for(
+    file: &[u8],
+    rows: &mut [u16],
+    predecessors: &mut [u16],
+    room: usize,
+) -> Result<Plan, Refusal>
+    ensures { PlanCall (card_of (read_card file.now)) (lent rows.old predecessors.old) room (plan_from result)
         (lent rows.new predecessors.new) }
 {
-    let read = system_code::read_card(file);
-    let y = read.system;
-    let second = y.second;
-    let Second::TwoKinds(k) = second else {
+    let y = system_code::read_card(file).system;
+    let Some(k) = y.second else {
         return plan_one(file, rows, predecessors, room);
     };
     plan_mixed(y, k, rows, predecessors, room)
@@ -196,7 +189,7 @@ pub fn plan_of(file: &[u8], rows: &mut [u16], predecessors: &mut [u16]) -> Plan
     ensures { PlanCall (card_of (read_card file.now)) (lent rows.old predecessors.old) engine_limit result
         (lent rows.new predecessors.new) }
 {
-    plan_for(file, rows, predecessors, ENGINE_LIMIT)
+    plan_from(plan_for(file, rows, predecessors, ENGINE_LIMIT))
 }
 
 // The plan for a list of `room` records, with the records that go into it.
@@ -204,15 +197,11 @@ fn plan_records(file: &[u8], rows: &mut [u16], predecessors: &mut [u16], room: u
     ensures { Lists (card_of (read_card file.now)) (lent rows.old predecessors.old) room result
         (lent rows.new predecessors.new) }
 {
-    let plan = plan_for(file, rows, predecessors, room);
-    let answer = plan.answer;
-    let numbers = plan.numbers;
-    let loads = plan.loads;
-    let records = records_of(numbers, loads);
+    let plan = plan_from(plan_for(file, rows, predecessors, room));
     ListPlan {
-        answer: answer,
+        answer: plan.answer,
         used: plan.used,
-        records: records,
+        records: records_of(plan.numbers, plan.loads),
     }
 }
 
@@ -245,7 +234,7 @@ pub fn plan_list(
     let mut records = list;
     let answer = plan_into(file, rows, predecessors, &mut records);
     PlannedList {
-        answer: answer,
+        answer,
         list: records,
     }
 }

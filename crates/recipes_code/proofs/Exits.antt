@@ -1,4 +1,6 @@
 -- What the code's exits come to: the buffer holds the text by definition, and a reader finds in it what is promised.
+use Rattle.std.proofs.Common.{Option, Ok, Err, Some, None}
+use Rattle.std.specs.Option.{unwrap_or}
 use Prim.Native.Nat.{ℕ, ◌≤◌, ◌<◌}
 use mathlib.Core.Path.{◌≡◌, refl, sym, ap, subst, ◌∙◌}
 use mathlib.Core.List.{List, [], ◌∷◌, ◌++◌}
@@ -10,11 +12,9 @@ use lib.ListN.{length, take, drop, length-append}
 use lib.Seq.{length-take-le, take_all}
 use Rattle.buffer.specs.Written.{Written}
 use Rattle.system.specs.declared.System.{System}
-use Rattle.system.specs.declared.Answer.{Answer}
-use Rattle.system.specs.declared.Answer.TheVariants.{Accepted, Number, Refused}
+use Rattle.system.specs.Outcome.{Answer, accepted, refused, from_input, from_state, refusal_of, outcome_of}
 use Rattle.system.specs.declared.Refusal.{Refusal}
 use Rattle.system.specs.declared.Refusal.TheVariants.{Input, State}
-use Rattle.system.specs.Outcome.{accepted, refused, from_input, from_state, refusal_of, outcome_of}
 use Rattle.writer.specs.File.{file_of}
 use Rattle.writer.specs.Writing.{write_fault, write_outcome, written_to}
 use Rattle.making.specs.declared.Recipe.{Recipe}
@@ -36,7 +36,7 @@ module _ (w : Recipe) {old mid : List ℕ} {answer : Answer} (room : length old 
   y = drawn_system w
 
   -- a number: the file stands at the start of the buffer
-  pub number-written : (n : ℕ) → answer ≡ Number n → Written (recipe_text w) old mid n
+  number-written : (n : ℕ) → answer ≡ Ok (Some n) → Written (recipe_text w) old mid n
   unfolding recipe_text make_outcome made_in write_outcome written_to
   number-written n is = by (eqb (recipe_fault w) 0) (rw is at p.answers) p.leaves
     where
@@ -58,7 +58,7 @@ module _ (w : Recipe) {old mid : List ℕ} {answer : Answer} (room : length old 
   accepts none = let both = faultless-recipe w none in p.else both.0 both.1 (omega (arith, both.0.typecount.1))
 
   -- a refusal: its line
-  refusal-text : (why : Refusal) → answer ≡ Refused why → refusal_line (number_of why) ≡ recipe_text w
+  refusal-text : (why : Refusal) → answer ≡ Err why → refusal_line (number_of why) ≡ recipe_text w
   unfolding recipe_text make_outcome
   refusal-text why is = by why (eqb (recipe_fault w) 0) refl (rw is at (accepts)) (rw is at p.answers)
     where
@@ -69,15 +69,15 @@ module _ (w : Recipe) {old mid : List ℕ} {answer : Answer} (room : length old 
       by (Input n) false e accepting o = ap refusal_line (cc)
       by (State n) false e accepting o = ap refusal_line (cc)
 
-  pub refusal-written : (why : Refusal) → answer ≡ Refused why → {new : List ℕ} {r : ℕ} → RefusalPromises why mid new r → Written (recipe_text w) old new r
+  pub refusal-written : (why : Refusal) → answer ≡ Err why → {new : List ℕ} {r : ℕ} → RefusalPromises why mid new r → Written (recipe_text w) old new r
   refusal-written why is q = rw (refusal-text why is, lent why is) at q.written
     where
-      lent : (x : Refusal) → answer ≡ Refused x → mid ≡ old
+      lent : (x : Refusal) → answer ≡ Err x → mid ≡ old
       lent (Input n) e = p.as_lent from_input n (rw e)
       lent (State n) e = p.as_lent from_state n (rw e)
 
   -- never a bare "accepted"
-  pub never-accepted : answer ≡ Accepted → ⊥
+  never-accepted : answer ≡ (Ok None) → ⊥
   unfolding make_outcome write_outcome
   never-accepted is = by (eqb (recipe_fault w) 0) (eqb (write_fault y (length old)) 0) (rw is at p.answers)
     where
@@ -85,6 +85,11 @@ module _ (w : Recipe) {old mid : List ℕ} {answer : Answer} (room : length old 
       by true true o = let z : ◌≡◌ {A = ℕ} 0 1 = cc in omega arith
       by true false o = let z : ◌≡◌ {A = ℕ} 0 1 = cc in omega arith
       by false d o = let z : ◌≡◌ {A = ℕ} 0 1 = cc in omega arith
+
+  -- so an answer that is no refusal has a number
+  pub file-written : (size : Option ℕ) (d : ℕ) → answer ≡ Ok size → Written (recipe_text w) old mid (unwrap_or size d)
+  file-written (Some n) d is = number-written n is
+  file-written None d is = absurd (never-accepted is)
 
 -- a text that is read to its end, and any other
 

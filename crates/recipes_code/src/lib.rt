@@ -16,7 +16,7 @@ use listing_code::write_refusal;
 use making::Recipe;
 use making_code::make_file;
 use recipes::NUMBERS;
-use system::{Answer, FILE_BYTES};
+use system::FILE_BYTES;
 use text::read_numbers;
 
 // Writes that a text is not seven numbers.
@@ -30,11 +30,9 @@ fn write_not_seven(out: &mut [u8; 4096]) -> usize
 fn write_made(w: Recipe, out: &mut [u8; 4096]) -> usize
     ensures { Written (recipe_text w) out.old out.new result }
 {
-    let answer = make_file(w, out);
-    match answer {
-        Answer::Number(n) => n,
-        Answer::Refused(why) => write_refusal(out, why),
-        Answer::Accepted => 0,
+    match make_file(w, out) {
+        Ok(size) => size.unwrap_or(0),
+        Err(why) => write_refusal(out, why),
     }
 }
 

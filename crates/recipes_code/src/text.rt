@@ -116,8 +116,8 @@ pub fn read_numbers(text: &[u8]) -> Progress
     ensures { result ≡ read_from begun text.now }
 {
     let mut p = begun();
-    for i in 0..text.len() {
-        p = step(p, text[i]);
+    for byte in text {
+        p = step(p, *byte);
     }
     p
 }

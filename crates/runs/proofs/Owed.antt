@@ -1,5 +1,6 @@
 -- No deadline is missed where the demand bound holds. For every d let a job owe, if it is due by d, what is left plus its run time for each further
 -- deadline by d. The invariant, for every d from now on: all that is owed by d is at most d - now.
+use Rattle.std.proofs.Common.{None}
 use Prim.Native.Nat.{ℕ, zero, suc, ◌+◌, ◌-◌, ◌*◌, ◌/◌, ◌≤◌, ◌<◌, zero-le}
 use mathlib.Core.Path.{◌≡◌, refl, sym, ap, ◌∙◌}
 use mathlib.Core.List.{List, [], ◌∷◌}
@@ -11,7 +12,6 @@ use native.Mathlib.Omega.{arith}
 use borrow.Author.Tests.{leb-true, leb-false, le-leb, lt-leb, ltb-true, ltb-false, eqb-true, eqb-false, le-ltb}
 use lib.Dec.{leb, ltb, eqb}
 use Rattle.runs.specs.declared.Job.{Job}
-use Rattle.runs.specs.declared.Missed.TheVariants.{Never}
 use Rattle.runs.specs.Run.{fresh_job, started, started_job, late, arrived_job, arrived, earlier, sooner, chosen, worked_job, worked_at, worked, idle_tick}
 use Rattle.runs.specs.Run.{run_from, run_of, demand, Demand, Periods, none, more}
 
@@ -283,7 +283,7 @@ keeps-tick now js k =
               k.bound (d - (now + 1)),
             )
 
-none-missed-from : (ticks now idle : ℕ) (js : List Job) → Keeps now js → (run_from ticks now idle js).missed ≡ Never
+none-missed-from : (ticks now idle : ℕ) (js : List Job) → Keeps now js → (run_from ticks now idle js).missed ≡ None
 unfolding run_from
 none-missed-from zero now idle js k = rw (not_late now (keeps-clear now js k))
 none-missed-from (suc ticks) now idle js k =
@@ -291,7 +291,7 @@ none-missed-from (suc ticks) now idle js k =
     (none-missed-from ticks (now + 1) (idle + idle_tick (arrived now js)) (worked (arrived now js)) (keeps-tick now js k))
 
 -- where every period is at least 1 and the demand bound holds, no deadline is missed, at any horizon
-pub none-missed : (ticks : ℕ) (js : List Job) → Periods js → Demand js → (run_of ticks js).missed ≡ Never
+pub none-missed : (ticks : ℕ) (js : List Job) → Periods js → Demand js → (run_of ticks js).missed ≡ None
 none-missed ticks js ps b = none-missed-from ticks 0 0 (started js) start
   where
     start : Keeps 0 (started js)

@@ -1,4 +1,5 @@
 -- What a run reports: the time of the first late job and the idle ticks before it, or none missed and all idle ticks.
+use Rattle.std.proofs.Common.{None, Some}
 use Prim.Native.Nat.{ℕ, zero, suc, ◌+◌, ◌≤◌, ◌<◌, zero-le}
 use mathlib.Core.Path.{◌≡◌, refl, sym, ◌∙◌}
 use mathlib.Core.List.{List, [], ◌∷◌}
@@ -10,7 +11,6 @@ use borrow.Author.Tests.{leb-true, leb-false}
 use lib.ListN.{length}
 use lib.Dec.{leb}
 use Rattle.runs.specs.declared.Job.{Job}
-use Rattle.runs.specs.declared.Missed.TheVariants.{Never, At}
 use Rattle.runs.specs.declared.Report.{Report}
 use Rattle.runs.specs.Run.{late, late_job, arrived, idle_tick, run_from, run_of}
 use Rattle.runs.specs.Trace.{state_at, idle_before}
@@ -67,7 +67,7 @@ module _ (js : List Job) where
       run_on left now (idle_before now js) (state_at now js) h
       ∙ rw (add-one now, idle-on now js, state-on now js)
 
-  rest-kept : (left now : ℕ) → ((t : ℕ) → t ≤ now + left → late t (state_at t js) ≡ false) → rest left now ≡ record { idle = idle_before (now + left) js; missed = Never }
+  rest-kept : (left now : ℕ) → ((t : ℕ) → t ≤ now + left → late t (state_at t js) ≡ false) → rest left now ≡ record { idle = idle_before (now + left) js; missed = None }
   rest-kept zero now h =
       run_end 0 now (idle_before now js) (state_at now js) refl (h now (omega arith))
       ∙ rw (add-zero now)
@@ -83,7 +83,7 @@ module _ (js : List Job) where
       → m ≤ now + left
       → late m (state_at m js) ≡ true
       → ((t : ℕ) → t < m → late t (state_at t js) ≡ false)
-      → rest left now ≡ record { idle = idle_before m js; missed = At m }
+      → rest left now ≡ record { idle = idle_before m js; missed = Some m }
   rest-missed zero now m a b h g =
       let e : now ≡ m = omega arith in
       rw e (run-late 0 m (idle_before m js) (state_at m js) h)
@@ -96,8 +96,8 @@ module _ (js : List Job) where
           → m ≤ suc now + left
           → late m (state_at m js) ≡ true
           → ((t : ℕ) → t < m → late t (state_at t js) ≡ false)
-          → rest left (suc now) ≡ record { idle = idle_before m js; missed = At m })
-          → rest (suc left) now ≡ record { idle = idle_before m js; missed = At m }
+          → rest left (suc now) ≡ record { idle = idle_before m js; missed = Some m })
+          → rest (suc left) now ≡ record { idle = idle_before m js; missed = Some m }
       go true p ih =
           let e : now ≡ m = omega (arith, leb-true m now p) in
           rw e (run-late (suc left) m (idle_before m js) (state_at m js) h)
@@ -111,7 +111,7 @@ module _ (js : List Job) where
   unfolding state_at idle_before
   rest_all ticks = refl
 
-  pub reports-kept : (ticks : ℕ) → ((t : ℕ) → t ≤ ticks → late t (state_at t js) ≡ false) → run_of ticks js ≡ record { idle = idle_before ticks js; missed = Never }
+  pub reports-kept : (ticks : ℕ) → ((t : ℕ) → t ≤ ticks → late t (state_at t js) ≡ false) → run_of ticks js ≡ record { idle = idle_before ticks js; missed = None }
   reports-kept ticks h = rest_all ticks ∙ rest-kept ticks 0 (λ t m. h t (omega arith)) ∙ rw (zero-add ticks)
 
   pub reports-missed :
@@ -119,5 +119,5 @@ module _ (js : List Job) where
       → m ≤ ticks
       → late m (state_at m js) ≡ true
       → ((t : ℕ) → t < m → late t (state_at t js) ≡ false)
-      → run_of ticks js ≡ record { idle = idle_before m js; missed = At m }
+      → run_of ticks js ≡ record { idle = idle_before m js; missed = Some m }
   reports-missed ticks m l h g = rest_all ticks ∙ rest-missed ticks 0 m zero-le (omega arith) h g

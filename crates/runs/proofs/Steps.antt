@@ -1,4 +1,5 @@
 -- One law for each turn of a loop, and for each end of one.
+use Rattle.std.proofs.Common.{None, Some}
 use Prim.Native.Nat.{ℕ, zero, suc, ◌+◌, ◌-◌, ◌≤◌, ◌<◌, zero-le}
 use mathlib.Core.Path.{◌≡◌, refl, sym, ap, ◌∙◌}
 use mathlib.Core.List.{List, [], ◌∷◌, ◌++◌}
@@ -11,7 +12,6 @@ use lib.ListN.{length, get_or, set, take, drop, length-drop}
 use lib.Seq.{take-suc, take-suc-set, drop-cons, get_or-take, get_or-drop, take-set-lt, length-take-le}
 use lib.Dec.{eqb, ltb, eqb-suc-suc, eqb-zero-suc}
 use Rattle.runs.specs.declared.Job.{Job}
-use Rattle.runs.specs.declared.Missed.TheVariants.{Never, At}
 use Rattle.runs.specs.Run.{no_job, started_job, started, late_job, late, arrived_job, arrived, pending, earlier, sooner, chosen, due_before, worked_job, worked_at}
 use Rattle.runs.specs.Run.{worked, idle_tick, run_from}
 
@@ -231,12 +231,12 @@ module _ (jobs : List Job) (count : ℕ) (within : count ≤ length jobs) where
 
 -- the run
 
-pub run-late : (ticks now idle : ℕ) (js : List Job) → late now js ≡ true → run_from ticks now idle js ≡ record { idle = idle; missed = At now }
+pub run-late : (ticks now idle : ℕ) (js : List Job) → late now js ≡ true → run_from ticks now idle js ≡ record { idle = idle; missed = Some now }
 unfolding run_from
 run-late zero now idle js h = rw h
 run-late (suc ticks) now idle js h = rw h
 
-pub run_end : (ticks now idle : ℕ) (js : List Job) → ticks ≡ 0 → late now js ≡ false → run_from ticks now idle js ≡ record { idle = idle; missed = Never }
+pub run_end : (ticks now idle : ℕ) (js : List Job) → ticks ≡ 0 → late now js ≡ false → run_from ticks now idle js ≡ record { idle = idle; missed = None }
 unfolding run_from
 run_end zero now idle js z h = rw h
 run_end (suc ticks) now idle js z h = absurd (omega arith)

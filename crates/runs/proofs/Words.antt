@@ -1,5 +1,6 @@
 -- The run in words of its own, for every tick and every place, also after a miss: what stands at a place after the arrivals of a tick, who runs in
 -- it, and what is reported. T is the period and C the run time of the job at place p; the job at hand in tick t arrived at T × (t / T).
+use Rattle.std.proofs.Common.{None, Some}
 use Prim.Native.Nat.{ℕ, zero, suc, ◌+◌, ◌*◌, ◌/◌, ◌≤◌, ◌<◌}
 use mathlib.Core.Path.{◌≡◌, refl, sym, ap, ◌∙◌}
 use mathlib.Core.List.{List}
@@ -11,7 +12,6 @@ use borrow.Author.Tests.{leb-true, leb-false, eqb-true, eqb-false, eq-eqb, ne_eq
 use lib.ListN.{length}
 use lib.Dec.{leb, ltb, eqb}
 use Rattle.runs.specs.declared.Job.{Job}
-use Rattle.runs.specs.declared.Missed.TheVariants.{Never, At}
 use Rattle.runs.specs.declared.Report.{Report}
 use Rattle.runs.specs.Run.{Periods, none, more, fresh_job, arrived_job, arrived, late, late_job, run_of}
 use Rattle.runs.specs.Trace.{state_at, runner, ran_between, idle_before}
@@ -224,10 +224,10 @@ and_parts false b h = absurd (false≢true h)
 
 -- "missed at" says its time, and is not "never"
 
-at_same : {a b : ℕ} → At a ≡ At b → a ≡ b
+at_same : {a b : ℕ} → Some a ≡ Some b → a ≡ b
 at_same e = cc
 
-at-never : {a : ℕ} → At a ≡ Never → ⊥
+at-never : {a : ℕ} → Some a ≡ None → ⊥
 at-never e = let z : ◌≡◌ {A = ℕ} 0 1 = cc in omega arith
 
 not-below : {a b : ℕ} → (a < b → ⊥) → b ≤ a
@@ -289,8 +289,8 @@ module _ (js : List Job) (ps : Periods js) where
   -- the whole report: the first missed deadline up to the horizon with the idle ticks before it, or none with all idle ticks
   abbrev pub Reported : ℕ → Type 0
   Reported ticks =
-      ((d : ℕ) × (d ≤ ticks) × FirstMiss js d × (run_of ticks js ≡ record { idle = idle_before d js; missed = At d }))
-      ⊎ (NoMiss js ticks × (run_of ticks js ≡ record { idle = idle_before ticks js; missed = Never }))
+      ((d : ℕ) × (d ≤ ticks) × FirstMiss js d × (run_of ticks js ≡ record { idle = idle_before d js; missed = Some d }))
+      ⊎ (NoMiss js ticks × (run_of ticks js ≡ record { idle = idle_before ticks js; missed = None }))
 
   pub report-cases : (ticks : ℕ) → Reported ticks
   report-cases ticks = go (first-late (suc ticks))
@@ -308,11 +308,11 @@ module _ (js : List Job) (ps : Periods js) where
       go (inr k) = inr ((λ d h. no-miss d (k d (omega arith))), reports-kept js ticks (λ t h. k t (omega arith)))
 
   -- "the first missed deadline .. at or before the last tick's end"
-  pub report-missed : (ticks d : ℕ) → ((run_of ticks js).missed ≡ At d) ↔ ((d ≤ ticks) × FirstMiss js d)
+  pub report-missed : (ticks d : ℕ) → ((run_of ticks js).missed ≡ Some d) ↔ ((d ≤ ticks) × FirstMiss js d)
   report-missed ticks d = (λ e. there e (report-cases ticks), λ w. back w (report-cases ticks))
     where
       there :
-          (run_of ticks js).missed ≡ At d
+          (run_of ticks js).missed ≡ Some d
           → Reported ticks → (d ≤ ticks) × FirstMiss js d
       there e (inl f) =
           let s : f.0 ≡ d = at_same (sym (ap (λ (r : Report). r.missed) f.3) ∙ e) in
@@ -321,32 +321,32 @@ module _ (js : List Job) (ps : Periods js) where
 
       back :
           (d ≤ ticks) × FirstMiss js d
-          → Reported ticks → (run_of ticks js).missed ≡ At d
+          → Reported ticks → (run_of ticks js).missed ≡ Some d
       back w (inl f) =
           let a : f.0 ≤ d = not-below (λ (l : d < f.0). f.2.1 d l w.1.0) in
           let b : d ≤ f.0 = not-below (λ (l : f.0 < d). w.1.1 f.0 l f.2.0) in
           let s : f.0 ≡ d = omega arith in
-          ap (λ (r : Report). r.missed) f.3 ∙ ap (λ (m : ℕ). At m) s
+          ap (λ (r : Report). r.missed) f.3 ∙ ap (λ (m : ℕ). Some m) s
       back w (inr f) = absurd (f.0 d w.0 w.1.0)
 
   -- "none missed"
-  pub report-never : (ticks : ℕ) → ((run_of ticks js).missed ≡ Never) ↔ NoMiss js ticks
+  pub report-never : (ticks : ℕ) → ((run_of ticks js).missed ≡ None) ↔ NoMiss js ticks
   report-never ticks = (λ e. there e (report-cases ticks), λ w. back w (report-cases ticks))
     where
       there :
-          (run_of ticks js).missed ≡ Never
+          (run_of ticks js).missed ≡ None
           → Reported ticks → NoMiss js ticks
       there e (inl f) = absurd (at-never (sym (ap (λ (r : Report). r.missed) f.3) ∙ e))
       there e (inr f) = f.0
 
       back :
           NoMiss js ticks
-          → Reported ticks → (run_of ticks js).missed ≡ Never
+          → Reported ticks → (run_of ticks js).missed ≡ None
       back w (inl f) = absurd (w f.0 f.1 f.2.0)
       back w (inr f) = ap (λ (r : Report). r.missed) f.1
 
   -- idle ticks are those before the miss, or all
-  pub report-idle-missed : (ticks d : ℕ) → (run_of ticks js).missed ≡ At d → (run_of ticks js).idle ≡ idle_before d js
+  pub report-idle-missed : (ticks d : ℕ) → (run_of ticks js).missed ≡ Some d → (run_of ticks js).idle ≡ idle_before d js
   report-idle-missed ticks d e = go (report-cases ticks)
     where
       go :
@@ -354,7 +354,7 @@ module _ (js : List Job) (ps : Periods js) where
       go (inl f) = ap (λ (r : Report). r.idle) f.3 ∙ ap (λ (m : ℕ). idle_before m js) (at_same (sym (ap (λ (r : Report). r.missed) f.3) ∙ e))
       go (inr f) = absurd (at-never (sym e ∙ ap (λ (r : Report). r.missed) f.1))
 
-  pub report-idle-never : (ticks : ℕ) → (run_of ticks js).missed ≡ Never → (run_of ticks js).idle ≡ idle_before ticks js
+  pub report-idle-never : (ticks : ℕ) → (run_of ticks js).missed ≡ None → (run_of ticks js).idle ≡ idle_before ticks js
   report-idle-never ticks e = go (report-cases ticks)
     where
       go :

@@ -1,7 +1,6 @@
 -- The run of an engine (request 2026-14), over the list of the jobs on it: lower type first, then lower instance.
-use Rattle.std.specs.Prelude.{ℕ, zero, suc, ◌+◌, ◌-◌, ◌*◌, ◌/◌, ◌≤◌, List, [], ◌∷◌, Bool, false, cond, not, ◌&&◌, ◌||◌, length, eqb, ltb}
+use Rattle.std.specs.Prelude.{ℕ, zero, suc, ◌+◌, ◌-◌, ◌*◌, ◌/◌, ◌≤◌, List, [], ◌∷◌, Bool, false, cond, not, ◌&&◌, ◌||◌, length, eqb, ltb, None, Some}
 use Rattle.runs.specs.declared.Job.{Job}
-use Rattle.runs.specs.declared.Missed.TheVariants.{Never, At}
 use Rattle.runs.specs.declared.Report.{Report}
 
 abbrev pub job_of : ℕ → ℕ → ℕ → ℕ → Job
@@ -85,9 +84,9 @@ idle_tick js = idle_at (length js) (chosen js)
 
 -- the run from the instant `now` on, over `ticks` more ticks, after `idle` idle ones: deadlines first, then arrivals, then the tick
 unfoldable pub run_from : ℕ → ℕ → ℕ → List Job → Report
-run_from zero now idle js = record { idle = idle; missed = cond (late now js) (At now) Never }
+run_from zero now idle js = record { idle = idle; missed = cond (late now js) (Some now) None }
 run_from (suc ticks) now idle js =
-    cond (late now js) (record { idle = idle; missed = At now })
+    cond (late now js) (record { idle = idle; missed = Some now })
     (run_from ticks (now + 1) (idle + idle_tick (arrived now js)) (worked (arrived now js)))
 
 -- the run over a number of ticks, of jobs of which only run time and period matter

@@ -6,7 +6,7 @@ pub const JOB_LIMIT: usize = 64;
 
 // An instance on the engine: run time and period in ticks, what is left of the job at hand, and the time that it is due. That time is the sum of a time
 // and a period, so it fits.
-#[derive(Clone, Copy)]
+#[derive(Clone, Copy, PartialEq, Eq)]
 pub struct Job {
     pub run: u32,
     pub period: u32,
@@ -14,22 +14,15 @@ pub struct Job {
     pub due: u64,
 }
 
-// The first missed deadline.
-#[derive(Clone, Copy)]
-pub enum Missed {
-    Never,
-    At(u32),
-}
-
 // What a run reports: the ticks in which no job ran, and the first missed deadline, where it ends.
-#[derive(Clone, Copy)]
+#[derive(Clone, Copy, PartialEq, Eq)]
 pub struct Report {
     pub idle: u32,
-    pub missed: Missed,
+    pub missed: Option<u32>,
 }
 
 // What one tick does: the jobs after its arrivals, the place of the job that runs, the number of jobs where none does, and the jobs after it.
-#[derive(Clone, Copy)]
+#[derive(Clone, Copy, PartialEq, Eq)]
 pub struct Tick {
     pub here: [Job; JOB_LIMIT],
     pub at: usize,

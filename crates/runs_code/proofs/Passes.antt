@@ -1,5 +1,6 @@
 -- The loop of a run goes over all jobs in each tick, from the last one down: late or not, the arrival, the choice. Its invariant holds in the middle
 -- of a tick: the jobs before place i are still to be seen, those from it on have had their arrivals.
+use Rattle.std.proofs.Common.{Some}
 use Prim.Native.Nat.{ℕ, zero, suc, ◌+◌, ◌-◌, ◌*◌, ◌≤◌, ◌<◌}
 use mathlib.Core.Path.{◌≡◌, refl, sym, ap, ◌∙◌}
 use mathlib.Core.List.{List, [], ◌∷◌, ◌++◌, append-nil}
@@ -11,7 +12,6 @@ use borrow.Author.Tests.{eq-eqb, ne_eqb}
 use lib.ListN.{length, get_or, set, take, drop, take-append-drop, length-set}
 use lib.Seq.{take-suc, drop-cons, append_snoc, get_or-set_same, get_or-set_other, set-get_or, take-set-le, take-set-lt, drop-set-lt, length-take-le, drop-length, get_or-take, take-take}
 use Rattle.runs.specs.declared.Job.{Job}
-use Rattle.runs.specs.declared.Missed.TheVariants.{At}
 use Rattle.runs.specs.declared.Report.{Report}
 use Rattle.runs.specs.Run.{job_limit, no_job, fresh_job, late_job, late, arrived_job, arrived, pending, chosen, due_before, worked_job, worked_at, worked, idle_at, idle_tick, run_from}
 use Rattle.runs.proofs.Steps.{late-append, arrived-append, choice-start, choice-turn, worked-here, worked-none}
@@ -21,7 +21,7 @@ use Rattle.runs.proofs.Steps.{late-append, arrived-append, choice-start, choice-
 unfoldable pub passing : ℕ → ℕ → ℕ → List Job → List Job → Report
 passing zero now idle front back = run_from 0 now idle (front ++ back)
 passing (suc left) now idle front back =
-    cond (late now front) (record { idle = idle; missed = At now })
+    cond (late now front) (record { idle = idle; missed = Some now })
     (run_from left (now + 1) (idle + idle_tick (arrived now front ++ back)) (worked (arrived now front ++ back)))
 
 pass-start : (left now idle : ℕ) (js : List Job) → passing left now idle js [] ≡ run_from left now idle js
@@ -32,14 +32,14 @@ pass-start (suc left) now idle js = rw (append-nil (arrived now js))
 pass-late :
     (left now idle : ℕ) (front back : List Job) (j : Job)
     → late_job now j ≡ true
-    → passing (suc left) now idle (front ++ (j ∷ [])) back ≡ record { idle = idle; missed = At now }
+    → passing (suc left) now idle (front ++ (j ∷ [])) back ≡ record { idle = idle; missed = Some now }
 unfolding passing
 pass-late left now idle front back j h = rw (late-append now front j, h) (go (late now front))
   where
     rest : Report
     rest = run_from left (now + 1) (idle + idle_tick (arrived now (front ++ (j ∷ [])) ++ back)) (worked (arrived now (front ++ (j ∷ [])) ++ back))
 
-    go : (b : Bool) → cond (b || true) (record { idle = idle; missed = At now }) rest ≡ record { idle = idle; missed = At now }
+    go : (b : Bool) → cond (b || true) (record { idle = idle; missed = Some now }) rest ≡ record { idle = idle; missed = Some now }
     go true = refl
     go false = refl
 
@@ -161,7 +161,7 @@ module _ (ticks count : ℕ) (whole : Report) (fits : count ≤ job_limit) where
         front : take i state ≡ take k state ++ (j ∷ [])
         front = ap (λ (n : ℕ). take n state) (sym from ∙ add-one k) ∙ take-suc state k no_job within
 
-        pub mid-late : late_job now j ≡ true → record { idle = idle; missed = At now } ≡ whole
+        pub mid-late : late_job now j ≡ true → record { idle = idle; missed = Some now } ≡ whole
         mid-late e =
             sym (pass-late left now idle (take k state) (drop i (take count state)) j e)
             ∙ rw (one_less, front) at m.rest

@@ -1,20 +1,20 @@
 // The run of an engine (request 2026-14): each tick the pending job with the earliest deadline runs. Crate `runs` defines it.
+// The jobs go by index and count: `run_of` as one tick after another over a slice of them took 1.4 times as long, and its bar is 2 times C.
 #![tactic(auto)]
 
-ghost use Rattle.std.specs.Prelude.{◌≡◌, ◌≤◌, ◌<◌, not, ◌&&◌, get_or, take};
-ghost use Rattle.runs.specs.declared.Missed.TheVariants.{At};
+ghost use Rattle.std.specs.Prelude.{◌≡◌, ◌≤◌, ◌<◌, not, ◌&&◌, get_or, take, Some};
 ghost use Rattle.runs.specs.Run.{job_of, job_limit, late_job, fresh_job, arrived_job, worked_job, started, late, arrived, pending, due_before};
 ghost use Rattle.runs.specs.Run.{chosen, worked_at, worked, idle_at, run_from, run_of};
 
-use runs::{JOB_LIMIT, Job, Missed, Report, Tick};
+use runs::{JOB_LIMIT, Job, Report, Tick};
 
 // What a run reports that ends with a miss now.
 fn missed_at(idle: u32, now: u32) -> Report
-    ensures { result ≡ record { idle = idle; missed = At now } }
+    ensures { result ≡ record { idle = idle; missed = Some now } }
 {
     Report {
-        idle: idle,
-        missed: Missed::At(now),
+        idle,
+        missed: Some(now),
     }
 }
 
@@ -23,8 +23,8 @@ pub fn job_of(run: u32, period: u32) -> Job
     ensures { result ≡ job_of run period 0 0 }
 {
     Job {
-        run: run,
-        period: period,
+        run,
+        period,
         left: 0,
         due: 0,
     }
@@ -42,10 +42,9 @@ fn fresh_job(now: u32, j: Job) -> Job
     ensures { result ≡ fresh_job now j }
 {
     Job {
-        run: j.run,
-        period: j.period,
         left: j.run,
         due: now as u64 + j.period as u64,
+        ..j
     }
 }
 
@@ -54,21 +53,19 @@ fn arrived_job(now: u32, j: Job) -> Job
     ensures { result ≡ arrived_job now j }
 {
     if j.due == now as u64 {
-        return fresh_job(now, j);
+        fresh_job(now, j)
+    } else {
+        j
     }
-    j
 }
 
 // A job after one tick of work for it.
 fn worked_job(j: Job) -> Job
     ensures { result ≡ worked_job j }
 {
-    let left = if j.left > 0 { j.left - 1 } else { 0 };
     Job {
-        run: j.run,
-        period: j.period,
-        left: left,
-        due: j.due,
+        left: j.left.saturating_sub(1),
+        ..j
     }
 }
 
@@ -168,11 +165,7 @@ pub fn one_tick(now: u32, jobs: [Job; JOB_LIMIT], count: usize) -> Tick
     let here = arrived(now, jobs, count);
     let at = chosen(here, count);
     let next = worked_at(here, count, at);
-    Tick {
-        here: here,
-        at: at,
-        next: next,
-    }
+    Tick { here, at, next }
 }
 
 // 1 in a tick in which no job runs.
@@ -190,10 +183,7 @@ fn ended(idle: u32, now: u32, jobs: [Job; JOB_LIMIT], count: usize) -> Report
     if late(now, jobs, count) {
         return missed_at(idle, now);
     }
-    Report {
-        idle: idle,
-        missed: Missed::Never,
-    }
+    Report { idle, missed: None }
 }
 
 // The run of the first `count` jobs over a number of ticks, up to the first missed deadline. One loop, since a function for each step of a tick would

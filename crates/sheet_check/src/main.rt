@@ -3,18 +3,14 @@
 // They are joined as two bytes with the file's length, the file and the sheet; of a longer file or sheet its first 4,096 bytes.
 #![tactic(auto)]
 
-use front::read_joined;
+use front::{read_joined, write_answer};
 use std::process::ExitCode;
 
 // What is read holds all that can be joined. What `check_read` promises it promises of every file and every sheet that begin with these parts, and of any
 // input that begins with what was read.
 fn main(rt: HostRuntime) -> ExitCode {
     let joined = read_joined(&rt);
-    let bytes = joined.bytes;
     let mut out = io::buffer();
-    let written = answers_code::check_read(bytes, joined.read, &mut out);
-    match rt.write_all(&out[..written]) {
-        Ok(()) => ExitCode::SUCCESS,
-        Err(_) => ExitCode::FAILURE,
-    }
+    let written = answers_code::check_read(joined.bytes, joined.read, &mut out);
+    write_answer(&rt, &out[..written])
 }

@@ -1,4 +1,6 @@
 -- What `check_sheet` promises, from what it answers and leaves by definition: one verdict over the four tests, and what each test means.
+use Rattle.std.proofs.Common.{Result}
+use Rattle.system.specs.declared.Refusal.{Refusal}
 use Prim.Native.Nat.{ℕ, ◌<◌}
 use mathlib.Core.Path.{◌≡◌, refl, sym, ◌∙◌}
 use mathlib.Core.List.{List}
@@ -21,7 +23,6 @@ use Rattle.table.proofs.Room.{too-short-out}
 use Rattle.planner.specs.declared.EngineRecord.{EngineRecord}
 use Rattle.planner.specs.Plan.{plan_engines, table_left}
 use Rattle.planner.proofs.Cases.{long-out, long-back, plan-fills}
-use Rattle.sheets.specs.declared.SheetAnswer.{SheetAnswer}
 use Rattle.sheets.specs.Checking.{laid_out, summed_up, added_up, SheetOutcome, right, wrong, sheet_outcome_of, records_check, stated_loads, sheet_check, fewer_do, judged_sheet, check_outcome, check_table}
 use Rattle.sheets.specs.Meaning.{sheet_out, GoodForAll, Stated, Each, SumsAndFit, AddUp, ChecksInOrder, CheckPromises}
 use Rattle.sheets.proofs.Stated.{gather}
@@ -196,7 +197,7 @@ module _ (y : System) (sheet : List ℕ) (table : Lent) where
 -- main: any file
 
 -- the answer and the table are those that are defined
-pub record Checks (x : Reading) (sheet : List ℕ) (table : Lent) (r : SheetAnswer) (after : Lent) : Type 0 where
+pub record Checks (x : Reading) (sheet : List ℕ) (table : Lent) (r : Result Bool Refusal) (after : Lent) : Type 0 where
   pub answer : sheet_outcome_of r ≡ check_outcome x sheet table
   pub left : after ≡ check_table x sheet table
 
@@ -217,7 +218,7 @@ module _ (sheet : List ℕ) (table : Lent) where
     or_right = λ y e. rw e (or_right_lem y sheet table (known y e));
   }
 
-pub promises-of : (file sheet : List ℕ) (table : Lent) (r : SheetAnswer) (after : Lent) → Checks (read_file file) sheet table r after → CheckPromises (read_file file) sheet table r after
+pub promises-of : (file sheet : List ℕ) (table : Lent) (r : Result Bool Refusal) (after : Lent) → Checks (read_file file) sheet table r after → CheckPromises (read_file file) sheet table r after
 promises-of file sheet table r after p = record {
   answers = p.answer;
   leaves_table = p.left;

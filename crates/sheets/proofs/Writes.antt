@@ -1,4 +1,5 @@
 -- What `write_sheet` promises, from what it answers and leaves by definition: the sheet of a plan is that of a good assignment on the fewest engines, and the check finds it right.
+use Rattle.std.proofs.Common.{Ok, Err, Some, None}
 use Prim.Native.Nat.{ℕ, ◌+◌, ◌*◌, ◌≤◌, ◌<◌}
 use mathlib.Core.Path.{◌≡◌, refl, sym, ap, ap₂, subst, ◌∙◌}
 use mathlib.Core.List.{List, [], ◌∷◌, ◌++◌}
@@ -11,13 +12,11 @@ use lib.ListN.{length, get_or, take, drop, length-map}
 use lib.Seq.{take-append_seam}
 use lib.Dec.{ltb}
 use Rattle.system.specs.declared.System.{System}
-use Rattle.system.specs.declared.Answer.{Answer}
-use Rattle.system.specs.declared.Answer.TheVariants.{Accepted, Number, Refused}
+use Rattle.system.specs.Outcome.{Answer, Outcome, Source, accepted, refused, from_input, outcome_of}
 use Rattle.system.specs.declared.Refusal.TheVariants.{Input, State}
 use Rattle.system.specs.Values.{ceilings_of}
 use Rattle.system.specs.Limits.{engine_limit, type_limit, keeps_limits}
 use Rattle.system.specs.Layout.{Reading, read_file, opened, unread}
-use Rattle.system.specs.Outcome.{Outcome, Source, accepted, refused, from_input, outcome_of}
 use Rattle.system.proofs.Laws.{limits_of, read-keeps-limits}
 use Rattle.loads.specs.declared.EngineLoad.{EngineLoad}
 use Rattle.loads.specs.Load.{holds_none, idle_engine}
@@ -320,13 +319,13 @@ promises-written file table buffer r table_after buffer_after p = record {
 -- main: the three exits, from what the plan promises
 
 -- a plan that is refused is the answer
-refused_as : (v : Verdict) (answer : Answer) (buffer : List ℕ) → outcome_of answer ≡ plan_outcome v → ((n : ℕ) → answer ≡ Number n → ⊥) → (outcome_of answer ≡ write_outcome v (length buffer)) × (buffer ≡ written_to v buffer)
+refused_as : (v : Verdict) (answer : Answer) (buffer : List ℕ) → outcome_of answer ≡ plan_outcome v → ((n : ℕ) → answer ≡ Ok (Some n) → ⊥) → (outcome_of answer ≡ write_outcome v (length buffer)) × (buffer ≡ written_to v buffer)
 unfolding write_outcome written_to
 refused_as (unplanned s n) answer buffer o not = (o, refl)
-refused_as (planned y) Accepted buffer o not = let z : ◌≡◌ {A = ℕ} 0 1 = cc in absurd (omega arith)
-refused_as (planned y) (Number n) buffer o not = absurd (not n refl)
-refused_as (planned y) (Refused (Input n)) buffer o not = let z : ◌≡◌ {A = ℕ} 0 1 = cc in absurd (omega arith)
-refused_as (planned y) (Refused (State n)) buffer o not = let z : ◌≡◌ {A = ℕ} 0 1 = cc in absurd (omega arith)
+refused_as (planned y) (Ok None) buffer o not = let z : ◌≡◌ {A = ℕ} 0 1 = cc in absurd (omega arith)
+refused_as (planned y) (Ok (Some n)) buffer o not = absurd (not n refl)
+refused_as (planned y) (Err (Input n)) buffer o not = let z : ◌≡◌ {A = ℕ} 0 1 = cc in absurd (omega arith)
+refused_as (planned y) (Err (State n)) buffer o not = let z : ◌≡◌ {A = ℕ} 0 1 = cc in absurd (omega arith)
 
 -- a verdict with a number is that of the system that the file opens as, and can be placed
 pub record Given (x : Reading) (v : Verdict) : Type 0 where
@@ -351,12 +350,12 @@ module _ (file : List ℕ) (table : Lent) (buffer : List ℕ) (r : Plan) (after 
   abbrev v : Verdict
   v = sheet_verdict (read_file file) table
 
-  pub promised-refusal : ((n : ℕ) → r.answer ≡ Number n → ⊥) → WriteSheetPromises (read_file file) table buffer r.answer after buffer
+  pub promised-refusal : ((n : ℕ) → r.answer ≡ Ok (Some n) → ⊥) → WriteSheetPromises (read_file file) table buffer r.answer after buffer
   promised-refusal not =
       let both = refused_as v r.answer buffer p.answers not in
       promises-written file table buffer r.answer after buffer (record { answer = both.0; table-left = p.leaves_table; buffer-left = both.1 })
 
-  module _ (used : ℕ) (is : r.answer ≡ Number used) where
+  module _ (used : ℕ) (is : r.answer ≡ Ok (Some used)) where
     given : Given (read_file file) v
     given = given-of table used (read_file file) (λ y e. read-keeps-limits file y e) (sym p.answers ∙ ap outcome_of is)
 
@@ -379,22 +378,22 @@ module _ (file : List ℕ) (table : Lent) (buffer : List ℕ) (r : Plan) (after 
     size_is : sheet_size r.typecount r.loads ≡ length (plan_sheet (planned given.system))
     size_is = ap₂ (λ (k : ℕ) (ls : List EngineLoad). sheet_size k ls) types placed ∙ sym (size-planned given.system keeps given.placeable)
 
-    pub promised-short : length buffer < sheet_size r.typecount r.loads → WriteSheetPromises (read_file file) table buffer (Refused (Input 30)) after buffer
+    pub promised-short : length buffer < sheet_size r.typecount r.loads → WriteSheetPromises (read_file file) table buffer (Err (Input 30)) after buffer
     promised-short h =
         let yes-short = lt-ltb (length buffer) (length (plan_sheet (planned given.system))) (rw (← size_is) h) in
-        promises-written file table buffer (Refused (Input 30)) after buffer (record {
+        promises-written file table buffer (Err (Input 30)) after buffer (record {
           answer = rw given.same (sym (outcome-by given.system buffer true yes-short));
           table-left = p.leaves_table;
           buffer-left = rw given.same (sym (buffer-by given.system buffer true yes-short));
         })
 
-    pub promised-sheet : (n : ℕ) (new : List ℕ) → sheet_size r.typecount r.loads ≤ length buffer → Puts (sheet_bytes r.typecount r.loads) 0 buffer new n → WriteSheetPromises (read_file file) table buffer (Number n) after new
+    pub promised-sheet : (n : ℕ) (new : List ℕ) → sheet_size r.typecount r.loads ≤ length buffer → Puts (sheet_bytes r.typecount r.loads) 0 buffer new n → WriteSheetPromises (read_file file) table buffer (Ok (Some n)) after new
     promised-sheet n new h puts =
         let sheet = plan_sheet (planned given.system) in
         let start : 0 + length sheet ≡ length sheet = zero-add (length sheet) in
         let fits = le-ltb (length buffer) (length sheet) (rw (← size_is) h) in
         let put = rw bytes-are at puts in
-        promises-written file table buffer (Number n) after new (record {
+        promises-written file table buffer (Ok (Some n)) after new (record {
           answer = ap (λ (m : ℕ). accepted (m ∷ [])) (put.next ∙ start) ∙ rw given.same (sym (outcome-by given.system buffer false fits));
           table-left = p.leaves_table;
           buffer-left = put.left ∙ ap (λ (m : ℕ). sheet ++ drop m buffer) start ∙ rw given.same (sym (buffer-by given.system buffer false fits));

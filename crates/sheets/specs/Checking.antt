@@ -1,5 +1,5 @@
 -- When a sheet is right: request 2026-06's checks 32, 33 and 34, "in this order, after 11", and what the answer adds.
-use Rattle.std.specs.Prelude.{ℕ, List, Bool, ltb, eqb}
+use Rattle.std.specs.Prelude.{ℕ, List, Bool, ltb, eqb, Result, Ok, Err}
 use Rattle.system.specs.declared.System.{System}
 use Rattle.system.specs.declared.Refusal.{Refusal}
 use Rattle.system.specs.declared.Refusal.TheVariants.{Input, State}
@@ -14,8 +14,6 @@ use Rattle.table.specs.Table.{table_check, filled}
 use Rattle.planner.specs.Plan.{plan_engines, table_left}
 use Rattle.board.specs.Boards.{standing_of}
 use Rattle.board.specs.Truth.{true_loads}
-use Rattle.sheets.specs.declared.SheetAnswer.{SheetAnswer}
-use Rattle.sheets.specs.declared.SheetAnswer.TheVariants.{Right, Refused}
 use Rattle.sheets.specs.Sheet.{used_in, sheet_bytes, loads_in}
 
 -- what a check answers: right, with whether fewer engines would do, or the list that the refusal is from and its number there
@@ -27,9 +25,9 @@ abbrev pub wrong_for : Refusal → SheetOutcome
 wrong_for (Input n) = wrong from_input n
 wrong_for (State n) = wrong from_state n
 
-abbrev pub sheet_outcome_of : SheetAnswer → SheetOutcome
-sheet_outcome_of (Right fewer) = right fewer
-sheet_outcome_of (Refused r) = wrong_for r
+abbrev pub sheet_outcome_of : Result Bool Refusal → SheetOutcome
+sheet_outcome_of (Ok fewer) = right fewer
+sheet_outcome_of (Err r) = wrong_for r
 
 -- 32: the sheet is that of the loads, byte for byte
 abbrev pub laid_out : ℕ → List ℕ → List EngineLoad → Bool

@@ -2,11 +2,11 @@
 -- refusal says.
 -- None of these words stands in the definitions by which the code is described, but for those that read a check's answer (`sheet_outcome_of`, which
 -- clients/specs/Answers says case by case), so that code and statement cannot be wrong together.
-use Rattle.std.specs.Prelude.{ℕ, zero, suc, ◌+◌, ◌*◌, ◌≤◌, ◌<◌, List, [], ◌∷◌, ◌++◌, Bool, true, false, cond, ◌≡◌, ◌↔◌, length, get_or, take, drop, eqb}
+use Rattle.std.specs.Prelude.{ℕ, zero, suc, ◌+◌, ◌*◌, ◌≤◌, ◌<◌, List, [], ◌∷◌, ◌++◌, Bool, true, false, cond, ◌≡◌, ◌↔◌, length, get_or, take, drop, eqb, Result, None}
+use Rattle.system.specs.declared.Refusal.{Refusal}
 use Rattle.system.specs.declared.System.{System}
-use Rattle.system.specs.declared.Answer.{Answer}
+use Rattle.system.specs.Outcome.{Answer, Outcome, Source, accepted, refused, from_input, outcome_of}
 use Rattle.system.specs.Layout.{Reading, opened, unread}
-use Rattle.system.specs.Outcome.{Outcome, Source, accepted, refused, from_input, outcome_of}
 use Rattle.loads.specs.declared.EngineLoad.{EngineLoad}
 use Rattle.partition.specs.Assignment.{Assignment}
 use Rattle.partition.specs.Lent.{Lent}
@@ -18,7 +18,6 @@ use Rattle.planner.specs.declared.EngineRecord.{EngineRecord}
 use Rattle.planner.specs.declared.Plan.{Plan}
 use Rattle.planner.specs.Demands.{PlanPromises}
 use Rattle.board.specs.Words.{count_no, SumsOut, FitsOut}
-use Rattle.sheets.specs.declared.SheetAnswer.{SheetAnswer}
 use Rattle.sheets.specs.Writing.{sheet_verdict, write_outcome, written_to, write_table}
 use Rattle.sheets.specs.Checking.{SheetOutcome, right, wrong, sheet_outcome_of, check_outcome, check_table}
 
@@ -124,7 +123,7 @@ pub record ChecksInOrder (x : Reading) (sheet : List ℕ) (table : Lent) (o : Sh
 -- What the call `check_sheet` promises: its answer and the table, whole; the order of its refusals; that exactly the sheets of good assignments of all
 -- instances are right;
 -- that "fewer" is said exactly when some good assignment uses fewer engines than the sheet's fourth byte says; and that only a right sheet fills the table
-pub record CheckPromises (x : Reading) (sheet : List ℕ) (table : Lent) (r : SheetAnswer) (after : Lent) : Type 0 where
+pub record CheckPromises (x : Reading) (sheet : List ℕ) (table : Lent) (r : Result Bool Refusal) (after : Lent) : Type 0 where
   pub answers : sheet_outcome_of r ≡ check_outcome x sheet table
   pub leaves_table : after ≡ check_table x sheet table
   pub order : ChecksInOrder x sheet table (sheet_outcome_of r)

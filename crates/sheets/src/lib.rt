@@ -8,22 +8,15 @@ use system::Refusal;
 pub const SHEET_BYTES: usize = 389;
 
 // One row of the table of a sheet's fields: a tag, the bytes of its body, and those more that it has for each type.
-#[derive(Clone, Copy)]
+#[derive(Clone, Copy, PartialEq, Eq)]
 pub struct SheetRule {
     pub tag: u8,
     pub body: usize,
     pub each: usize,
 }
 
-// What a check answers: right, with whether fewer engines would do, or refused.
-#[derive(Clone, Copy)]
-pub enum SheetAnswer {
-    Right(bool),
-    Refused(Refusal),
-}
-
 // What a sheet has for one engine: its load, idle where no record of it stands, and the place where the next record starts.
-#[derive(Clone, Copy)]
+#[derive(Clone, Copy, PartialEq, Eq)]
 pub struct Taken {
     pub load: EngineLoad,
     pub next: usize,

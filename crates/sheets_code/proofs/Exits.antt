@@ -1,4 +1,5 @@
 -- One law for each way in which a check ends: what the code hands out there is what the check is defined as.
+use Rattle.std.proofs.Common.{Ok, Err}
 use Prim.Native.Nat.{ℕ}
 use mathlib.Core.Path.{◌≡◌, refl, sym, ap, ◌∙◌}
 use mathlib.Core.List.{List}
@@ -9,7 +10,6 @@ use Rattle.system.specs.declared.System.{System}
 use Rattle.system.specs.declared.Opened.{Opened}
 use Rattle.system.specs.declared.Refusal.{Refusal}
 use Rattle.system.specs.declared.Refusal.TheVariants.{Input, State}
-use Rattle.system.specs.declared.Answer.TheVariants.{Refused as Declined}
 use Rattle.system.specs.Values.{ceilings_of}
 use Rattle.system.specs.Limits.{keeps_limits}
 use Rattle.system.specs.Layout.{Reading, opened, Reads}
@@ -21,7 +21,6 @@ use Rattle.partition.specs.Lent.{Lent}
 use Rattle.table.specs.declared.Placement.{Placement}
 use Rattle.table.specs.Table.{table_check, filled, placement}
 use Rattle.planner.specs.Plan.{plan_engines, table_left}
-use Rattle.sheets.specs.declared.SheetAnswer.TheVariants.{Right, Refused}
 use Rattle.sheets.specs.Sheet.{used_in}
 use Rattle.sheets.specs.Checking.{laid_out, summed_up, added_up, wrong, wrong_for, layout_check, sums_check, totals_check, records_check, stated_loads, sheet_check, fewer_do, judged_sheet}
 use Rattle.sheets.proofs.Right.{Passed, passed-sheet, can}
@@ -33,7 +32,7 @@ refused-same : (why : Refusal) (n : ℕ) → refusal_of why ≡ refused from_inp
 refused-same (Input m) n e = cc
 refused-same (State m) n e = let z : ◌≡◌ {A = ℕ} 0 1 = cc in absurd (omega arith)
 
-pub unread-checks : (x : Reading) (r : Opened) → Reads x r → (why : Refusal) → r.answer ≡ Declined why → (sheet : List ℕ) (table : Lent) → Checks x sheet table (Refused why) table
+pub unread-checks : (x : Reading) (r : Opened) → Reads x r → (why : Refusal) → r.answer ≡ Err why → (sheet : List ℕ) (table : Lent) → Checks x sheet table (Err why) table
 unread-checks x r reads why is sheet table =
     let (n, same, says) = unread-with x r reads why is in
     rw same (record { answer = refused-same why n says; left = refl })
@@ -58,7 +57,7 @@ left_alone (State n) table done = refl
 
 module _ (x : Reading) (y : System) (is : x ≡ opened y) (sheet : List ℕ) (table : Lent) where
   -- 11
-  pub lent-checks : (why : Refusal) → fails_with why ≡ table_check y table → Checks x sheet table (Refused why) table
+  pub lent-checks : (why : Refusal) → fails_with why ≡ table_check y table → Checks x sheet table (Err why) table
   unfolding sheet_check
   lent-checks why failed = record {
     answer = rw (is, ← failed) (sym (fails-judged why (records_check y sheet (stated_loads y sheet)) (fewer_do y sheet)));
@@ -67,7 +66,7 @@ module _ (x : Reading) (y : System) (is : x ≡ opened y) (sheet : List ℕ) (ta
 
   module _ (lent : passes ≡ table_check y table) where
     -- 32, 33, 34
-    pub judged-checks : (why : Refusal) → fails_with why ≡ records_check y sheet (stated_loads y sheet) → Checks x sheet table (Refused why) table
+    pub judged-checks : (why : Refusal) → fails_with why ≡ records_check y sheet (stated_loads y sheet) → Checks x sheet table (Err why) table
     unfolding sheet_check
     judged-checks why failed = record {
       answer = rw (is, ← lent, ← failed) (sym (fails-alone why (fewer_do y sheet)));
@@ -87,7 +86,7 @@ module _ (x : Reading) (y : System) (is : x ≡ opened y) (sheet : List ℕ) (ta
           }
 
       -- a sheet that is right: all instances can be placed, on as many engines as the lowest yes row says
-      pub right-checks : (p : Placement) → p ≡ placement y (plan_engines y) (ceilings_of y) → (used : ℕ) → used ≡ used_in (stated_loads y sheet) → Checks x sheet table (Right (ltb p.used used)) (filled y (plan_engines y) table)
+      pub right-checks : (p : Placement) → p ≡ placement y (plan_engines y) (ceilings_of y) → (used : ℕ) → used ≡ used_in (stated_loads y sheet) → Checks x sheet table (Ok (ltb p.used used)) (filled y (plan_engines y) table)
       unfolding sheet_check placement
       right-checks p same used counted =
           let (χ, s) = passed-sheet y keeps sheet all-passed in

@@ -1,55 +1,63 @@
--- One turn and the end of each loop of the check.
+-- What the chains of the check answer, and one turn and the end of each of its loops.
+use Rattle.std.proofs.Common.{Option, None, Some, Ok}
+use Rattle.std.specs.List.{list_all, zip, filter}
+use Rattle.std.specs.Cmp.Lexicographic.{pointwise}
 use Prim.Native.Nat.{ℕ, suc, ◌+◌, ◌-◌, ◌≤◌, ◌<◌}
 use mathlib.Core.Path.{◌≡◌, refl, sym, ap, ◌∙◌}
 use mathlib.Core.List.{List, [], ◌∷◌, ◌++◌, append-nil}
-use mathlib.Core.Bool.{Bool, true, false, cond, ◌&&◌}
+use mathlib.Core.Bool.{Bool, true, false, cond, not, ◌&&◌}
 use native.Mathlib.Nat.{zero-add}
 use native.Mathlib.Numerals.{add-one}
 use native.Mathlib.Omega.{arith}
-use lib.ListN.{length, get_or, take, drop, set, length-append, length-drop, drop_of_length-le}
-use lib.Seq.{drop-cons, take-suc-set, append_snoc, take_all, take_at}
+use lib.ListN.{length, take, drop, set, length-append, length-drop}
+use lib.Seq.{take-suc-set, append_snoc, take_all, take_at}
 use lib.Dec.{leb, eqb}
 use Rattle.buffer.specs.Written.{Puts}
 use Rattle.system.specs.declared.TaskType.{TaskType}
-use Rattle.system.specs.Values.{no_task}
-use Rattle.system.specs.Layout.{byte_at}
+use Rattle.system.specs.Layout.{byte_at, read_file}
+use Rattle.system.specs.Limits.{engine_limit}
+use Rattle.system.specs.Outcome.{outcome_of}
+use Rattle.partition.specs.Lent.{Lent}
+use Rattle.planner.specs.declared.Plan.{Plan}
+use Rattle.planner.specs.Plan.{Verdict, unplanned, planned, verdict_of, plan_outcome}
+use Rattle.planner.specs.Demands.{PlanPromises}
 use Rattle.loads.specs.declared.EngineLoad.{EngineLoad}
-use Rattle.loads.specs.Load.{idle_engine}
+use Rattle.loads.specs.Load.{idle_engine, holds_none}
 use Rattle.loads.proofs.Steps.{ceilings}
 use Rattle.partition.specs.Listing.{same_list}
 use Rattle.table.specs.Parts.{up_to}
 use Rattle.sheets.specs.declared.Taken.{Taken}
-use Rattle.sheets.specs.Sheet.{record_rule, field_size, stated_load, is_next, taken_at, loads_from}
+use Rattle.partition.specs.Shares.{used_loads}
+use Rattle.sheets.specs.Sheet.{used_in, record_rule, field_size, stated_load, is_next, taken_at, loads_from}
 
--- two lists of numbers
-pub same_turn : (a b : List ℕ) (i : ℕ) → i < length a → i < length b → same_list eqb (drop i a) (drop i b) ≡ (eqb (get_or a i 0) (get_or b i 0) && same_list eqb (drop (i + 1) a) (drop (i + 1) b))
+-- what `==` of two slices of numbers answers
+pub same-pointwise : (a b : List ℕ) → pointwise eqb a b ≡ same_list eqb a b
 unfolding same_list
-same_turn a b i h g = rw (add-one i, drop-cons a i 0, drop-cons b i 0)
-
-pub same_end : (a b : List ℕ) (i : ℕ) → length a ≤ i → length b ≤ i → same_list eqb (drop i a) (drop i b) ≡ true
-unfolding same_list
-same_end a b i h g = rw (drop_of_length-le a {i = i}, drop_of_length-le b {i = i})
+same-pointwise [] [] = refl
+same-pointwise [] (y ∷ b) = refl
+same-pointwise (x ∷ a) [] = refl
+same-pointwise (x ∷ a) (y ∷ b) = ap (λ (p : Bool). eqb x y && p) (same-pointwise a b)
 
 -- totals and ceilings
-pub totals-turn : (sum : List ℕ) (ts : List TaskType) (i : ℕ) → i < length sum → i < length ts
-    → same_list eqb (drop i sum) (ceilings (drop i ts)) ≡ (eqb (get_or sum i 0) (get_or ts i no_task).ceiling && same_list eqb (drop (i + 1) sum) (ceilings (drop (i + 1) ts)))
+pub totals-zip : (sum : List ℕ) (ts : List TaskType) → length sum ≡ length ts → list_all (λ (p : ℕ × TaskType). eqb p.0 p.1.ceiling) (zip sum ts) ≡ same_list eqb sum (ceilings ts)
 unfolding same_list
-totals-turn sum ts i h g = rw (add-one i, drop-cons sum i 0, drop-cons ts i no_task)
+totals-zip [] [] h = refl
+totals-zip [] (t ∷ ts) h = absurd (omega arith)
+totals-zip (x ∷ sum) [] h = absurd (omega arith)
+totals-zip (x ∷ sum) (t ∷ ts) h = ap (λ (p : Bool). eqb x t.ceiling && p) (totals-zip sum ts (omega arith))
 
-pub totals-end : (sum : List ℕ) (ts : List TaskType) (i : ℕ) → length sum ≤ i → length ts ≤ i → same_list eqb (drop i sum) (ceilings (drop i ts)) ≡ true
-unfolding same_list
-totals-end sum ts i h g = rw (drop_of_length-le sum {i = i}, drop_of_length-le ts {i = i})
-
-pub same_length : (a b : List ℕ) → (length a ≡ length b → ⊥) → same_list eqb a b ≡ false
-unfolding same_list
-same_length [] [] h = absurd (h refl)
-same_length [] (y ∷ b) h = refl
-same_length (x ∷ a) [] h = refl
-same_length (x ∷ a) (y ∷ b) h = rw (same_length a b (λ e. h (ap suc e))) (and_none (eqb x y))
+-- the engines that hold an instance
+pub used-filter : (ls : List EngineLoad) → length (filter (λ (l : EngineLoad). not (holds_none l.counts)) ls) ≡ used_in ls
+unfolding used_loads
+used-filter [] = refl
+used-filter (l ∷ ls) = go (holds_none l.counts) (used-filter ls)
   where
-    and_none : (p : Bool) → (p && false) ≡ false
-    and_none true = refl
-    and_none false = refl
+    rest : List EngineLoad
+    rest = filter (λ (k : EngineLoad). not (holds_none k.counts)) ls
+
+    go : (b : Bool) → length rest ≡ used_in ls → length (cond (not b) (l ∷ rest) rest) ≡ cond b (used_in ls) (suc (used_in ls))
+    go true e = e
+    go false e = ap suc e
 
 -- a list of numbers filled from its start
 pub up_to-turn : (f : ℕ → ℕ) (l : List ℕ) (t v : ℕ) → t < length l → v ≡ f t → take t l ≡ up_to f t → take (t + 1) (set l t v) ≡ up_to f (t + 1)
@@ -97,3 +105,12 @@ put_front {bytes = bytes} {old = old} {r = r} p = rw p.left (take_at bytes (drop
 pub put-within : {bytes old new : List ℕ} {r : ℕ} → Puts bytes 0 old new r → length new ≡ length old → r ≤ length new
 put-within {bytes = bytes} {old = old} p kept =
     omega (arith, p.next, kept, ap length p.left, length-append bytes (drop (0 + length bytes) old), length-drop (0 + length bytes) old)
+
+-- a plan that is not refused has a number
+pub accepted-number : (file : List ℕ) (table : Lent) (r : Plan) (after : Lent) → PlanPromises (read_file file) table engine_limit r after → {v : Option ℕ} → r.answer ≡ Ok v → (n : ℕ) × (r.answer ≡ Ok (Some n))
+accepted-number file table r after p {v = v} is = go v (verdict_of (read_file file) table engine_limit) (sym p.answers ∙ ap outcome_of is) is
+  where
+    go : (w : Option ℕ) (x : Verdict) → plan_outcome x ≡ outcome_of (Ok w) → r.answer ≡ Ok w → (n : ℕ) × (r.answer ≡ Ok (Some n))
+    go (Some n) x o e = (n, e)
+    go None (planned y) o e = let z : ◌≡◌ {A = ℕ} 0 1 = cc in absurd (omega arith)
+    go None (unplanned s n) o e = let z : ◌≡◌ {A = ℕ} 0 1 = cc in absurd (omega arith)

@@ -15,8 +15,8 @@ use crate::rules::{HEADER, RECORD, field_size, used_engines};
 use crate::writing::put_sheet;
 use loads::EngineLoad;
 use loads_code::idle_engine;
-use sheets::{SHEET_BYTES, SheetAnswer, Taken};
-use system::{Answer, Check, Cursor, ENGINE_LIMIT, Refusal, System, TYPE_LIMIT, TaskType};
+use sheets::{SHEET_BYTES, Taken};
+use system::{Cursor, ENGINE_LIMIT, Refusal, System, TYPE_LIMIT, TaskType};
 use system_code::{HEAD_SIZE, byte_at, four_bytes, rest_at, two_bytes};
 
 // Where a record's time stands, after its head and its number, and where its memory does.
@@ -35,7 +35,7 @@ fn count_in(rest: &[u8], k: usize, t: usize) -> u16
     0
 }
 
-// The counts of a record of k types.
+// The counts of a record of k types: t is the number of a type, and no list holds what is read.
 fn counts_in(rest: &[u8], k: usize) -> [u16; TYPE_LIMIT]
     ensures { result ≡ stated_counts k rest.now }
 {
@@ -93,80 +93,56 @@ fn loads_in(sheet: &[u8], m: usize, k: usize) -> [EngineLoad; ENGINE_LIMIT]
     loads
 }
 
-// Whether two parts are the same, byte for byte and in length.
-fn same_bytes(a: &[u8], b: &[u8]) -> bool
-    ensures { result ≡ same_list eqb a.now b.now }
-{
-    if a.len() != b.len() {
-        return false;
-    }
-    let mut same = true;
-    for i in 0..a.len() {
-        same = same & (a[i] == b[i]);
-    }
-    same
-}
-
 // Refusal 32: the sheet is not the one of these records.
-fn layout_check(sheet: &[u8], k: usize, loads: [EngineLoad; ENGINE_LIMIT]) -> Check
+fn layout_check(sheet: &[u8], k: usize, loads: [EngineLoad; ENGINE_LIMIT]) -> Result<(), Refusal>
     requires { k ≤ type_limit }
     ensures { checked_of result ≡ layout_check k sheet.now loads }
 {
     let mut copy = [0u8; SHEET_BYTES];
     let size = put_sheet(&mut copy, k, loads);
-    if same_bytes(sheet, &copy[..size]) {
-        return Check::Passes;
+    if sheet == &copy[..size] {
+        return Ok(());
     }
-    Check::Fails(Refusal::Input(32))
+    Err(Refusal::Input(32))
 }
 
 // Refusal 33: a stated sum is not that of the counts, or they do not fit.
-fn sums_check(y: System, loads: [EngineLoad; ENGINE_LIMIT]) -> Check
+fn sums_check(y: System, loads: [EngineLoad; ENGINE_LIMIT]) -> Result<(), Refusal>
     ensures { checked_of result ≡ sums_check y loads }
 {
     if board_code::true_loads(y, loads) {
-        return Check::Passes;
+        return Ok(());
     }
-    Check::Fails(Refusal::Input(33))
+    Err(Refusal::Input(33))
 }
 
 // Whether every total is its type's ceiling.
 fn totals_match(sum: [u32; TYPE_LIMIT], types: [TaskType; TYPE_LIMIT]) -> bool
     ensures { result ≡ same_list eqb sum (map (λ (t : TaskType). t.ceiling) types) }
 {
-    let mut same = true;
-    for t in 0..TYPE_LIMIT {
-        let task = types[t];
-        same = same & (sum[t] == task.ceiling as u32);
-    }
-    same
+    sum.iter()
+        .zip(&types)
+        .all(|(all, task)| *all == task.ceiling as u32)
 }
 
 // Refusal 34: the counts of a type do not add up to its ceiling.
-fn totals_check(y: System, loads: [EngineLoad; ENGINE_LIMIT]) -> Check
+fn totals_check(y: System, loads: [EngineLoad; ENGINE_LIMIT]) -> Result<(), Refusal>
     ensures { checked_of result ≡ totals_check y loads }
 {
     let sum = board_code::total(loads);
-    let types = y.types;
-    if totals_match(sum, types) {
-        return Check::Passes;
+    if totals_match(sum, y.types) {
+        return Ok(());
     }
-    Check::Fails(Refusal::Input(34))
+    Err(Refusal::Input(34))
 }
 
 // The sheet and the records taken from it are judged: 32, 33, 34.
-fn records_check(sheet: &[u8], y: System, loads: [EngineLoad; ENGINE_LIMIT]) -> Check
+fn records_check(sheet: &[u8], y: System, loads: [EngineLoad; ENGINE_LIMIT]) -> Result<(), Refusal>
     requires { y.typecount ≤ type_limit }
     ensures { checked_of result ≡ records_check y sheet.now loads }
 {
-    let layout = layout_check(sheet, y.typecount, loads);
-    if let Check::Fails(why) = layout {
-        return Check::Fails(why);
-    }
-    let sums = sums_check(y, loads);
-    if let Check::Fails(why) = sums {
-        return Check::Fails(why);
-    }
+    layout_check(sheet, y.typecount, loads)?;
+    sums_check(y, loads)?;
     totals_check(y, loads)
 }
 
@@ -178,25 +154,16 @@ pub fn check_sheet(
     sheet: &[u8],
     rows: &mut [u16],
     predecessors: &mut [u16],
-) -> SheetAnswer
+) -> Result<bool, Refusal>
     ensures { CheckPromises (read_file file.now) sheet.now (lent rows.old predecessors.old) result (lent rows.new predecessors.new) }
 {
-    let read = system_code::read_system(file);
-    let answer = read.answer;
-    if let Answer::Refused(why) = answer {
-        return SheetAnswer::Refused(why);
-    }
-    let y = read.system;
-    let room = table_code::table_check(y, rows.len(), predecessors.len());
-    if let Check::Fails(why) = room {
-        return SheetAnswer::Refused(why);
-    }
+    let opened = system_code::read_system(file);
+    opened.answer?;
+    let y = opened.system;
+    table_code::table_check(y, rows.len(), predecessors.len())?;
     let loads = loads_in(sheet, y.engines, y.typecount);
-    let judged = records_check(sheet, y, loads);
-    if let Check::Fails(why) = judged {
-        return SheetAnswer::Refused(why);
-    }
+    records_check(sheet, y, loads)?;
     let engines = table_code::engines_to(y.engines);
     let placement = table_code::place(rows, predecessors, y, engines, table_code::ceilings_of(y));
-    SheetAnswer::Right(placement.used < used_engines(loads))
+    Ok(placement.used < used_engines(loads))
 }

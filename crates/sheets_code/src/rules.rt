@@ -1,8 +1,7 @@
 // The table of a sheet's fields, which both the writer and the check ask for tags and lengths. A system file knows nothing of these tags.
-ghost use Rattle.std.specs.Prelude.{◌≡◌, ◌≤◌, ◌<◌, cond};
+ghost use Rattle.std.specs.Prelude.{◌≡◌, ◌≤◌, ◌<◌};
 ghost use Rattle.system.specs.Limits.{type_limit};
 ghost use Rattle.sheets.specs.Sheet.{rule_at, body_size, field_size, used_in, sheet_size};
-ghost use Rattle.loads.specs.Load.{holds_none};
 
 use loads::EngineLoad;
 use sheets::SheetRule;
@@ -27,13 +26,12 @@ const RULES: [SheetRule; 2] = [
     },
 ];
 
-// The table's rule in a row.
+// The table's rule in a row: the definitions name a rule by its row too (`rule_at` of crate `sheets`).
 pub(crate) fn rule_at(row: usize) -> SheetRule
     requires { row < 2 }
     ensures { result ≡ rule_at row }
 {
-    let rules = RULES;
-    rules[row]
+    RULES[row]
 }
 
 // The bytes of a field's body where there are k types.
@@ -53,27 +51,14 @@ pub(crate) fn field_size(row: usize, k: usize) -> usize
     HEAD_SIZE + body_size(row, k)
 }
 
-// 1 for an engine that holds an instance, else 0.
-fn engine_used(l: EngineLoad) -> usize
-    ensures { result ≡ cond (holds_none l.counts) 0 1 }
-{
-    let counts = l.counts;
-    if loads_code::holds_none(counts) {
-        return 0;
-    }
-    1
-}
-
 // How many of the engines hold an instance.
 pub(crate) fn used_engines(loads: [EngineLoad; ENGINE_LIMIT]) -> usize
     ensures { (result ≡ used_in loads) × (result ≤ 16) }
 {
-    let mut used: usize = 0;
-    for i in 0..ENGINE_LIMIT {
-        let l = loads[i];
-        used += engine_used(l);
-    }
-    used
+    loads
+        .iter()
+        .filter(|l| !loads_code::holds_none(l.counts))
+        .count()
 }
 
 // The bytes of the sheet of these engines.

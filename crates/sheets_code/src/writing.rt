@@ -32,8 +32,8 @@ fn put_counts(out: &mut [u8], at: usize, k: usize, counts: [u16; TYPE_LIMIT]) ->
     ensures { Puts (counts_bytes (take k counts)) at out.old out.new result }
 {
     let mut next = at;
-    for t in 0..k {
-        next = put_two(out, next, counts[t]);
+    for count in &counts[..k] {
+        next = put_two(out, next, *count);
     }
     next
 }
@@ -47,8 +47,7 @@ fn put_record(out: &mut [u8], at: usize, k: usize, e: usize, l: EngineLoad) -> u
     let numbered = put_byte(out, headed, e as u8);
     let timed = put_four(out, numbered, l.time);
     let stored = put_four(out, timed, l.memory);
-    let counts = l.counts;
-    put_counts(out, stored, k, counts)
+    put_counts(out, stored, k, l.counts)
 }
 
 // Puts the record of an engine that holds an instance; nothing for any other.
@@ -56,8 +55,7 @@ fn put_engine(out: &mut [u8], at: usize, k: usize, e: usize, l: EngineLoad) -> u
     requires { (k ≤ type_limit) × (e < 256) × (at + engine_size k l ≤ length out.old) }
     ensures { Puts (engine_bytes k e l) at out.old out.new result }
 {
-    let counts = l.counts;
-    if loads_code::holds_none(counts) {
+    if loads_code::holds_none(l.counts) {
         return at;
     }
     put_record(out, at, k, e, l)
@@ -69,9 +67,8 @@ fn put_records(out: &mut [u8], at: usize, k: usize, loads: [EngineLoad; ENGINE_L
     ensures { Puts (records_bytes k 1 loads) at out.old out.new result }
 {
     let mut next = at;
-    for i in 0..ENGINE_LIMIT {
-        let l = loads[i];
-        next = put_engine(out, next, k, i + 1, l);
+    for (i, l) in loads.iter().enumerate() {
+        next = put_engine(out, next, k, i + 1, *l);
     }
     next
 }
@@ -99,13 +96,9 @@ pub fn write_sheet(
     ensures { WriteSheetPromises (read_file file.now) (lent rows.old predecessors.old) buffer.old result (lent rows.new predecessors.new) buffer.new }
 {
     let plan = planner_code::plan_one_kind(file, rows, predecessors);
-    let answer = plan.answer;
-    let Answer::Number(used) = answer else {
-        return answer;
-    };
-    let loads = plan.loads;
-    if buffer.len() < sheet_size(plan.typecount, loads) {
-        return Answer::Refused(Refusal::Input(30));
+    plan.answer?;
+    if buffer.len() < sheet_size(plan.typecount, plan.loads) {
+        return Err(Refusal::Input(30));
     }
-    Answer::Number(put_sheet(buffer, plan.typecount, loads))
+    Ok(Some(put_sheet(buffer, plan.typecount, plan.loads)))
 }

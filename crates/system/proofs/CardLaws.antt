@@ -1,17 +1,15 @@
 -- Request 2026-13: a card of two kinds of engine that keeps the limits, as two systems of one kind each. Both keep document 01's limits: their engines are some of the card's, a type has the same n, d and q
 -- in both and no C and T, and its u and s on the second kind are within the limits, or 0 where none are given. So all that is known of one kind holds of both.
+use Rattle.std.proofs.Common.{Option, None, Some}
+use Rattle.system.specs.declared.Costs.{Costs}
+use Rattle.system.specs.declared.Cycle.{Cycle}
 use Prim.Native.Nat.{ℕ, ◌+◌, ◌≤◌, zero-le}
 use native.Mathlib.Omega.{arith}
 use mathlib.Core.List.{List, [], ◌∷◌, map}
 use mathlib.Core.Bool.{true}
 use mathlib.Core.Path.{◌≡◌, refl, ap, ◌∙◌}
 use lib.ListN.{get_or, length-map, get_or-map}
-use Rattle.system.specs.declared.Pace.{Pace}
-use Rattle.system.specs.declared.Pace.TheVariants.{Unpaced}
-use Rattle.system.specs.declared.There.{There}
-use Rattle.system.specs.declared.There.TheVariants.{Absent, Takes}
 use Rattle.system.specs.declared.Kind.{Kind}
-use Rattle.system.specs.declared.Second.TheVariants.{TwoKinds}
 use Rattle.system.specs.declared.TaskType.{TaskType}
 use Rattle.system.specs.declared.System.{System}
 use Rattle.system.specs.Values.{no_task, ceilings_of}
@@ -21,37 +19,37 @@ use Rattle.system.proofs.Laws.{Sized, KindLimits, CardLimits, Limits, costs-size
 
 -- What a type is on the second kind, whether its costs there are given or not: the same n, d and q, no C and T, and nothing of a further kind
 module _ (t : TaskType) where
-  costing-ceiling : (x : There) → (task_costing x t).ceiling ≡ t.ceiling
-  costing-ceiling Absent = refl
-  costing-ceiling (Takes c) = refl
+  costing-ceiling : (x : Option Costs) → (task_costing x t).ceiling ≡ t.ceiling
+  costing-ceiling None = refl
+  costing-ceiling (Some c) = refl
 
-  pub costing-data : (x : There) → (task_costing x t).data ≡ t.data
-  costing-data Absent = refl
-  costing-data (Takes c) = refl
+  pub costing-data : (x : Option Costs) → (task_costing x t).data ≡ t.data
+  costing-data None = refl
+  costing-data (Some c) = refl
 
-  pub costing-most : (x : There) → (task_costing x t).most ≡ t.most
-  costing-most Absent = refl
-  costing-most (Takes c) = refl
+  pub costing-most : (x : Option Costs) → (task_costing x t).most ≡ t.most
+  costing-most None = refl
+  costing-most (Some c) = refl
 
-  costing-pace : (x : There) → (task_costing x t).pace ≡ Unpaced
-  costing-pace Absent = refl
-  costing-pace (Takes c) = refl
+  costing-pace : (x : Option Costs) → (task_costing x t).pace ≡ None
+  costing-pace None = refl
+  costing-pace (Some c) = refl
 
-  costing-there : (x : There) → (task_costing x t).there ≡ Absent
-  costing-there Absent = refl
-  costing-there (Takes c) = refl
+  costing-there : (x : Option Costs) → (task_costing x t).there ≡ None
+  costing-there None = refl
+  costing-there (Some c) = refl
 
   -- within the limits where its costs there are
-  costing-sized : (x : There) → costs_fault x ≡ 0 → Sized t → Sized (task_costing x t)
-  costing-sized Absent e s = record { time = zero-le; memory = zero-le; «data» = s.data }
-  costing-sized (Takes c) e s = let p = costs-sized (Takes c) c e refl in record { time = p.0; memory = p.1; «data» = s.data }
+  costing-sized : (x : Option Costs) → costs_fault x ≡ 0 → Sized t → Sized (task_costing x t)
+  costing-sized None e s = record { time = zero-le; memory = zero-le; «data» = s.data }
+  costing-sized (Some c) e s = let p = costs-sized (Some c) c e refl in record { time = p.0; memory = p.1; «data» = s.data }
 
 -- The types of both systems, by their number from 0
 module _ (y : System) where
   pub type-first : (i : ℕ) → get_or (first_of y).types i no_task ≡ task_here (get_or y.types i no_task)
   type-first i = get_or-map task_here y.types i no_task
 
-  pub first-pace : (i : ℕ) → (get_or (first_of y).types i no_task).pace ≡ Unpaced
+  pub first-pace : (i : ℕ) → (get_or (first_of y).types i no_task).pace ≡ None
   first-pace i = ap (λ (t : TaskType). t.pace) (type-first i)
 
   module _ (k : Kind) where
@@ -64,7 +62,7 @@ module _ (y : System) where
     pub second-data : (i : ℕ) → (get_or (second_of y k).types i no_task).data ≡ (get_or y.types i no_task).data
     second-data i = let t = get_or y.types i no_task in ap (λ (z : TaskType). z.data) (type-second i) ∙ costing-data t t.there
 
-    pub second-pace : (i : ℕ) → (get_or (second_of y k).types i no_task).pace ≡ Unpaced
+    pub second-pace : (i : ℕ) → (get_or (second_of y k).types i no_task).pace ≡ None
     second-pace i = let t = get_or y.types i no_task in ap (λ (z : TaskType). z.pace) (type-second i) ∙ costing-pace t t.there
 
     pub second-most : (i : ℕ) → (get_or (second_of y k).types i no_task).most ≡ (get_or y.types i no_task).most
@@ -89,7 +87,7 @@ pub second-columns : (y : System) (k : Kind) → columns (second_of y k) ≡ col
 second-columns y k = ap columns_of (second-ceilings y k)
 
 -- Both keep the limits
-module _ (y : System) (k : Kind) (keeps : keeps_card y ≡ true) (two : y.second ≡ TwoKinds k) where
+module _ (y : System) (k : Kind) (keeps : keeps_card y ≡ true) (two : y.second ≡ Some k) where
   card : CardLimits y
   card = card-of y keeps
 
@@ -133,7 +131,7 @@ module _ (y : System) (k : Kind) (keeps : keeps_card y ≡ true) (two : y.second
     past = λ i h. type-second y k i ∙ ap task_there (card.past i h);
     sized = λ i. rw (type-second y k i) (costing-sized (get_or y.types i no_task) (get_or y.types i no_task).there (card.costs i) (card.sized i));
     replicas = λ i. ap most_fault (second-most y k i) ∙ card.replicas i;
-    paces = λ i. ap (λ (x : Pace). pace_fault k.timecap (get_or (second_of y k).types i no_task).time x) (second-pace y k i);
+    paces = λ i. ap (λ (x : Option Cycle). pace_fault k.timecap (get_or (second_of y k).types i no_task).time x) (second-pace y k i);
     one_kind = refl;
     absent = λ i. ap (λ (t : TaskType). t.there) (type-second y k i) ∙ costing-there (get_or y.types i no_task) (get_or y.types i no_task).there;
   }

@@ -1,4 +1,5 @@
 -- What a field that is read does to the system so far: a type is one more, with d 0, no q, no C and T and nothing of a second kind; a tag 3 sets d of the last type and nothing else (request 2026-03), a tag 4 its q and nothing else (2026-04), a tag 5 its C and T and nothing else (2026-14), a tag 6 the second kind of engine and nothing else, and a tag 7 the last type's u and s there and nothing else (2026-13).
+use Rattle.std.proofs.Common.{None, Some, Ok}
 use Prim.Native.Nat.{ℕ, suc, ◌-◌, ◌≤◌, ◌<◌}
 use native.Mathlib.Omega.{arith}
 use mathlib.Core.List.{List}
@@ -8,16 +9,11 @@ use borrow.Author.Tests.{le-leb, lt-leb, leb-false, ne_eqb}
 use lib.ListN.{length, get_or}
 use lib.Seq.{get_or-set_same, get_or-set_other}
 use lib.Dec.{leb}
-use Rattle.system.specs.declared.Most.TheVariants.{NotGiven, AtMost}
 use Rattle.system.specs.declared.Cycle.{Cycle}
-use Rattle.system.specs.declared.Pace.TheVariants.{Unpaced, Paced}
 use Rattle.system.specs.declared.Costs.{Costs}
-use Rattle.system.specs.declared.There.TheVariants.{Absent, Takes}
-use Rattle.system.specs.declared.Second.TheVariants.{TwoKinds}
 use Rattle.system.specs.declared.TaskType.{TaskType}
 use Rattle.system.specs.declared.System.{System}
 use Rattle.system.specs.declared.FieldRule.{FieldRule}
-use Rattle.system.specs.declared.Head.TheVariants.{Ruled}
 use Rattle.system.specs.Values.{task_of, with_data, with_most, with_pace, with_costs, no_task, with_second, with_type, last_type, with_last}
 use Rattle.system.specs.Limits.{type_limit, size_limit, kind_fault, type_fault, most_fault, cycle_keeps, pace_fault, costs_fault}
 use Rattle.system.specs.Layout.{type_rule, data_rule, most_rule, pace_rule, second_rule, costs_rule, follows, may_follow, opened, unread, byte_at, word2, word4, body_part}
@@ -48,9 +44,9 @@ pub record AddsType (u s n : ℕ) (y z : System) : Type 0 where
   pub memory : (type_at z y.typecount).memory ≡ s
   pub ceiling : (type_at z y.typecount).ceiling ≡ n
   pub no-data : (type_at z y.typecount).data ≡ 0
-  pub no-most : (type_at z y.typecount).most ≡ NotGiven
-  pub no-pace : (type_at z y.typecount).pace ≡ Unpaced
-  pub no-costs : (type_at z y.typecount).there ≡ Absent
+  pub no-most : (type_at z y.typecount).most ≡ None
+  pub no-pace : (type_at z y.typecount).pace ≡ None
+  pub no-costs : (type_at z y.typecount).there ≡ None
   pub others : (i : ℕ) → (i ≡ y.typecount → ⊥) → type_at z i ≡ type_at y i
 
 -- d of the last type
@@ -76,7 +72,7 @@ pub record SetsMost (q : ℕ) (y z : System) : Type 0 where
   pub memory : (type_at z (y.typecount - 1)).memory ≡ (type_at y (y.typecount - 1)).memory
   pub ceiling : (type_at z (y.typecount - 1)).ceiling ≡ (type_at y (y.typecount - 1)).ceiling
   pub «data» : (type_at z (y.typecount - 1)).data ≡ (type_at y (y.typecount - 1)).data
-  pub most-set : (type_at z (y.typecount - 1)).most ≡ AtMost q
+  pub most-set : (type_at z (y.typecount - 1)).most ≡ Some q
   pub pace : (type_at z (y.typecount - 1)).pace ≡ (type_at y (y.typecount - 1)).pace
   pub there : (type_at z (y.typecount - 1)).there ≡ (type_at y (y.typecount - 1)).there
   pub others : (i : ℕ) → (i ≡ y.typecount - 1 → ⊥) → type_at z i ≡ type_at y i
@@ -91,7 +87,7 @@ pub record SetsPace (c p : ℕ) (y z : System) : Type 0 where
   pub ceiling : (type_at z (y.typecount - 1)).ceiling ≡ (type_at y (y.typecount - 1)).ceiling
   pub «data» : (type_at z (y.typecount - 1)).data ≡ (type_at y (y.typecount - 1)).data
   pub most : (type_at z (y.typecount - 1)).most ≡ (type_at y (y.typecount - 1)).most
-  pub pace-set : (type_at z (y.typecount - 1)).pace ≡ Paced (record { run = c; period = p })
+  pub pace-set : (type_at z (y.typecount - 1)).pace ≡ Some (record { run = c; period = p })
   pub there : (type_at z (y.typecount - 1)).there ≡ (type_at y (y.typecount - 1)).there
   pub others : (i : ℕ) → (i ≡ y.typecount - 1 → ⊥) → type_at z i ≡ type_at y i
 
@@ -106,7 +102,7 @@ pub record SetsCosts (u s : ℕ) (y z : System) : Type 0 where
   pub «data» : (type_at z (y.typecount - 1)).data ≡ (type_at y (y.typecount - 1)).data
   pub most : (type_at z (y.typecount - 1)).most ≡ (type_at y (y.typecount - 1)).most
   pub pace : (type_at z (y.typecount - 1)).pace ≡ (type_at y (y.typecount - 1)).pace
-  pub costs-set : (type_at z (y.typecount - 1)).there ≡ Takes (record { time = u; memory = s })
+  pub costs-set : (type_at z (y.typecount - 1)).there ≡ Some (record { time = u; memory = s })
   pub others : (i : ℕ) → (i ≡ y.typecount - 1 → ⊥) → type_at z i ≡ type_at y i
 
 -- the second kind of engine: its number, U and S
@@ -114,12 +110,12 @@ pub record SetsSecond (n u s : ℕ) (y z : System) : Type 0 where
   pub first : SameFirst y z
   pub typecount : z.typecount ≡ y.typecount
   pub types : z.types ≡ y.types
-  pub second-set : z.second ≡ TwoKinds (record { number = n; timecap = u; memorycap = s })
+  pub second-set : z.second ≡ Some (record { number = n; timecap = u; memorycap = s })
 
 same-platform : {y z : System} → z.engines ≡ y.engines → z.rule ≡ y.rule → z.timecap ≡ y.timecap → z.memorycap ≡ y.memorycap → z.second ≡ y.second → SamePlatform y z
 same-platform a b c d e = record { first = record { engines = a; rule = b; timecap = c; memorycap = d }; second = e }
 
-adds-type : (t : TaskType) (y : System) → y.typecount < length y.types → t.data ≡ 0 → t.most ≡ NotGiven → t.pace ≡ Unpaced → t.there ≡ Absent
+adds-type : (t : TaskType) (y : System) → y.typecount < length y.types → t.data ≡ 0 → t.most ≡ None → t.pace ≡ None → t.there ≡ None
     → AddsType t.time t.memory t.ceiling y (with_type t y)
 adds-type t y h none no-limit no-cycle no-costs =
     let new = get_or-set_same y.types y.typecount t no_task h in
@@ -345,27 +341,27 @@ module _ (c p : ℕ) (y : System) where
   pace-keeps e = rw e
 
 -- of a whole field that refusals 1 to 4 do not stop
-pub most-zero-field : (s : List ℕ) (last : ℕ) (y : System) → head_of s last ≡ Ruled most_rule → word2 (body_part s) 0 ≡ 0 → field_of s last y ≡ unread 31
+pub most-zero-field : (s : List ℕ) (last : ℕ) (y : System) → head_of s last ≡ Ok most_rule → word2 (body_part s) 0 ≡ 0 → field_of s last y ≡ unread 31
 unfolding field_of ruled_field body_of
 most-zero-field s last y head none = rw head (ap (λ (q : ℕ). most_from q y) none ∙ most-zero y)
 
-pub pace-breaks-field : (s : List ℕ) (last : ℕ) (y : System) → head_of s last ≡ Ruled pace_rule
+pub pace-breaks-field : (s : List ℕ) (last : ℕ) (y : System) → head_of s last ≡ Ok pace_rule
     → cycle_keeps y.timecap (last_type y).time (record { run = word4 (body_part s) 0; period = word4 (body_part s) 4 }) ≡ false → field_of s last y ≡ unread 43
 unfolding field_of ruled_field body_of
 pace-breaks-field s last y head e = rw head (pace-breaks (word4 (body_part s) 0) (word4 (body_part s) 4) y e)
 
 -- and of a whole file: no q of a system that is read is 0, its C and T keep their bounds, and no u and s on the second kind is over the limit
-pub read-replicas-card : (file : List ℕ) (y : System) → read_card file ≡ opened y → (i q : ℕ) → (type_at y i).most ≡ AtMost q → 1 ≤ q
+pub read-replicas-card : (file : List ℕ) (y : System) → read_card file ≡ opened y → (i q : ℕ) → (type_at y i).most ≡ Some q → 1 ≤ q
 read-replicas-card file y read i q is = some-replica (type_at y i).most q ((read-card-limits file y read).replicas i) is
 
-pub read-replicas : (file : List ℕ) (y : System) → read_file file ≡ opened y → (i q : ℕ) → (type_at y i).most ≡ AtMost q → 1 ≤ q
+pub read-replicas : (file : List ℕ) (y : System) → read_file file ≡ opened y → (i q : ℕ) → (type_at y i).most ≡ Some q → 1 ≤ q
 read-replicas file y read i q is = read-replicas-card file y (file-card file y read).0 i q is
 
-pub read-cycles-card : (file : List ℕ) (y : System) → read_card file ≡ opened y → (i : ℕ) (c : Cycle) → (type_at y i).pace ≡ Paced c → CycleLimits y.timecap (type_at y i).time c
+pub read-cycles-card : (file : List ℕ) (y : System) → read_card file ≡ opened y → (i : ℕ) (c : Cycle) → (type_at y i).pace ≡ Some c → CycleLimits y.timecap (type_at y i).time c
 read-cycles-card file y read i c is = cycle-limits y.timecap (type_at y i).time (type_at y i).pace c ((read-card-limits file y read).paces i) is
 
-pub read-cycles : (file : List ℕ) (y : System) → read_file file ≡ opened y → (i : ℕ) (c : Cycle) → (type_at y i).pace ≡ Paced c → CycleLimits y.timecap (type_at y i).time c
+pub read-cycles : (file : List ℕ) (y : System) → read_file file ≡ opened y → (i : ℕ) (c : Cycle) → (type_at y i).pace ≡ Some c → CycleLimits y.timecap (type_at y i).time c
 read-cycles file y read i c is = read-cycles-card file y (file-card file y read).0 i c is
 
-pub read-costs : (file : List ℕ) (y : System) → read_card file ≡ opened y → (i : ℕ) (c : Costs) → (type_at y i).there ≡ Takes c → (c.time ≤ size_limit) × (c.memory ≤ size_limit)
+pub read-costs : (file : List ℕ) (y : System) → read_card file ≡ opened y → (i : ℕ) (c : Costs) → (type_at y i).there ≡ Some c → (c.time ≤ size_limit) × (c.memory ≤ size_limit)
 read-costs file y read i c is = costs-sized (type_at y i).there c ((read-card-limits file y read).costs i) is

@@ -1,5 +1,6 @@
 -- What `Fields` of the specs says of each field after the first and of the file's end: after fields that pass the reader stands behind them, with a sound system of their types, of the engines of both kinds, of the platform's U and the last type's u, and of as many types with u and s on the second kind as there were tags 7.
 -- At the end those are none or all where `kinds_agree` says so: entries past k have none.
+use Rattle.std.proofs.Common.{Some, Option, None}
 use Prim.Native.Nat.{ℕ, zero, suc, ◌+◌, ◌-◌, ◌*◌, ◌≤◌, ◌<◌}
 use native.Mathlib.Omega.{arith}
 use native.Mathlib.Nat.{le_refl, mul_comm, mul_assoc}
@@ -11,16 +12,11 @@ use borrow.Author.Tests.{le-leb, lt-leb, eqb-true, eqb-false, eq-eqb, ne_eqb}
 use lib.ListN.{length, get_or, set, drop, length-append}
 use lib.Seq.{get_or-set_same}
 use lib.Dec.{leb, eqb}
-use Rattle.system.specs.declared.Most.TheVariants.{AtMost}
 use Rattle.system.specs.declared.Cycle.{Cycle}
-use Rattle.system.specs.declared.Pace.TheVariants.{Paced}
 use Rattle.system.specs.declared.Kind.{Kind}
-use Rattle.system.specs.declared.Second.{Second}
-use Rattle.system.specs.declared.Second.TheVariants.{OneKind, TwoKinds}
 use Rattle.system.specs.declared.TaskType.{TaskType}
 use Rattle.system.specs.declared.System.{System}
 use Rattle.system.specs.declared.FieldRule.{FieldRule}
-use Rattle.system.specs.declared.RuleFound.TheVariants.{Known}
 use Rattle.system.specs.Values.{task_of, with_data, with_most, with_pace, with_costs, no_task, blank, with_platform, with_second, with_type, last_type, with_last, ceilings_of}
 use Rattle.system.specs.Limits.{columns_of, size_fault, kind_counted, kind_fault, type_fault, most_fault, cycle_keeps, pace_fault, given, is_one_kind, kinds_agree}
 use Rattle.system.specs.Rules.{platform_rule, type_rule, data_rule, most_rule, pace_rule, second_rule, costs_rule, field_rules, rule_of, follows, may_follow, head_size}
@@ -58,7 +54,7 @@ module _ (last : ℕ) (y : System) where
           ne_eqb 7 t (λ z. g (sym z)),
         )
 
-    module _ (r : FieldRule) (known : rule_of field_rules t ≡ Known r) where
+    module _ (r : FieldRule) (known : rule_of field_rules t ≡ Some r) where
       misplaced : may_follow follows last r.tag ≡ false → field_of (t ∷ h ∷ l ∷ rest) last y ≡ unread 3
       unfolding field_of ruled_field head_of ruled_head
       misplaced p = rw (starts h l rest t, known, p)
@@ -113,11 +109,11 @@ module _ (last : ℕ) (y : System) where
     abbrev with_q : TaskType
     with_q = with_most (two_bytes q1 q2) (last_type y)
 
-    most-body : body_of most_rule (body_part a_most) y ≡ unless_fault (most_fault (AtMost (two_bytes q1 q2))) (with_last with_q y)
+    most-body : body_of most_rule (body_part a_most) y ≡ unless_fault (most_fault (Some (two_bytes q1 q2))) (with_last with_q y)
     unfolding body_of most_from
     most-body = rw (le-leb 5 (length a_most) (omega arith))
 
-    most-field : may_follow follows last 4 ≡ true → field_of a_most last y ≡ unless_fault (most_fault (AtMost (two_bytes q1 q2))) (with_last with_q y)
+    most-field : may_follow follows last 4 ≡ true → field_of a_most last y ≡ unless_fault (most_fault (Some (two_bytes q1 q2))) (with_last with_q y)
     most-field p = whole-body 4 0 2 (q1 ∷ q2 ∷ rest) most_rule (unfold rule_of in refl) p refl (omega arith) ∙ most-body
 
   module _ (c1 c2 c3 c4 t1 t2 t3 t4 : ℕ) (rest : List ℕ) where
@@ -125,7 +121,7 @@ module _ (last : ℕ) (y : System) where
     a_pace = pace_field c1 c2 c3 c4 t1 t2 t3 t4 ++ rest
 
     abbrev pace_read : Reading
-    pace_read = unless_fault (pace_fault y.timecap (last_type y).time (Paced (cycle_of (four_bytes c1 c2 c3 c4) (four_bytes t1 t2 t3 t4)))) (with_last (with_pace (four_bytes c1 c2 c3 c4) (four_bytes t1 t2 t3 t4) (last_type y)) y)
+    pace_read = unless_fault (pace_fault y.timecap (last_type y).time (Some (cycle_of (four_bytes c1 c2 c3 c4) (four_bytes t1 t2 t3 t4)))) (with_last (with_pace (four_bytes c1 c2 c3 c4) (four_bytes t1 t2 t3 t4) (last_type y)) y)
 
     pace-body : body_of pace_rule (body_part a_pace) y ≡ pace_read
     unfolding body_of pace_from
@@ -293,7 +289,7 @@ module _ (whole u c t : ℕ) where
       go : (b : Bool) → cycle_keeps whole u (cycle_of c t) ≡ b → b ≡ false
       go false e = refl
       go true e =
-          let l = cycle-limits whole u (Paced (cycle_of c t)) (cycle_of c t) (ap (λ (b : Bool). cond (not b) 43 0) e) refl in
+          let l = cycle-limits whole u (Some (cycle_of c t)) (cycle_of c t) (ap (λ (b : Bool). cond (not b) 43 0) e) refl in
           let low : 1 ≤ c = l.some-run in
           let runs : c ≤ t = l.runs in
           let high : t ≤ 65535 = l.period in
@@ -303,9 +299,9 @@ module _ (whole u c t : ℕ) where
 -- After fields that pass
 
 -- the kinds of engine that were read
-data KindsAre : ℕ → Second → Type 0 where
-  only_one : KindsAre 1 OneKind
-  one_more : (x : Kind) → KindsAre 2 (TwoKinds x)
+data KindsAre : ℕ → Option Kind → Type 0 where
+  only_one : KindsAre 1 None
+  one_more : (x : Kind) → KindsAre 2 (Some x)
 
 record Reached (p : List ℕ) (last k c m kinds w whole u : ℕ) : Type 0 where
   so_far : System
@@ -609,7 +605,7 @@ module _ (p : List ℕ) (last k c m kinds w whole u : ℕ) (here : Reached p las
       z : System
       z = here.so_far
 
-      judged : (n : ℕ) (x : Second) → KindsAre n x → kinds_agree (is_one_kind x) z.typecount z.types ≡ b → (b ≡ true → AllOrNone k n w) × (b ≡ false → AllOrNone k n w → ⊥)
+      judged : (n : ℕ) (x : Option Kind) → KindsAre n x → kinds_agree (is_one_kind x) z.typecount z.types ≡ b → (b ≡ true → AllOrNone k n w) × (b ≡ false → AllOrNone k n w → ⊥)
       judged n x only_one e =
           let is = sym (agree-none z.typecount z.types here.sound.past) ∙ e in (
             λ yes. record { one = λ n. omega (arith, here.costs, eqb-true (given_in z.types) 0 (is ∙ yes)); two = λ n. absurd (omega arith) },
@@ -634,7 +630,7 @@ module _ (p : List ℕ) (last k c m kinds w whole u : ℕ) (here : Reached p las
       none : k ≡ 0 → read_card p ≡ unread 9
       none e = ends (unread 9) (rw (here.not_first, here.types, e))
 
-      one_wanted : (n : ℕ) (x : Second) → KindsAre n x → y.second ≡ x → read_card p ≡ opened y → (n ≡ 1 → read_file p ≡ opened y) × (n ≡ 2 → read_file p ≡ unread 42)
+      one_wanted : (n : ℕ) (x : Option Kind) → KindsAre n x → y.second ≡ x → read_card p ≡ opened y → (n ≡ 1 → read_file p ≡ opened y) × (n ≡ 2 → read_file p ≡ unread 42)
       one_wanted n x only_one is e = (λ h. card-file p y e is, λ h. absurd (omega arith))
       one_wanted n x (one_more x1) is e = (λ h. absurd (omega arith), λ h. card-mixed p y x1 e is)
 

@@ -1,4 +1,5 @@
 -- Laws of the definitions of crate `system`: the limits of a card, of one kind of engine or two, and those of a system of one kind, as plain facts; that every file that is read keeps them; and that a file reads as one of one kind exactly where it reads as a card and has no second kind.
+use Rattle.std.proofs.Common.{Option, None, Some, Result, Ok, Err}
 use Prim.Native.Nat.{ℕ, zero, suc, ◌+◌, ◌-◌, ◌*◌, ◌≤◌, ◌<◌, min, zero-le}
 use native.Mathlib.Omega.{arith}
 use native.Mathlib.Nat.{mul-pos, mul-le-mul_left, mul-le-mul_right, min-eq_left, min-eq_right}
@@ -10,27 +11,14 @@ use borrow.Author.Tests.{leb-true, leb-false, eqb-true, eqb-false, le-leb, eq-eq
 use lib.ListN.{length, get_or, set, take, drop, length-set, length-drop, replicate}
 use lib.Seq.{get_or-set_other, drop-drop}
 use lib.Dec.{leb, eqb}
-use Rattle.system.specs.declared.Most.{Most}
-use Rattle.system.specs.declared.Most.TheVariants.{NotGiven, AtMost}
 use Rattle.system.specs.declared.Cycle.{Cycle}
-use Rattle.system.specs.declared.Pace.{Pace}
-use Rattle.system.specs.declared.Pace.TheVariants.{Unpaced, Paced}
 use Rattle.system.specs.declared.Costs.{Costs}
-use Rattle.system.specs.declared.There.{There}
-use Rattle.system.specs.declared.There.TheVariants.{Absent, Takes}
 use Rattle.system.specs.declared.Kind.{Kind}
-use Rattle.system.specs.declared.Second.{Second}
-use Rattle.system.specs.declared.Second.TheVariants.{OneKind, TwoKinds}
 use Rattle.system.specs.declared.TaskType.{TaskType}
 use Rattle.system.specs.declared.System.{System}
 use Rattle.system.specs.declared.FieldRule.{FieldRule}
-use Rattle.system.specs.declared.RuleFound.{RuleFound}
-use Rattle.system.specs.declared.RuleFound.TheVariants.{Known, Unknown}
-use Rattle.system.specs.declared.Head.{Head}
-use Rattle.system.specs.declared.Head.TheVariants.{Ruled, Stops}
 use Rattle.system.specs.declared.Opened.{Opened}
-use Rattle.system.specs.declared.Answer.{Answer}
-use Rattle.system.specs.declared.Answer.TheVariants.{Accepted, Number, Refused}
+use Rattle.system.specs.Outcome.{Answer, accepted, refused, from_input, refusal_of, outcome_of}
 use Rattle.system.specs.declared.Refusal.{Refusal}
 use Rattle.system.specs.declared.Refusal.TheVariants.{Input, State}
 use Rattle.system.specs.Inner.{part_of, PastTypes}
@@ -42,7 +30,6 @@ use Rattle.system.specs.Layout.{Reading, opened, unread, byte_at, word2, word4, 
 use Rattle.system.specs.Layout.{platform_rule, type_rule, data_rule, most_rule, pace_rule, second_rule, costs_rule, field_rules, rule_of, follows, may_follow, unless_fault}
 use Rattle.system.specs.Layout.{platform_from, platform_of, type_from, type_of, data_from, data_of, most_from, most_of, pace_from, pace_of, second_from, second_of, costs_from, costs_of}
 use Rattle.system.specs.Layout.{ruled_head, head_from, head_of, body_of, ruled_field, field_of, end_of, after_field, fields_from, read_card, of_one_kind, read_file, read_outcome, Reads}
-use Rattle.system.specs.Outcome.{accepted, refused, from_input, refusal_of, outcome_of}
 
 -- a test of two parts
 pub and_parts : (a b : Bool) → (a && b) ≡ true → (a ≡ true) × (b ≡ true)
@@ -79,17 +66,17 @@ within-limit c = go (leb c column_limit) refl
 
 -- The types of a system that keeps the limits
 
-not-given : (m : Most) → not_given m ≡ true → m ≡ NotGiven
-not-given NotGiven e = refl
-not-given (AtMost q) e = absurd (false≢true e)
+not-given : (m : Option ℕ) → not_given m ≡ true → m ≡ None
+not-given None e = refl
+not-given (Some q) e = absurd (false≢true e)
 
-not-paced : (x : Pace) → unpaced x ≡ true → x ≡ Unpaced
-not-paced Unpaced e = refl
-not-paced (Paced c) e = absurd (false≢true e)
+not-paced : (x : Option Cycle) → unpaced x ≡ true → x ≡ None
+not-paced None e = refl
+not-paced (Some c) e = absurd (false≢true e)
 
-not_there : (x : There) → not (given x) ≡ true → x ≡ Absent
-not_there Absent e = refl
-not_there (Takes c) e = absurd (false≢true e)
+not_there : (x : Option Costs) → not (given x) ≡ true → x ≡ None
+not_there None e = refl
+not_there (Some c) e = absurd (false≢true e)
 
 zero-task : (t : TaskType) → zero_task t ≡ true → t ≡ no_task
 zero-task t e =
@@ -156,16 +143,16 @@ abbrev Limited : TaskType → Type 0
 Limited t = most_fault t.most ≡ 0
 
 -- the same in plain words
-pub some-replica : (m : Most) (q : ℕ) → most_fault m ≡ 0 → m ≡ AtMost q → 1 ≤ q
+pub some-replica : (m : Option ℕ) (q : ℕ) → most_fault m ≡ 0 → m ≡ Some q → 1 ≤ q
 some-replica m q e is = go (eqb q 0) refl (rw is at e)
   where
     go : (b : Bool) → eqb q 0 ≡ b → cond {A = ℕ} b 31 0 ≡ 0 → 1 ≤ q
     go true p e = absurd (omega arith)
     go false p e = omega (arith, eqb-false q 0 p)
 
-pub replicas-keep : (m : Most) → ((q : ℕ) → m ≡ AtMost q → 1 ≤ q) → most_fault m ≡ 0
-replicas-keep NotGiven some = refl
-replicas-keep (AtMost q) some = rw (ne_eqb q 0 (λ none. omega (arith, some q refl)))
+pub replicas-keep : (m : Option ℕ) → ((q : ℕ) → m ≡ Some q → 1 ≤ q) → most_fault m ≡ 0
+replicas-keep None some = refl
+replicas-keep (Some q) some = rw (ne_eqb q 0 (λ none. omega (arith, some q refl)))
 
 -- C and T of a type of this u, on engines of this U, within the limits
 pub record CycleLimits (whole u : ℕ) (c : Cycle) : Type 0 where
@@ -176,7 +163,7 @@ pub record CycleLimits (whole u : ℕ) (c : Cycle) : Type 0 where
   -- of each period an instance runs no more of an engine than u is of its U
   pub share : c.run * whole ≤ u * c.period
 
-pub cycle-limits : (whole u : ℕ) (x : Pace) (c : Cycle) → pace_fault whole u x ≡ 0 → x ≡ Paced c → CycleLimits whole u c
+pub cycle-limits : (whole u : ℕ) (x : Option Cycle) (c : Cycle) → pace_fault whole u x ≡ 0 → x ≡ Some c → CycleLimits whole u c
 cycle-limits whole u x c e is =
     let some = leb 1 c.run in
     let within = leb c.run c.period in
@@ -193,9 +180,9 @@ cycle-limits whole u x c e is =
       share = leb-true (c.run * whole) (u * c.period) all.2;
     }
 
-pub cycle-keep : (whole u : ℕ) (x : Pace) → ((c : Cycle) → x ≡ Paced c → CycleLimits whole u c) → pace_fault whole u x ≡ 0
-cycle-keep whole u Unpaced all = refl
-cycle-keep whole u (Paced c) all =
+pub cycle-keep : (whole u : ℕ) (x : Option Cycle) → ((c : Cycle) → x ≡ Some c → CycleLimits whole u c) → pace_fault whole u x ≡ 0
+cycle-keep whole u None all = refl
+cycle-keep whole u (Some c) all =
     let l = all c refl in
     rw (
       le-leb 1 c.run l.some-run,
@@ -238,7 +225,7 @@ abbrev Costed : TaskType → Type 0
 Costed t = costs_fault t.there ≡ 0
 
 -- the same in plain words
-pub costs-sized : (x : There) (c : Costs) → costs_fault x ≡ 0 → x ≡ Takes c → (c.time ≤ size_limit) × (c.memory ≤ size_limit)
+pub costs-sized : (x : Option Costs) (c : Costs) → costs_fault x ≡ 0 → x ≡ Some c → (c.time ≤ size_limit) × (c.memory ≤ size_limit)
 costs-sized x c e is = sizes-kept c.time c.memory (ap costs_fault (sym is) ∙ e)
 
 -- the three tests of an entry
@@ -258,13 +245,13 @@ types-have P none sound (suc k) (t ∷ ts) e (suc i) = types-have P none sound k
 
 -- One kind of engine or two
 
-pub one-kind : (s : Second) → is_one_kind s ≡ true → s ≡ OneKind
-one-kind OneKind e = refl
-one-kind (TwoKinds k) e = absurd (false≢true e)
+pub one-kind : (s : Option Kind) → is_one_kind s ≡ true → s ≡ None
+one-kind None e = refl
+one-kind (Some k) e = absurd (false≢true e)
 
-pub two-kinds : (s : Second) → is_one_kind s ≡ false → (k : Kind) × (s ≡ TwoKinds k)
-two-kinds OneKind e = absurd (false≢true (sym e))
-two-kinds (TwoKinds k) e = (k, refl)
+pub two-kinds : (s : Option Kind) → is_one_kind s ≡ false → (k : Kind) × (s ≡ Some k)
+two-kinds None e = absurd (false≢true (sym e))
+two-kinds (Some k) e = (k, refl)
 
 -- a second kind's numbers within the limits, where there are m engines of the first
 pub record KindLimits (m : ℕ) (k : Kind) : Type 0 where
@@ -273,7 +260,7 @@ pub record KindLimits (m : ℕ) (k : Kind) : Type 0 where
   pub time : k.timecap ≤ size_limit
   pub memory : k.memorycap ≤ size_limit
 
-pub second-limits : (m : ℕ) (x : Second) (k : Kind) → second_fault m x ≡ 0 → x ≡ TwoKinds k → KindLimits m k
+pub second-limits : (m : ℕ) (x : Option Kind) (k : Kind) → second_fault m x ≡ 0 → x ≡ Some k → KindLimits m k
 second-limits m x k e is =
     let a = faultless (leb 1 k.number && leb (m + k.number) engine_limit) 5 (size_fault k.timecap k.memorycap) (omega arith) (ap (second_fault m) (sym is) ∙ e) in
     let n = and_parts (leb 1 k.number) (leb (m + k.number) engine_limit) a.0 in
@@ -281,12 +268,12 @@ second-limits m x k e is =
     record { some-engine = leb-true 1 k.number n.0; engines = leb-true (m + k.number) engine_limit n.1; time = sizes.0; memory = sizes.1 }
 
 -- what is given has numbers
-pub given-takes : (x : There) → given x ≡ true → (c : Costs) × (x ≡ Takes c)
-given-takes Absent e = absurd (false≢true e)
-given-takes (Takes c) e = (c, refl)
+pub given-takes : (x : Option Costs) → given x ≡ true → (c : Costs) × (x ≡ Some c)
+given-takes None e = absurd (false≢true e)
+given-takes (Some c) e = (c, refl)
 
 -- with one kind nothing of a second is given, with two u and s there are given of each type
-pub kinds-absent : (k : ℕ) (ts : List TaskType) → kinds_agree true k ts ≡ true → (i : ℕ) → i < k → (get_or ts i no_task).there ≡ Absent
+pub kinds-absent : (k : ℕ) (ts : List TaskType) → kinds_agree true k ts ≡ true → (i : ℕ) → i < k → (get_or ts i no_task).there ≡ None
 unfolding kinds_agree
 kinds-absent k [] e i h = refl
 kinds-absent zero (t ∷ ts) e i h = absurd (omega arith)
@@ -300,12 +287,12 @@ kinds-given zero (t ∷ ts) e i h inside = absurd (omega arith)
 kinds-given (suc k) (t ∷ ts) e zero h inside = (and_parts (given t.there) (kinds_agree false k ts) e).0
 kinds-given (suc k) (t ∷ ts) e (suc i) h inside = kinds-given k ts (and_parts (given t.there) (kinds_agree false k ts) e).1 i (omega arith) (omega arith)
 
-pub absent-kinds : (k : ℕ) (ts : List TaskType) → ((i : ℕ) → (get_or ts i no_task).there ≡ Absent) → kinds_agree true k ts ≡ true
+pub absent-kinds : (k : ℕ) (ts : List TaskType) → ((i : ℕ) → (get_or ts i no_task).there ≡ None) → kinds_agree true k ts ≡ true
 unfolding kinds_agree
 absent-kinds k [] none = refl
 absent-kinds zero (t ∷ ts) none = refl
 absent-kinds (suc k) (t ∷ ts) none =
-    and_both (not (given t.there)) (kinds_agree true k ts) (ap (λ (x : There). not (given x)) (none zero)) (absent-kinds k ts (λ i. none (suc i)))
+    and_both (not (given t.there)) (kinds_agree true k ts) (ap (λ (x : Option Costs). not (given x)) (none zero)) (absent-kinds k ts (λ i. none (suc i)))
 
 pub given-kinds : (k : ℕ) (ts : List TaskType) → ((i : ℕ) → i < k → given (get_or ts i no_task).there ≡ true) → kinds_agree false k ts ≡ true
 unfolding kinds_agree
@@ -354,8 +341,8 @@ pub record Limits (y : System) : Type 0 where
   pub replicas : (i : ℕ) → most_fault (get_or y.types i no_task).most ≡ 0
   pub paces : (i : ℕ) → pace_fault y.timecap (get_or y.types i no_task).time (get_or y.types i no_task).pace ≡ 0
   -- nothing of a second kind is given
-  pub one_kind : y.second ≡ OneKind
-  pub absent : (i : ℕ) → (get_or y.types i no_task).there ≡ Absent
+  pub one_kind : y.second ≡ None
+  pub absent : (i : ℕ) → (get_or y.types i no_task).there ≡ None
 
 -- a platform's numbers within the limits
 record Platform (m r u s : ℕ) : Type 0 where
@@ -420,14 +407,14 @@ card-of y q =
     }
 
 -- a card without a second kind is a system of one kind, and nothing of a second is given
-all-absent : (y : System) → CardLimits y → y.second ≡ OneKind → (i : ℕ) → (get_or y.types i no_task).there ≡ Absent
+all-absent : (y : System) → CardLimits y → y.second ≡ None → (i : ℕ) → (get_or y.types i no_task).there ≡ None
 all-absent y l one i = go (leb y.typecount i) refl
   where
-    go : (b : Bool) → leb y.typecount i ≡ b → (get_or y.types i no_task).there ≡ Absent
+    go : (b : Bool) → leb y.typecount i ≡ b → (get_or y.types i no_task).there ≡ None
     go true p = ap (λ (t : TaskType). t.there) (l.past i (leb-true y.typecount i p))
-    go false p = kinds-absent y.typecount y.types (ap (λ (x : Second). kinds_agree (is_one_kind x) y.typecount y.types) (sym one) ∙ l.kinds) i (leb-false y.typecount i p)
+    go false p = kinds-absent y.typecount y.types (ap (λ (x : Option Kind). kinds_agree (is_one_kind x) y.typecount y.types) (sym one) ∙ l.kinds) i (leb-false y.typecount i p)
 
-pub card-limits : (y : System) → CardLimits y → y.second ≡ OneKind → Limits y
+pub card-limits : (y : System) → CardLimits y → y.second ≡ None → Limits y
 card-limits y l one =
     record {
       some-engine = l.some-engine;
@@ -465,7 +452,7 @@ limits-card y l =
       paces = l.paces;
       costs = λ i. ap costs_fault (l.absent i);
       second = ap (second_fault y.engines) l.one_kind;
-      kinds = ap (λ (x : Second). kinds_agree (is_one_kind x) y.typecount y.types) l.one_kind ∙ absent-kinds y.typecount y.types l.absent;
+      kinds = ap (λ (x : Option Kind). kinds_agree (is_one_kind x) y.typecount y.types) l.one_kind ∙ absent-kinds y.typecount y.types l.absent;
     }
 
 pub limits_of : (y : System) → keeps_limits y ≡ true → Limits y
@@ -477,17 +464,17 @@ limits_of y q = let p = and_parts (keeps_card y) (is_one_kind y.second) q in car
 pub sizes-keep : (u s : ℕ) → u ≤ size_limit → s ≤ size_limit → size_fault u s ≡ 0
 sizes-keep u s p q = rw (le-leb u size_limit p, le-leb s size_limit q)
 
-pub costs-keep : (x : There) → ((c : Costs) → x ≡ Takes c → (c.time ≤ size_limit) × (c.memory ≤ size_limit)) → costs_fault x ≡ 0
-costs-keep Absent all = refl
-costs-keep (Takes c) all = let p = all c refl in sizes-keep c.time c.memory p.0 p.1
+pub costs-keep : (x : Option Costs) → ((c : Costs) → x ≡ Some c → (c.time ≤ size_limit) × (c.memory ≤ size_limit)) → costs_fault x ≡ 0
+costs-keep None all = refl
+costs-keep (Some c) all = let p = all c refl in sizes-keep c.time c.memory p.0 p.1
 
 -- a second kind's number that passes leaves its sizes
 pub second-within : (m n u s : ℕ) → 1 ≤ n → m + n ≤ engine_limit → kind_fault m n u s ≡ size_fault u s
 second-within m n u s low high = rw (le-leb 1 n low, le-leb (m + n) engine_limit (omega arith))
 
-pub second-keep : (m : ℕ) (x : Second) → ((k : Kind) → x ≡ TwoKinds k → KindLimits m k) → second_fault m x ≡ 0
-second-keep m OneKind all = refl
-second-keep m (TwoKinds k) all =
+pub second-keep : (m : ℕ) (x : Option Kind) → ((k : Kind) → x ≡ Some k → KindLimits m k) → second_fault m x ≡ 0
+second-keep m None all = refl
+second-keep m (Some k) all =
     let l = all k refl in
     second-within m k.number k.timecap k.memorycap l.some-engine l.engines ∙ sizes-keep k.timecap k.memorycap l.time l.memory
 
@@ -558,7 +545,7 @@ pub record Sound (last : ℕ) (y : System) : Type 0 where
   -- every type comes after the platform, and its C and T were judged with that U
   none_first : last ≡ 0 → y.typecount ≡ 0
   -- a second kind comes after the platform, and was judged with its number of engines
-  pub one-first : last ≡ 0 → y.second ≡ OneKind
+  pub one-first : last ≡ 0 → y.second ≡ None
   pub second : (last ≡ 0 → ⊥) → second_fault y.engines y.second ≡ 0
   platform : (last ≡ 0 → ⊥) → Platform y.engines y.rule y.timecap y.memorycap
 
@@ -766,16 +753,16 @@ abbrev EveryRule : (FieldRule → Type 0) → List FieldRule → Type 0
 EveryRule P [] = Unit {0}
 EveryRule P (r ∷ rs) = P r × EveryRule P rs
 
-rule_found : (P : FieldRule → Type 0) (rules : List FieldRule) (tag : ℕ) (r : FieldRule) → EveryRule P rules → rule_of rules tag ≡ Known r → (r.tag ≡ tag) × P r
+rule_found : (P : FieldRule → Type 0) (rules : List FieldRule) (tag : ℕ) (r : FieldRule) → EveryRule P rules → rule_of rules tag ≡ Some r → (r.tag ≡ tag) × P r
 unfolding rule_of
 rule_found P [] tag r all e = let z : ◌≡◌ {A = ℕ} 0 1 = cc in absurd (omega arith)
 rule_found P (t ∷ ts) tag r all e = go (eqb t.tag tag) refl (rule_found P ts tag r all.1) e
   where
-    go : (b : Bool) → eqb t.tag tag ≡ b → (rule_of ts tag ≡ Known r → (r.tag ≡ tag) × P r) → cond b (Known t) (rule_of ts tag) ≡ Known r → (r.tag ≡ tag) × P r
+    go : (b : Bool) → eqb t.tag tag ≡ b → (rule_of ts tag ≡ Some r → (r.tag ≡ tag) × P r) → cond b (Some t) (rule_of ts tag) ≡ Some r → (r.tag ≡ tag) × P r
     go true q later e = let same : t ≡ r = cc in (ap (λ (x : FieldRule). x.tag) (sym same) ∙ eqb-true t.tag tag q, subst P same all.0)
     go false q later e = later e
 
-pub rule_of-known : (tag : ℕ) (r : FieldRule) → rule_of field_rules tag ≡ Known r → IsRule r tag
+pub rule_of-known : (tag : ℕ) (r : FieldRule) → rule_of field_rules tag ≡ Some r → IsRule r tag
 rule_of-known tag r e =
     let p = rule_found OneOf field_rules tag r (a-platform refl, (a-type refl, (a-data refl, (a-most refl, (a-pace refl, (a_second refl, (a-costs refl, tt))))))) e in
     record { same_tag = p.0; which = p.1 }
@@ -863,17 +850,17 @@ pub record Passed (tag size : ℕ) (all : Bool) (last : ℕ) (r : FieldRule) : T
   pub length : size ≡ r.body
   pub whole : all ≡ true
 
-head-passes : (b : Bool) (n : ℕ) (x : Head) (r : FieldRule) → cond b (Stops n) x ≡ Ruled r → (b ≡ false) × (x ≡ Ruled r)
+head-passes : (b : Bool) (n : ℕ) (x : Result FieldRule ℕ) (r : FieldRule) → cond b (Err n) x ≡ Ok r → (b ≡ false) × (x ≡ Ok r)
 head-passes true n x r e = let q : ◌≡◌ {A = ℕ} 0 1 = cc in absurd (omega arith)
 head-passes false n x r e = (refl, e)
 
-pub head_from-ruled : (headed : Bool) (tag size : ℕ) (all : Bool) (last : ℕ) (r : FieldRule) → head_from headed tag size all last ≡ Ruled r → Passed tag size all last r
+pub head_from-ruled : (headed : Bool) (tag size : ℕ) (all : Bool) (last : ℕ) (r : FieldRule) → head_from headed tag size all last ≡ Ok r → Passed tag size all last r
 unfolding ruled_head
 head_from-ruled headed tag size all last r e = known (rule_of field_rules tag) refl (head-passes (not headed) 1 _ r e).1
   where
-    known : (f : RuleFound) → rule_of field_rules tag ≡ f → ruled_head f size all last ≡ Ruled r → Passed tag size all last r
-    known Unknown q e = let z : ◌≡◌ {A = ℕ} 0 1 = cc in absurd (omega arith)
-    known (Known t) q e =
+    known : (f : Option FieldRule) → rule_of field_rules tag ≡ f → ruled_head f size all last ≡ Ok r → Passed tag size all last r
+    known None q e = let z : ◌≡◌ {A = ℕ} 0 1 = cc in absurd (omega arith)
+    known (Some t) q e =
         let a = head-passes (not (may_follow follows last t.tag)) 3 _ r e in
         let b = head-passes (not (eqb size t.body)) 4 _ r a.1 in
         let c = head-passes (not all) 1 _ r b.1 in
@@ -886,7 +873,7 @@ head_from-ruled headed tag size all last r e = known (rule_of field_rules tag) r
           whole = not-false all c.0;
         })
 
-pub head_of-ruled : (s : List ℕ) (last : ℕ) (r : FieldRule) → head_of s last ≡ Ruled r → Passed (byte_at s 0) (word2 s 1) (whole_field s) last r
+pub head_of-ruled : (s : List ℕ) (last : ℕ) (r : FieldRule) → head_of s last ≡ Ok r → Passed (byte_at s 0) (word2 s 1) (whole_field s) last r
 unfolding head_of
 head_of-ruled s last r e = head_from-ruled (headed_field s) (byte_at s 0) (word2 s 1) (whole_field s) last r e
 
@@ -924,9 +911,9 @@ pub field_of-opened : (s : List ℕ) (last : ℕ) (y z : System) → field_of s 
 unfolding field_of ruled_field
 field_of-opened s last y z e = judged (head_of s last) refl e
   where
-    judged : (x : Head) → head_of s last ≡ x → ruled_field x (body_part s) y ≡ opened z → Accepts s last y z
-    judged (Stops n) q e = let z : ◌≡◌ {A = ℕ} 0 1 = cc in absurd (omega arith)
-    judged (Ruled r) q e = record { rule = r; passed = head_of-ruled s last r q; body = e }
+    judged : (x : Result FieldRule ℕ) → head_of s last ≡ x → ruled_field x (body_part s) y ≡ opened z → Accepts s last y z
+    judged (Err n) q e = let z : ◌≡◌ {A = ℕ} 0 1 = cc in absurd (omega arith)
+    judged (Ok r) q e = record { rule = r; passed = head_of-ruled s last r q; body = e }
 
 pub sound-field : (s : List ℕ) (last : ℕ) (y z : System) → Sound last y → field_of s last y ≡ opened z → Sound (byte_at s 0) z
 sound-field s last y z h e =
@@ -962,13 +949,13 @@ read-card-limits file y e = card-of y (read-keeps-card file y e)
 
 -- A file reads as a system of one kind where it reads as a card of one kind; of two kinds it is refused 42, and any other refusal is that of the card
 
-one-opened : (x : Reading) (y : System) → of_one_kind x ≡ opened y → (x ≡ opened y) × (y.second ≡ OneKind)
+one-opened : (x : Reading) (y : System) → of_one_kind x ≡ opened y → (x ≡ opened y) × (y.second ≡ None)
 unfolding of_one_kind
 one-opened (unread n) y e = let z : ◌≡◌ {A = ℕ} 0 1 = cc in absurd (omega arith)
 one-opened (opened x) y e = go (is_one_kind x.second) refl e
   where
-    go : (b : Bool) → is_one_kind x.second ≡ b → cond b (opened x) (unread 42) ≡ opened y → (opened x ≡ opened y) × (y.second ≡ OneKind)
-    go true q e = let same : x ≡ y = cc in (e, subst (λ (z : System). z.second ≡ OneKind) same (one-kind x.second q))
+    go : (b : Bool) → is_one_kind x.second ≡ b → cond b (opened x) (unread 42) ≡ opened y → (opened x ≡ opened y) × (y.second ≡ None)
+    go true q e = let same : x ≡ y = cc in (e, subst (λ (z : System). z.second ≡ None) same (one-kind x.second q))
     go false q e = let z : ◌≡◌ {A = ℕ} 0 1 = cc in absurd (omega arith)
 
 -- what is refused where one kind is wanted, and not as a card, is a card of two kinds, and the number is 42
@@ -977,7 +964,7 @@ pub record Mixed (x : Reading) (n : ℕ) : Type 0 where
   pub system : System
   pub kind : Kind
   pub card : x ≡ opened system
-  pub second : system.second ≡ TwoKinds kind
+  pub second : system.second ≡ Some kind
 
 one-unread : (x : Reading) (n : ℕ) → of_one_kind x ≡ unread n → (x ≡ unread n) ⊎ Mixed x n
 unfolding of_one_kind
@@ -991,17 +978,17 @@ one-unread (opened x) n e = go (is_one_kind x.second) refl e
         let k = two-kinds x.second q in
         inr (record { number = same; system = x; kind = k.0; card = refl; second = k.1 })
 
-pub file-card : (file : List ℕ) (y : System) → read_file file ≡ opened y → (read_card file ≡ opened y) × (y.second ≡ OneKind)
+pub file-card : (file : List ℕ) (y : System) → read_file file ≡ opened y → (read_card file ≡ opened y) × (y.second ≡ None)
 unfolding read_file
 file-card file y e = one-opened (read_card file) y e
 
-pub card-file : (file : List ℕ) (y : System) → read_card file ≡ opened y → y.second ≡ OneKind → read_file file ≡ opened y
+pub card-file : (file : List ℕ) (y : System) → read_card file ≡ opened y → y.second ≡ None → read_file file ≡ opened y
 unfolding read_file of_one_kind
-card-file file y e one = ap of_one_kind e ∙ ap (λ (s : Second). cond (is_one_kind s) (opened y) (unread 42)) one
+card-file file y e one = ap of_one_kind e ∙ ap (λ (s : Option Kind). cond (is_one_kind s) (opened y) (unread 42)) one
 
-pub card-mixed : (file : List ℕ) (y : System) (k : Kind) → read_card file ≡ opened y → y.second ≡ TwoKinds k → read_file file ≡ unread 42
+pub card-mixed : (file : List ℕ) (y : System) (k : Kind) → read_card file ≡ opened y → y.second ≡ Some k → read_file file ≡ unread 42
 unfolding read_file of_one_kind
-card-mixed file y k e two = ap of_one_kind e ∙ ap (λ (s : Second). cond (is_one_kind s) (opened y) (unread 42)) two
+card-mixed file y k e two = ap of_one_kind e ∙ ap (λ (s : Option Kind). cond (is_one_kind s) (opened y) (unread 42)) two
 
 pub card-refused : (file : List ℕ) (n : ℕ) → read_card file ≡ unread n → read_file file ≡ unread n
 unfolding read_file of_one_kind
@@ -1043,29 +1030,29 @@ body_is file at = go (whole_field (drop at file)) refl
 
 -- What the reader's answer says of the reading
 
-pub only-accepted : (a : Answer) → outcome_of a ≡ accepted [] → a ≡ Accepted
-only-accepted Accepted e = refl
-only-accepted (Number n) e = let z : ◌≡◌ {A = ℕ} 0 1 = cc in absurd (omega arith)
-only-accepted (Refused (Input n)) e = let z : ◌≡◌ {A = ℕ} 0 1 = cc in absurd (omega arith)
-only-accepted (Refused (State n)) e = let z : ◌≡◌ {A = ℕ} 0 1 = cc in absurd (omega arith)
+pub only-accepted : (a : Answer) → outcome_of a ≡ accepted [] → a ≡ (Ok None)
+only-accepted (Ok None) e = refl
+only-accepted (Ok (Some n)) e = let z : ◌≡◌ {A = ℕ} 0 1 = cc in absurd (omega arith)
+only-accepted (Err (Input n)) e = let z : ◌≡◌ {A = ℕ} 0 1 = cc in absurd (omega arith)
+only-accepted (Err (State n)) e = let z : ◌≡◌ {A = ℕ} 0 1 = cc in absurd (omega arith)
 
-pub reads-opened : (x : Reading) (r : Opened) → Reads x r → r.answer ≡ Accepted → x ≡ opened r.system
+pub reads-opened : (x : Reading) (r : Opened) → Reads x r → r.answer ≡ (Ok None) → x ≡ opened r.system
 reads-opened (opened y) r reads e = ap opened (sym reads.system)
 reads-opened (unread n) r reads e =
     let same : accepted [] ≡ refused from_input n = ap outcome_of (sym e) ∙ reads.answer in
     let z : ◌≡◌ {A = ℕ} 0 1 = cc in absurd (omega arith)
 
-pub reads-unread : (x : Reading) (r : Opened) → Reads x r → (r.answer ≡ Accepted → ⊥) → (n : ℕ) × (x ≡ unread n)
+pub reads-unread : (x : Reading) (r : Opened) → Reads x r → (r.answer ≡ (Ok None) → ⊥) → (n : ℕ) × (x ≡ unread n)
 reads-unread (opened y) r reads e = absurd (e (only-accepted r.answer reads.answer))
 reads-unread (unread n) r reads e = (n, refl)
 
 -- an answer that is no refusal is that of a file that opens, and a refusal that of one that does not
-only-refused : (a : Answer) (n : ℕ) → outcome_of a ≡ refused from_input n → (why : Refusal) × (a ≡ Refused why)
-only-refused Accepted n e = let z : ◌≡◌ {A = ℕ} 0 1 = cc in absurd (omega arith)
-only-refused (Number k) n e = let z : ◌≡◌ {A = ℕ} 0 1 = cc in absurd (omega arith)
-only-refused (Refused why) n e = (why, refl)
+only-refused : (a : Answer) (n : ℕ) → outcome_of a ≡ refused from_input n → (why : Refusal) × (a ≡ Err why)
+only-refused (Ok None) n e = let z : ◌≡◌ {A = ℕ} 0 1 = cc in absurd (omega arith)
+only-refused (Ok (Some k)) n e = let z : ◌≡◌ {A = ℕ} 0 1 = cc in absurd (omega arith)
+only-refused (Err why) n e = (why, refl)
 
-pub opened-unless : (x : Reading) (r : Opened) → Reads x r → ((why : Refusal) → r.answer ≡ Refused why → ⊥) → x ≡ opened r.system
+pub opened-unless : (x : Reading) (r : Opened) → Reads x r → ((why : Refusal) → r.answer ≡ Err why → ⊥) → x ≡ opened r.system
 opened-unless (opened y) r reads h = ap opened (sym reads.system)
 opened-unless (unread n) r reads h = let (why, is) = only-refused r.answer n reads.answer in absurd (h why is)
 
@@ -1073,6 +1060,6 @@ opened-accepts : (y : System) (why : Refusal) → refusal_of why ≡ read_outcom
 opened-accepts y (Input m) e = let z : ◌≡◌ {A = ℕ} 0 1 = cc in omega arith
 opened-accepts y (State m) e = let z : ◌≡◌ {A = ℕ} 0 1 = cc in omega arith
 
-pub unread-with : (x : Reading) (r : Opened) → Reads x r → (why : Refusal) → r.answer ≡ Refused why → (n : ℕ) × (x ≡ unread n) × (refusal_of why ≡ refused from_input n)
+pub unread-with : (x : Reading) (r : Opened) → Reads x r → (why : Refusal) → r.answer ≡ Err why → (n : ℕ) × (x ≡ unread n) × (refusal_of why ≡ refused from_input n)
 unread-with (unread n) r reads why is = (n, refl, sym (ap outcome_of is) ∙ reads.answer)
 unread-with (opened y) r reads why is = absurd (opened-accepts y why (sym (ap outcome_of is) ∙ reads.answer))

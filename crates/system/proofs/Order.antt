@@ -1,5 +1,7 @@
 -- "Fields are judged in file order": what a beginning of a file is refused with stands, whatever follows, but for a cut (1) and the end (9, 41, 10; 42 where one kind of engine is wanted); and the first field, byte by byte.
 -- All is said of a card, of one kind or two: where one kind is wanted the refusals are the same (`card-refused` of `Laws`).
+use Rattle.std.proofs.Common.{Option, Some, None, Result, Ok, Err}
+use Rattle.system.specs.declared.FieldRule.{FieldRule}
 use Prim.Native.Nat.{ℕ, zero, suc, ◌+◌, ◌-◌, ◌*◌, ◌≤◌, ◌<◌}
 use native.Mathlib.Omega.{arith}
 use native.Mathlib.Nat.{le_refl}
@@ -12,10 +14,6 @@ use lib.ListN.{length, take, drop, length-take, length-drop}
 use lib.Seq.{take-nil}
 use lib.Dec.{leb, eqb}
 use Rattle.system.specs.declared.System.{System}
-use Rattle.system.specs.declared.RuleFound.{RuleFound}
-use Rattle.system.specs.declared.RuleFound.TheVariants.{Known, Unknown}
-use Rattle.system.specs.declared.Head.{Head}
-use Rattle.system.specs.declared.Head.TheVariants.{Ruled, Stops}
 use Rattle.system.specs.Values.{blank, with_platform, ceilings_of}
 use Rattle.system.specs.Limits.{or_else, column_limit, columns_of, is_one_kind, kinds_agree, kinds_fault, platform_fault, columns_fault}
 use Rattle.system.specs.Rules.{platform_rule, field_rules, rule_of, follows, may_follow, head_size}
@@ -41,13 +39,13 @@ end-only last y k e not9 not41 not10 = ended (eqb last 0 || eqb y.typecount 0) e
         judged (or_else (kinds_fault y) (columns_fault y.types)) (kinds_agree (is_one_kind y.second) y.typecount y.types) (leb (columns_of (ceilings_of y)) column_limit) refl e
 
 -- a head that is not cut is judged alike with more bytes after it
-whole-more : (x : RuleFound) (size : ℕ) (a c : Bool) (last : ℕ) (h : Head) → (a ≡ true → c ≡ true) → ruled_head x size a last ≡ h → (h ≡ Stops 1 → ⊥) → ruled_head x size c last ≡ h
+whole-more : (x : Option FieldRule) (size : ℕ) (a c : Bool) (last : ℕ) (h : Result FieldRule ℕ) → (a ≡ true → c ≡ true) → ruled_head x size a last ≡ h → (h ≡ Err 1 → ⊥) → ruled_head x size c last ≡ h
 unfolding ruled_head
-whole-more Unknown size a c last h more e uncut = e
-whole-more (Known r) size true c last h more e uncut = rw (more refl) e
-whole-more (Known r) size false c last h more e uncut = placed (may_follow follows last r.tag) (eqb size r.body) e
+whole-more None size a c last h more e uncut = e
+whole-more (Some r) size true c last h more e uncut = rw (more refl) e
+whole-more (Some r) size false c last h more e uncut = placed (may_follow follows last r.tag) (eqb size r.body) e
   where
-    placed : (p q : Bool) → cond (not p) (Stops 3) (cond (not q) (Stops 4) (Stops 1)) ≡ h → cond (not p) (Stops 3) (cond (not q) (Stops 4) (cond (not c) (Stops 1) (Ruled r))) ≡ h
+    placed : (p q : Bool) → cond (not p) (Err 3) (cond (not q) (Err 4) (Err 1)) ≡ h → cond (not p) (Err 3) (cond (not q) (Err 4) (cond (not c) (Err 1) (Ok r))) ≡ h
     placed false q e = e
     placed true false e = e
     placed true true e = absurd (uncut (sym e))
@@ -59,12 +57,12 @@ module _ (n : ℕ) (s : List ℕ) where
   within : length (take n s) ≤ n
   within = omega (arith, length-take n s)
 
-  head_more : (last : ℕ) (h : Head) → head_of (take n s) last ≡ h → (h ≡ Stops 1 → ⊥) → head_of s last ≡ h
+  head_more : (last : ℕ) (h : Result FieldRule ℕ) → head_of (take n s) last ≡ h → (h ≡ Err 1 → ⊥) → head_of s last ≡ h
   unfolding head_of
   head_more last h e uncut = headed (headed_field (take n s)) refl e
     where
       headed : (c : Bool) → headed_field (take n s) ≡ c
-          → cond (not c) (Stops 1) (ruled_head (rule_of field_rules (byte_at (take n s) 0)) (word2 (take n s) 1) (whole_field (take n s)) last) ≡ h → head_of s last ≡ h
+          → cond (not c) (Err 1) (ruled_head (rule_of field_rules (byte_at (take n s) 0)) (word2 (take n s) 1) (whole_field (take n s)) last) ≡ h → head_of s last ≡ h
       headed false q e = absurd (uncut (sym e))
       headed true q e =
           let long = leb-true head_size (length (take n s)) q in
@@ -80,15 +78,15 @@ module _ (n : ℕ) (s : List ℕ) where
   unfolding field_of ruled_field
   field-more last y x e uncut = judged (head_of (take n s) last) refl e
     where
-      judged : (h : Head) → head_of (take n s) last ≡ h → ruled_field h (body_part (take n s)) y ≡ x → field_of s last y ≡ x
-      judged (Stops m) q e =
-          ap (λ (h : Head). ruled_field h (body_part s) y) (head_more last (Stops m) q (λ is. let one : m ≡ 1 = cc in uncut (sym e ∙ ap unread one))) ∙ e
-      judged (Ruled r) q e =
+      judged : (h : Result FieldRule ℕ) → head_of (take n s) last ≡ h → ruled_field h (body_part (take n s)) y ≡ x → field_of s last y ≡ x
+      judged (Err m) q e =
+          ap (λ (h : Result FieldRule ℕ). ruled_field h (body_part s) y) (head_more last (Err m) q (λ is. let one : m ≡ 1 = cc in uncut (sym e ∙ ap unread one))) ∙ e
+      judged (Ok r) q e =
           let passed = head_of-ruled (take n s) last r q in
           let inside = leb-true (field_size (take n s)) (length (take n s)) passed.whole in
           let wide : head_size ≤ n = omega (arith, within) in
           let all : field_size s ≤ n = omega (arith, word-take n s wide, within) in
-          ap (λ (h : Head). ruled_field h (body_part s) y) (head_more last (Ruled r) q (λ is. let z : ◌≡◌ {A = ℕ} 0 1 = cc in absurd (omega arith)))
+          ap (λ (h : Result FieldRule ℕ). ruled_field h (body_part s) y) (head_more last (Ok r) q (λ is. let z : ◌≡◌ {A = ℕ} 0 1 = cc in absurd (omega arith)))
           ∙ ap (λ (b : List ℕ). body_of r b y) (sym (part-take n s wide all))
           ∙ e
 
@@ -161,7 +159,7 @@ module _ (m r u1 u2 u3 u4 s1 s2 s3 s4 : ℕ) (rest : List ℕ) where
   abbrev pub size_s : ℕ
   size_s = (s1 * 256 + s2) * 65536 + (s3 * 256 + s4)
 
-  first_head : head_of platform_file 0 ≡ Ruled platform_rule
+  first_head : head_of platform_file 0 ≡ Ok platform_rule
   unfolding rule_of head_of ruled_head
   first_head = rw (le-leb head_size (length platform_file) (omega arith), le-leb 13 (length platform_file) (omega arith))
 
@@ -171,7 +169,7 @@ module _ (m r u1 u2 u3 u4 s1 s2 s3 s4 : ℕ) (rest : List ℕ) where
 
   pub first_field : field_of platform_file 0 blank ≡ unless_fault (platform_fault m r size_u size_s) (with_platform m r size_u size_s blank)
   unfolding field_of ruled_field
-  first_field = ap (λ (h : Head). ruled_field h (body_part platform_file) blank) first_head ∙ first_body
+  first_field = ap (λ (h : Result FieldRule ℕ). ruled_field h (body_part platform_file) blank) first_head ∙ first_body
 
   first-fault : (k : ℕ) → eqb k 0 ≡ false → platform_fault m r size_u size_s ≡ k → read_card platform_file ≡ unread k
   first-fault k some e =

@@ -1,5 +1,6 @@
 -- How many fields of a rule a file has that opens; and how much of a file decides what it reads as: a field is judged by its own bytes, and after the fields
 -- that the rules allow the next one is refused.
+use Rattle.std.proofs.Common.{Option, Some, None, Result, Ok, Err}
 use Prim.Native.Nat.{ℕ, zero, suc, ◌+◌, ◌-◌, ◌*◌, ◌≤◌, ◌<◌}
 use native.Mathlib.Omega.{arith}
 use native.Mathlib.Nat.{le_refl, zero-sub}
@@ -14,10 +15,6 @@ use lib.Seq.{get_or-take, take-take, take-nil, drop_at}
 use lib.Dec.{leb, eqb, lit≤}
 use Rattle.system.specs.declared.System.{System}
 use Rattle.system.specs.declared.FieldRule.{FieldRule}
-use Rattle.system.specs.declared.RuleFound.{RuleFound}
-use Rattle.system.specs.declared.RuleFound.TheVariants.{Known, Unknown}
-use Rattle.system.specs.declared.Head.{Head}
-use Rattle.system.specs.declared.Head.TheVariants.{Ruled, Stops}
 use Rattle.system.specs.Numbers.{type_limit, file_bytes}
 use Rattle.system.specs.Values.{task_of, with_data, with_most, with_pace, with_costs, blank, with_platform, with_second, with_type, last_type, with_last}
 use Rattle.system.specs.Limits.{platform_fault, kind_fault, type_fault, most_fault, pace_fault, costs_fault, columns_of, kinds_agree}
@@ -338,14 +335,14 @@ module _ (n : ℕ) (s : List ℕ) where
     unfolding head_of ruled_head
     head-take last =
         rw (leb-take head_size (omega arith), byte-take (omega arith) 0 (omega arith), word-take (omega arith))
-        (ap (cond (not (headed_field s)) (Stops 1)) (ruled (rule_of field_rules (byte_at s 0)) refl))
+        (ap (cond {A = Result FieldRule ℕ} (not (headed_field s)) (Err 1)) (ruled (rule_of field_rules (byte_at s 0)) refl))
       where
-        ruled : (x : RuleFound) → rule_of field_rules (byte_at s 0) ≡ x → ruled_head x (word2 s 1) (leb (field_size s) (length (take n s))) last ≡ ruled_head x (word2 s 1) (whole_field s) last
-        ruled Unknown q = refl
-        ruled (Known r) q = ap (cond (not (may_follow follows last r.tag)) (Stops 3)) (sized (eqb (word2 s 1) r.body) refl)
+        ruled : (x : Option FieldRule) → rule_of field_rules (byte_at s 0) ≡ x → ruled_head x (word2 s 1) (leb (field_size s) (length (take n s))) last ≡ ruled_head x (word2 s 1) (whole_field s) last
+        ruled None q = refl
+        ruled (Some r) q = ap (cond (not (may_follow follows last r.tag)) (Err 3)) (sized (eqb (word2 s 1) r.body) refl)
           where
             sized : (b : Bool) → eqb (word2 s 1) r.body ≡ b
-                → cond (not b) (Stops 4) (cond (not (leb (field_size s) (length (take n s)))) (Stops 1) (Ruled r)) ≡ cond (not b) (Stops 4) (cond (not (whole_field s)) (Stops 1) (Ruled r))
+                → cond {A = Result FieldRule ℕ} (not b) (Err 4) (cond (not (leb (field_size s) (length (take n s)))) (Err 1) (Ok r)) ≡ cond (not b) (Err 4) (cond (not (whole_field s)) (Err 1) (Ok r))
             sized false e = refl
             sized true e = rw (leb-take (field_size s) (all_in r (rule_of-known (byte_at s 0) r q) (eqb-true (word2 s 1) r.body e)))
 
@@ -353,9 +350,9 @@ module _ (n : ℕ) (s : List ℕ) where
     unfolding field_of ruled_field
     field-take last y = rw (head-take last) (judged (head_of s last) refl)
       where
-        judged : (x : Head) → head_of s last ≡ x → ruled_field x (body_part (take n s)) y ≡ ruled_field x (body_part s) y
-        judged (Stops m) q = refl
-        judged (Ruled r) q =
+        judged : (x : Result FieldRule ℕ) → head_of s last ≡ x → ruled_field x (body_part (take n s)) y ≡ ruled_field x (body_part s) y
+        judged (Err m) q = refl
+        judged (Ok r) q =
             let passed = head_of-ruled s last r q in
             ap (λ (b : List ℕ). body_of r b y) (part-take (omega arith) (all_in r passed.rule passed.length))
 

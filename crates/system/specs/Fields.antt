@@ -1,10 +1,9 @@
 -- "Fields are judged in file order; in one field: start cut (1), 2, 3, 4, body cut (1), 7, then 5, 6, 8. At the end 9, 10", 31 "after 8" (request 2026-04),
 -- 43 "after 31" (2026-14), and 41 "after 9" (2026-13): of the first field and of each later one, byte by byte, and of the file's end; how wide the beginnings
 -- are of which this is said; how many fields of a tag a file may have; and the field step.
-use Rattle.std.specs.Prelude.{ℕ, suc, ◌+◌, ◌*◌, ◌≤◌, ◌<◌, List, [], ◌∷◌, ◌++◌, true, false, cond, ◌≡◌, ◌⊎◌, length, eqb}
+use Rattle.std.specs.Prelude.{ℕ, suc, ◌+◌, ◌*◌, ◌≤◌, ◌<◌, List, [], ◌∷◌, ◌++◌, true, false, cond, ◌≡◌, ◌⊎◌, length, eqb, Some}
 use Rattle.system.specs.declared.System.{System}
 use Rattle.system.specs.declared.FieldRule.{FieldRule}
-use Rattle.system.specs.declared.RuleFound.TheVariants.{Known}
 use Rattle.system.specs.Rules.{field_rules, rule_of}
 use Rattle.system.specs.Inner.{part_of}
 use Rattle.system.specs.Layout.{Reading, opened, unread, field_at, tag_at, length_at, body_at, next_at, read_card, read_file}
@@ -194,10 +193,10 @@ tagged tag (then-fields t h l body rest last size more) = cond (eqb t tag) 1 0 +
 -- "how many" in document 01's table of fields: the number that a rule allows is the most that a file has that opens. None has more, and one file has as many
 -- of every tag
 pub record HowMany : Type 0 where
-  pub no_more : (r : FieldRule) → rule_of field_rules r.tag ≡ Known r
+  pub no_more : (r : FieldRule) → rule_of field_rules r.tag ≡ Some r
       → (file : List ℕ) (y : System) (last : ℕ) (fields : WholeFields file last) → read_card file ≡ opened y → tagged r.tag fields ≤ r.allowed
   pub as_many : (file : List ℕ) × (y : System) × (last : ℕ) × (fields : WholeFields file last) × (read_card file ≡ opened y)
-      × ((r : FieldRule) → rule_of field_rules r.tag ≡ Known r → tagged r.tag fields ≡ r.allowed)
+      × ((r : FieldRule) → rule_of field_rules r.tag ≡ Some r → tagged r.tag fields ≡ r.allowed)
 
 -- what stands at a place of a file, after the bytes before it: a field's tag, length and body, and the place after it. The field is whole, or cut in its body
 -- or in its head; or the place is the file's end, or past it

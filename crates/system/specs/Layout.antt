@@ -1,19 +1,14 @@
 -- Document 01's "System file": what a list of bytes reads as, with refusals 1 to 10, 31, 41 and 43 in the order under "From the input", and 42 where one kind
 -- of engine is wanted.
-use Rattle.std.specs.Prelude.{ℕ, zero, suc, ◌+◌, ◌*◌, List, [], ◌∷◌, Bool, not, cond, ◌||◌, ◌≡◌, length, get_or, take, drop, leb, eqb}
-use Rattle.system.specs.declared.Most.TheVariants.{AtMost}
-use Rattle.system.specs.declared.Pace.TheVariants.{Paced}
-use Rattle.system.specs.declared.There.TheVariants.{Takes}
+use Rattle.std.specs.Prelude.{ℕ, zero, suc, ◌+◌, ◌*◌, List, [], ◌∷◌, Bool, not, cond, ◌||◌, ◌≡◌, length, get_or, take, drop, leb, eqb, Some, Option, None, Result, Ok, Err}
 use Rattle.system.specs.declared.TaskType.{TaskType}
 use Rattle.system.specs.declared.System.{System}
 use Rattle.system.specs.declared.FieldRule.{FieldRule}
-use Rattle.system.specs.declared.RuleFound.{RuleFound}
-use Rattle.system.specs.declared.RuleFound.TheVariants.{Known, Unknown}
-use Rattle.system.specs.declared.Head.{Head}
-use Rattle.system.specs.declared.Head.TheVariants.{Ruled, Stops}
 use Rattle.system.specs.declared.Cursor.{Cursor}
 use Rattle.system.specs.declared.Field.{Field}
 use Rattle.system.specs.declared.Opened.{Opened}
+use Rattle.system.specs.declared.Refusal.{Refusal}
+use Rattle.system.specs.declared.Refusal.TheVariants.{Input}
 use Rattle.system.specs.Values.{task_of, with_data, with_most, with_pace, with_costs, blank, with_platform, with_second, with_type, last_type, with_last}
 use Rattle.system.specs.Limits.{platform_fault, kind_fault, type_fault, most_fault, pace_fault, costs_fault, or_else, kinds_fault, columns_fault, is_one_kind}
 use Rattle.system.specs.Outcome.{Outcome, accepted, refused, from_input, outcome_of}
@@ -130,7 +125,7 @@ data_of b y = data_from (word4 b 0) y
 
 -- q of the last type: 31
 unfoldable pub most_from : ℕ → System → Reading
-most_from q y = unless_fault (most_fault (AtMost q)) (with_last (with_most q (last_type y)) y)
+most_from q y = unless_fault (most_fault (Some q)) (with_last (with_most q (last_type y)) y)
 
 -- its body: q (2)
 abbrev pub most_of : List ℕ → System → Reading
@@ -138,7 +133,7 @@ most_of b y = most_from (word2 b 0) y
 
 -- C and T of the last type, by its u and the platform's U: 43
 unfoldable pub pace_from : ℕ → ℕ → System → Reading
-pace_from c p y = unless_fault (pace_fault y.timecap (last_type y).time (Paced (record { run = c; period = p }))) (with_last (with_pace c p (last_type y)) y)
+pace_from c p y = unless_fault (pace_fault y.timecap (last_type y).time (Some (record { run = c; period = p }))) (with_last (with_pace c p (last_type y)) y)
 
 -- its body: C (4), T (4)
 abbrev pub pace_of : List ℕ → System → Reading
@@ -154,7 +149,7 @@ second_of b y = second_from (byte_at b 0) (word4 b 1) (word4 b 5) y
 
 -- u and s of the last type there: 8
 unfoldable pub costs_from : ℕ → ℕ → System → Reading
-costs_from u s y = unless_fault (costs_fault (Takes (record { time = u; memory = s }))) (with_last (with_costs u s (last_type y)) y)
+costs_from u s y = unless_fault (costs_fault (Some (record { time = u; memory = s }))) (with_last (with_costs u s (last_type y)) y)
 
 -- its body: u (4), s (4)
 abbrev pub costs_of : List ℕ → System → Reading
@@ -162,18 +157,18 @@ costs_of b y = costs_from (word4 b 0) (word4 b 4) y
 
 -- "in one field: start cut (1), 2, 3, 4, body cut (1), 7, then 5, 6, 8", 31 "after 8" (request 2026-04), and 43 "after 31" (2026-14). First the head: its tag
 -- and length, whether they stand there, and whether the body does
-unfoldable pub ruled_head : RuleFound → ℕ → Bool → ℕ → Head
-ruled_head Unknown size whole last = Stops 2
-ruled_head (Known r) size whole last =
-    cond (not (may_follow follows last r.tag)) (Stops 3)
-    (cond (not (eqb size r.body)) (Stops 4)
-    (cond (not whole) (Stops 1)
-    (Ruled r)))
+unfoldable pub ruled_head : Option FieldRule → ℕ → Bool → ℕ → Result FieldRule ℕ
+ruled_head None size whole last = Err 2
+ruled_head (Some r) size whole last =
+    cond (not (may_follow follows last r.tag)) (Err 3)
+    (cond (not (eqb size r.body)) (Err 4)
+    (cond (not whole) (Err 1)
+    (Ok r)))
 
-abbrev pub head_from : Bool → ℕ → ℕ → Bool → ℕ → Head
-head_from headed tag size whole last = cond (not headed) (Stops 1) (ruled_head (rule_of field_rules tag) size whole last)
+abbrev pub head_from : Bool → ℕ → ℕ → Bool → ℕ → Result FieldRule ℕ
+head_from headed tag size whole last = cond (not headed) (Err 1) (ruled_head (rule_of field_rules tag) size whole last)
 
-unfoldable pub head_of : List ℕ → ℕ → Head
+unfoldable pub head_of : List ℕ → ℕ → Result FieldRule ℕ
 head_of s last = head_from (headed_field s) (byte_at s 0) (word2 s 1) (whole_field s) last
 
 -- then the body b: 7, and what its tag says of it
@@ -188,9 +183,9 @@ body_of r b y =
     (cond (is_costs r.tag) (costs_of b y)
     (platform_of b y)))))))
 
-unfoldable pub ruled_field : Head → List ℕ → System → Reading
-ruled_field (Stops n) b y = unread n
-ruled_field (Ruled r) b y = body_of r b y
+unfoldable pub ruled_field : Result FieldRule ℕ → List ℕ → System → Reading
+ruled_field (Err n) b y = unread n
+ruled_field (Ok r) b y = body_of r b y
 
 -- both, of the field at the start of s
 unfoldable pub field_of : List ℕ → ℕ → System → Reading
@@ -234,7 +229,12 @@ abbrev pub read_system : Reading → System
 read_system (opened y) = y
 read_system (unread n) = blank
 
--- what the reader promises of its whole result, and its parts of theirs
+-- a reading as the reader's parts answer it
+abbrev pub read_result : Reading → Result System Refusal
+read_result (opened y) = Ok y
+read_result (unread n) = Err (Input n)
+
+-- what the reader promises of its whole result
 pub record Reads (x : Reading) (r : Opened) : Type 0 where
   pub answer : outcome_of r.answer ≡ read_outcome x
   pub system : r.system ≡ read_system x

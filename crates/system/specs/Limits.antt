@@ -1,14 +1,8 @@
 -- Document 01's limits of a system: each is tested here once, and a test gives the number of the refusal that it calls for, 0 for none.
-use Rattle.std.specs.Prelude.{ℕ, zero, suc, ◌+◌, ◌*◌, List, [], ◌∷◌, map, Bool, true, false, not, cond, ◌&&◌, length, leb, eqb}
-use Rattle.system.specs.declared.Most.{Most}
-use Rattle.system.specs.declared.Most.TheVariants.{NotGiven, AtMost}
+use Rattle.std.specs.Prelude.{ℕ, zero, suc, ◌+◌, ◌*◌, List, [], ◌∷◌, map, Bool, true, false, not, cond, ◌&&◌, length, leb, eqb, Option, None, Some}
+use Rattle.system.specs.declared.Kind.{Kind}
+use Rattle.system.specs.declared.Costs.{Costs}
 use Rattle.system.specs.declared.Cycle.{Cycle}
-use Rattle.system.specs.declared.Pace.{Pace}
-use Rattle.system.specs.declared.Pace.TheVariants.{Unpaced, Paced}
-use Rattle.system.specs.declared.There.{There}
-use Rattle.system.specs.declared.There.TheVariants.{Absent, Takes}
-use Rattle.system.specs.declared.Second.{Second}
-use Rattle.system.specs.declared.Second.TheVariants.{OneKind, TwoKinds}
 use Rattle.system.specs.declared.TaskType.{TaskType}
 use Rattle.system.specs.declared.System.{System}
 pub use Rattle.system.specs.Numbers.{engine_limit, type_limit, size_limit, column_limit, tick_limit}
@@ -33,18 +27,18 @@ kind_counted m n = leb 1 n && leb (m + n) engine_limit
 abbrev pub kind_fault : ℕ → ℕ → ℕ → ℕ → ℕ
 kind_fault m n u s = cond (not (kind_counted m n)) 5 (size_fault u s)
 
-abbrev pub second_fault : ℕ → Second → ℕ
-second_fault m OneKind = 0
-second_fault m (TwoKinds k) = kind_fault m k.number k.timecap k.memorycap
+abbrev pub second_fault : ℕ → Option Kind → ℕ
+second_fault m None = 0
+second_fault m (Some k) = kind_fault m k.number k.timecap k.memorycap
 
 -- a type's u, s and d
 abbrev pub type_fault : TaskType → ℕ
 type_fault t = cond (not (leb t.time size_limit && leb t.memory size_limit && leb t.data size_limit)) 8 0
 
 -- "31, when q is 0" (request 2026-04): a q that is not given is not 0
-abbrev pub most_fault : Most → ℕ
-most_fault NotGiven = 0
-most_fault (AtMost q) = cond (eqb q 0) 31 0
+abbrev pub most_fault : Option ℕ → ℕ
+most_fault None = 0
+most_fault (Some q) = cond (eqb q 0) 31 0
 
 -- request 2026-14: C and T are "1 to 65,535, C at most T", U is not 0, and u × T is not less than C × U; `whole` is U
 abbrev pub cycle_keeps : ℕ → ℕ → Cycle → Bool
@@ -52,9 +46,9 @@ cycle_keeps whole u c =
     leb 1 c.run && leb c.run c.period && leb c.period tick_limit && leb 1 whole && leb (c.run * whole) (u * c.period)
 
 -- "43, when C or T breaks these bounds, U is 0, or u × T is less than C × U": of a type
-abbrev pub pace_fault : ℕ → ℕ → Pace → ℕ
-pace_fault whole u Unpaced = 0
-pace_fault whole u (Paced c) = cond (not (cycle_keeps whole u c)) 43 0
+abbrev pub pace_fault : ℕ → ℕ → Option Cycle → ℕ
+pace_fault whole u None = 0
+pace_fault whole u (Some c) = cond (not (cycle_keeps whole u c)) 43 0
 
 -- of the first k types
 unfoldable pub paces_fault : ℕ → ℕ → List TaskType → ℕ
@@ -63,9 +57,9 @@ paces_fault whole zero (t ∷ ts) = 0
 paces_fault whole (suc k) (t ∷ ts) = or_else (pace_fault whole t.time t.pace) (paces_fault whole k ts)
 
 -- u and s on the second kind, where they are given
-abbrev pub costs_fault : There → ℕ
-costs_fault Absent = 0
-costs_fault (Takes c) = size_fault c.time c.memory
+abbrev pub costs_fault : Option Costs → ℕ
+costs_fault None = 0
+costs_fault (Some c) = size_fault c.time c.memory
 
 -- "the product of all n(t)+1, called the columns"
 unfoldable pub columns_of : List ℕ → ℕ
@@ -79,24 +73,24 @@ abbrev pub columns_fault : List TaskType → ℕ
 columns_fault ts = cond (not (leb (columns_of (map (λ (t : TaskType). t.ceiling) ts)) column_limit)) 10 0
 
 -- no q
-abbrev pub not_given : Most → Bool
-not_given NotGiven = true
-not_given (AtMost q) = false
+abbrev pub not_given : Option ℕ → Bool
+not_given None = true
+not_given (Some q) = false
 
 -- no C and T
-abbrev pub unpaced : Pace → Bool
-unpaced Unpaced = true
-unpaced (Paced c) = false
+abbrev pub unpaced : Option Cycle → Bool
+unpaced None = true
+unpaced (Some c) = false
 
 -- u and s on the second kind are given
-abbrev pub given : There → Bool
-given Absent = false
-given (Takes c) = true
+abbrev pub given : Option Costs → Bool
+given None = false
+given (Some c) = true
 
 -- there is no second kind
-abbrev pub is_one_kind : Second → Bool
-is_one_kind OneKind = true
-is_one_kind (TwoKinds k) = false
+abbrev pub is_one_kind : Option Kind → Bool
+is_one_kind None = true
+is_one_kind (Some k) = false
 
 -- "Either all are present or none": of each of the first k types u and s on the second kind are given exactly where there is one
 unfoldable pub kinds_agree : Bool → ℕ → List TaskType → Bool

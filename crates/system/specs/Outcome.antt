@@ -1,12 +1,8 @@
 -- What an answer says in document 01's words: accepted, with the numbers that it carries, or refused, with the list that the refusal is from and its number
 -- there.
-use Rattle.std.specs.Prelude.{ℕ, List, [], ◌∷◌, Bool, true, false, cond}
+use Rattle.std.specs.Prelude.{ℕ, List, [], ◌∷◌, Bool, true, false, cond, eqb, Result, ⊤, Ok, Err, Option, Some, None}
 use Rattle.system.specs.declared.Refusal.{Refusal}
 use Rattle.system.specs.declared.Refusal.TheVariants.{Input, State}
-use Rattle.system.specs.declared.Answer.{Answer}
-use Rattle.system.specs.declared.Answer.TheVariants.{Accepted, Number, Refused}
-use Rattle.system.specs.declared.Check.{Check}
-use Rattle.system.specs.declared.Check.TheVariants.{Passes, Fails}
 
 -- document 01's two lists of refusals: "From the input" and "From the state"
 pub data Source : Type 0 where
@@ -21,11 +17,15 @@ abbrev pub refusal_of : Refusal → Outcome
 refusal_of (Input n) = refused from_input n
 refusal_of (State n) = refused from_state n
 
+-- what a call answers in the code: accepted, with a number where it has one to say, or refused
+abbrev pub Answer : Type 0
+Answer = Result (Option ℕ) Refusal
+
 -- every case of every answer
 abbrev pub outcome_of : Answer → Outcome
-outcome_of Accepted = accepted []
-outcome_of (Number n) = accepted (n ∷ [])
-outcome_of (Refused r) = refusal_of r
+outcome_of (Ok None) = accepted []
+outcome_of (Ok (Some n)) = accepted (n ∷ [])
+outcome_of (Err r) = refusal_of r
 
 -- the call was accepted, whatever numbers its answer carries
 abbrev pub is_accepted : Outcome → Bool
@@ -56,6 +56,15 @@ abbrev pub fails_with : Refusal → Checked
 fails_with (Input n) = fails from_input n
 fails_with (State n) = fails from_state n
 
-abbrev pub checked_of : Check → Checked
-checked_of Passes = passes
-checked_of (Fails r) = fails_with r
+abbrev pub checked_of : Result ⊤ Refusal → Checked
+checked_of (Ok tt) = passes
+checked_of (Err r) = fails_with r
+
+-- a test as the code answers it, where its definition gives the number of the refusal that it calls for: nothing for 0, else that refusal from the input
+abbrev pub within : ℕ → Result ⊤ Refusal
+within n = cond (eqb n 0) (Ok tt) (Err (Input n))
+
+-- and a value as the code answers it, where its definition gives it or the number of a refusal from the input
+abbrev pub or_input : {A : Type 0} → Result A ℕ → Result A Refusal
+or_input (Ok a) = Ok a
+or_input (Err n) = Err (Input n)

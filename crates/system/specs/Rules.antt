@@ -1,8 +1,6 @@
 -- Document 01's table of fields, and which field may follow which. The code has the same tables; a later tag is one more row in each.
-use Rattle.std.specs.Prelude.{ℕ, ◌+◌, ◌*◌, max, List, [], ◌∷◌, Bool, true, false, cond, ◌&&◌, eqb}
+use Rattle.std.specs.Prelude.{ℕ, ◌+◌, ◌*◌, max, List, [], ◌∷◌, Bool, true, false, cond, ◌&&◌, eqb, Option, Some, None}
 use Rattle.system.specs.declared.FieldRule.{FieldRule}
-use Rattle.system.specs.declared.RuleFound.{RuleFound}
-use Rattle.system.specs.declared.RuleFound.TheVariants.{Known, Unknown}
 use Rattle.system.specs.declared.Follow.{Follow}
 use Rattle.system.specs.Numbers.{type_limit}
 
@@ -68,8 +66,8 @@ first_of hit out none [] = none
 first_of hit out none (r ∷ rs) = cond (hit r) (out r) (first_of hit out none rs)
 
 -- the rule of a tag
-unfoldable pub rule_of : List FieldRule → ℕ → RuleFound
-rule_of rules tag = first_of (λ (r : FieldRule). eqb r.tag tag) Known Unknown rules
+unfoldable pub rule_of : List FieldRule → ℕ → Option FieldRule
+rule_of rules tag = first_of (λ (r : FieldRule). eqb r.tag tag) Some None rules
 
 -- whether a field of this tag may come after one of tag `last`
 abbrev pub may_follow : List Follow → ℕ → ℕ → Bool

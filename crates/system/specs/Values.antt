@@ -1,9 +1,5 @@
 -- The one place where a definition makes a `System` or a `TaskType`: a later field is added here.
-use Rattle.std.specs.Prelude.{ℕ, suc, ◌-◌, List, ◌++◌, map, replicate, get_or, set, take}
-use Rattle.system.specs.declared.Most.TheVariants.{NotGiven, AtMost}
-use Rattle.system.specs.declared.Pace.TheVariants.{Unpaced, Paced}
-use Rattle.system.specs.declared.There.TheVariants.{Absent, Takes}
-use Rattle.system.specs.declared.Second.TheVariants.{OneKind, TwoKinds}
+use Rattle.std.specs.Prelude.{ℕ, suc, ◌-◌, List, ◌++◌, map, replicate, get_or, set, take, None, Some}
 use Rattle.system.specs.declared.TaskType.{TaskType}
 use Rattle.system.specs.declared.System.{System}
 use Rattle.system.specs.Numbers.{type_limit}
@@ -11,14 +7,14 @@ use Rattle.system.specs.Numbers.{type_limit}
 -- a type of these u, s and n: "without it d is 0" (request 2026-03), "Without it there is no limit" (2026-04), no C and T (2026-14), and nothing of a second
 -- kind (2026-13)
 abbrev pub task_of : ℕ → ℕ → ℕ → TaskType
-task_of u s n = record { time = u; memory = s; ceiling = n; «data» = 0; most = NotGiven; pace = Unpaced; there = Absent }
+task_of u s n = record { time = u; memory = s; ceiling = n; «data» = 0; most = None; pace = None; there = None }
 
 -- the type with its d, with its q, with its C and T, and with its u and s on the second kind
 abbrev pub with_data : ℕ → TaskType → TaskType
 with_data d t = record { time = t.time; memory = t.memory; ceiling = t.ceiling; «data» = d; most = t.most; pace = t.pace; there = t.there }
 
 abbrev pub with_most : ℕ → TaskType → TaskType
-with_most q t = record { time = t.time; memory = t.memory; ceiling = t.ceiling; «data» = t.data; most = AtMost q; pace = t.pace; there = t.there }
+with_most q t = record { time = t.time; memory = t.memory; ceiling = t.ceiling; «data» = t.data; most = Some q; pace = t.pace; there = t.there }
 
 abbrev pub with_pace : ℕ → ℕ → TaskType → TaskType
 with_pace c p t =
@@ -28,7 +24,7 @@ with_pace c p t =
       ceiling = t.ceiling;
       «data» = t.data;
       most = t.most;
-      pace = Paced (record { run = c; period = p });
+      pace = Some (record { run = c; period = p });
       there = t.there;
     }
 
@@ -41,7 +37,7 @@ with_costs u s t =
       «data» = t.data;
       most = t.most;
       pace = t.pace;
-      there = Takes (record { time = u; memory = s });
+      there = Some (record { time = u; memory = s });
     }
 
 -- what stands for a type past k
@@ -50,7 +46,7 @@ no_task = task_of 0 0 0
 
 -- the system before any field was read, and the one that a refusal hands out
 abbrev pub blank : System
-blank = record { engines = 0; rule = 0; timecap = 0; memorycap = 0; typecount = 0; types = replicate type_limit no_task; second = OneKind }
+blank = record { engines = 0; rule = 0; timecap = 0; memorycap = 0; typecount = 0; types = replicate type_limit no_task; second = None }
 
 -- the system with a platform's m, rule, U and S
 abbrev pub with_platform : ℕ → ℕ → ℕ → ℕ → System → System
@@ -66,7 +62,7 @@ with_second n u s y =
       memorycap = y.memorycap;
       typecount = y.typecount;
       types = y.types;
-      second = TwoKinds (record { number = n; timecap = u; memorycap = s });
+      second = Some (record { number = n; timecap = u; memorycap = s });
     }
 
 -- the system with one type more, at the next type number

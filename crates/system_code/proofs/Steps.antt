@@ -3,18 +3,25 @@ use Prim.Native.Nat.{ℕ, zero, suc, ◌+◌, ◌-◌, ◌*◌, ◌≤◌, ◌<�
 use native.Mathlib.Omega.{arith}
 use native.Mathlib.Numerals.{add-one}
 use native.Mathlib.Nat.{mul_assoc, mul-one, le-mul_of_pos_right, min-eq_left, min-eq_right}
-use mathlib.Core.List.{List, [], ◌∷◌, ◌++◌, append_assoc, append-nil, map}
-use mathlib.Core.Bool.{Bool, true, false, not, cond, ◌&&◌, ◌||◌, beq, false≢true}
+use Rattle.std.proofs.Common.{Option, Some, None}
+use Rattle.std.specs.Prelude.{is_some}
+use Rattle.std.specs.List.{list_all, find}
+use Rattle.std.proofs.lemmas.List.{take_min, drop-replicate}
+use mathlib.Core.List.{List, [], ◌∷◌, ◌++◌, map}
+use mathlib.Core.Bool.{Bool, true, false, not, cond, ◌&&◌, beq, false≢true}
 use mathlib.Core.Path.{◌≡◌, refl, sym, ap, ◌∙◌, subst}
-use borrow.Author.Tests.{ltb-true, ltb-false, lt-ltb, le-ltb, lt-leb, eq-eqb, ne_eqb}
-use lib.ListN.{length, get_or, take, drop, set, replicate, length-append, length-replicate, take-append-drop, drop_of_length-le, replicate-append-replicate}
-use lib.Seq.{drop-cons, length-take-le, set_at}
-use lib.Dec.{leb, ltb, eqb}
+use borrow.Author.Tests.{lt-ltb, le-ltb}
+use lib.ListN.{length, get_or, take, drop, replicate, drop_of_length-le}
+use lib.Seq.{drop-cons}
+use lib.Dec.{ltb}
+use Rattle.system.specs.declared.Costs.{Costs}
+use Rattle.system.specs.declared.Kind.{Kind}
 use Rattle.system.specs.declared.TaskType.{TaskType}
 use Rattle.system.specs.Values.{no_task, cleared_types}
-use Rattle.system.specs.Limits.{engine_limit, type_limit, column_limit, or_else, kind_counted, pace_fault, paces_fault, columns_of, given, kinds_agree, zero_task, sound_task, types_keep}
+use Rattle.system.specs.Limits.{type_limit, column_limit, or_else, pace_fault, paces_fault, columns_of, given, is_one_kind, kinds_agree, zero_task, sound_task, types_keep}
 use Rattle.system.specs.Rules.{first_of}
-use Rattle.system.proofs.Laws.{columns_of-pos, either-false}
+use Rattle.system.proofs.Within.{first_fault}
+use Rattle.system.proofs.Laws.{columns_of-pos}
 
 -- Columns: `left ts` is the product that the types ts have a part in
 
@@ -67,156 +74,74 @@ module _ (k i : ℕ) (ts : List TaskType) where
   unfolding types_keep
   types-end h inv = rw (drop_of_length-le ts h) at inv
 
--- The second kind's number: where one of the two numbers is over the limit their sum is, and where none is it is small
+-- The second kind is given of all types or of none: the code asks of each whether its costs are missing exactly where there is one kind
 
-pub kind-many : (m n : ℕ) → ltb engine_limit m || ltb engine_limit n ≡ true → false ≡ kind_counted m n
-kind-many m n e = sym (over (leb 1 n) (lt-leb (m + n) engine_limit (more (ltb engine_limit m) refl e)))
-  where
-    over : (b : Bool) {c : Bool} → c ≡ false → b && c ≡ false
-    over true e = e
-    over false e = refl
+abbrev pub kind_agrees : Bool → TaskType → Bool
+kind_agrees one t = beq (not (is_some t.there)) one
 
-    more : (b : Bool) → ltb engine_limit m ≡ b → b || ltb engine_limit n ≡ true → engine_limit < m + n
-    more true q e = omega (arith, ltb-true engine_limit m q)
-    more false q e = omega (arith, ltb-true engine_limit n e)
+agrees_of : (one : Bool) (there : Option Costs) → beq (not (is_some there)) one ≡ cond one (not (given there)) (given there)
+agrees_of true None = refl
+agrees_of true (Some c) = refl
+agrees_of false None = refl
+agrees_of false (Some c) = refl
 
-pub kind-few : (m n : ℕ) → ltb engine_limit m || ltb engine_limit n ≡ false → (m ≤ engine_limit) × (n ≤ engine_limit)
-kind-few m n e = let p = either-false (ltb engine_limit m) (ltb engine_limit n) e in (ltb-false engine_limit m p.0, ltb-false engine_limit n p.1)
-
--- The second kind is given of all types or of none: one entry, then the others
-
-kinds-step : (one : Bool) (k i : ℕ) (ts : List TaskType) (d : TaskType) → i < length ts → i < k
-    → kinds_agree one (k - i) (drop i ts) ≡ cond one (not (given (get_or ts i d).there)) (given (get_or ts i d).there) && kinds_agree one (k - (i + 1)) (drop (i + 1) ts)
+pub kinds-listed : (one : Bool) (k : ℕ) (ts : List TaskType) → list_all (kind_agrees one) (take k ts) ≡ kinds_agree one k ts
 unfolding kinds_agree
-kinds-step one k i ts d h more =
-    let p : k - i ≡ suc (k - suc i) = omega arith in
-    rw (add-one i, drop-cons ts i d h, p)
+kinds-listed one zero [] = refl
+kinds-listed one zero (t ∷ ts) = refl
+kinds-listed one (suc k) [] = refl
+kinds-listed one (suc k) (t ∷ ts) = ap (λ (b : Bool). b && list_all (kind_agrees one) (take k ts)) (agrees_of one t.there) ∙ ap (λ (b : Bool). cond one (not (given t.there)) (given t.there) && b) (kinds-listed one k ts)
 
--- the code asks whether the entry's costs are given and there is one kind, or neither: then it disagrees
-pub kind-disagrees : (g one : Bool) → beq g one ≡ true → cond one (not g) g ≡ false
-kind-disagrees true true e = refl
-kind-disagrees false false e = refl
-kind-disagrees true false e = absurd (false≢true e)
-kind-disagrees false true e = absurd (false≢true e)
+-- Request 2026-14: the first fault among the C and T of the first k types is that of their list
 
-pub kind-agrees : (g one : Bool) → beq g one ≡ false → cond one (not g) g ≡ true
-kind-agrees true false e = refl
-kind-agrees false true e = refl
-kind-agrees true true e = absurd (false≢true (sym e))
-kind-agrees false false e = absurd (false≢true (sym e))
+abbrev pub paced : ℕ → TaskType → ℕ
+paced whole t = pace_fault whole t.time t.pace
 
-module _ (one : Bool) (k i : ℕ) (ts : List TaskType) where
-  -- the entry disagrees, so the test fails; it agrees, so the others decide; no type is left
-  pub kinds-fail : (d : TaskType) → i < length ts → i < k → cond one (not (given (get_or ts i d).there)) (given (get_or ts i d).there) ≡ false
-      → kinds_agree one (k - i) (drop i ts) ≡ kinds_agree one k ts → false ≡ kinds_agree one k ts
-  kinds-fail d h more e inv = ap (λ (x : Bool). x && kinds_agree one (k - (i + 1)) (drop (i + 1) ts)) (sym e) ∙ sym (kinds-step one k i ts d h more) ∙ inv
-
-  pub kinds-more : (d : TaskType) → i < length ts → i < k → cond one (not (given (get_or ts i d).there)) (given (get_or ts i d).there) ≡ true
-      → kinds_agree one (k - i) (drop i ts) ≡ kinds_agree one k ts → kinds_agree one (k - (i + 1)) (drop (i + 1) ts) ≡ kinds_agree one k ts
-  kinds-more d h more e inv = ap (λ (x : Bool). x && kinds_agree one (k - (i + 1)) (drop (i + 1) ts)) (sym e) ∙ sym (kinds-step one k i ts d h more) ∙ inv
-
-  pub kinds-past : k ≤ i → kinds_agree one (k - i) (drop i ts) ≡ kinds_agree one k ts → true ≡ kinds_agree one k ts
-  unfolding kinds_agree
-  kinds-past h inv = let none : k - i ≡ 0 = omega arith in sym (ap (λ (n : ℕ). kinds_agree one n (drop i ts)) none ∙ nothing (drop i ts)) ∙ inv
-    where
-      nothing : (l : List TaskType) → kinds_agree one zero l ≡ true
-      nothing [] = refl
-      nothing (t ∷ l) = refl
-
-  pub kinds-end : length ts ≤ i → kinds_agree one (k - i) (drop i ts) ≡ kinds_agree one k ts → true ≡ kinds_agree one k ts
-  unfolding kinds_agree
-  kinds-end h inv = rw (drop_of_length-le ts h) at inv
-
--- Request 2026-14: the first fault among the C and T of the first k types: one entry, then the others
-
-paces-step : (whole k i : ℕ) (ts : List TaskType) (d : TaskType) → i < length ts → i < k
-    → paces_fault whole (k - i) (drop i ts) ≡ or_else (pace_fault whole (get_or ts i d).time (get_or ts i d).pace) (paces_fault whole (k - (i + 1)) (drop (i + 1) ts))
+pub paces-listed : (whole k : ℕ) (ts : List TaskType) → first_fault (paced whole) (take k ts) ≡ paces_fault whole k ts
 unfolding paces_fault
-paces-step whole k i ts d h more =
-    let p : k - i ≡ suc (k - suc i) = omega arith in
-    rw (add-one i, drop-cons ts i d h, p)
+paces-listed whole zero [] = refl
+paces-listed whole zero (t ∷ ts) = refl
+paces-listed whole (suc k) [] = refl
+paces-listed whole (suc k) (t ∷ ts) = ap (λ (n : ℕ). or_else (paced whole t) n) (paces-listed whole k ts)
 
-module _ (whole k i : ℕ) (ts : List TaskType) where
-  -- the entry has a fault, so that is the first; it has none, so the others decide; no type is left
-  pub paces-found : (d : TaskType) (n : ℕ) → i < length ts → i < k → n ≡ pace_fault whole (get_or ts i d).time (get_or ts i d).pace → (n ≡ 0 → ⊥)
-      → paces_fault whole (k - i) (drop i ts) ≡ paces_fault whole k ts → n ≡ paces_fault whole k ts
-  paces-found d n h more e some inv =
-      let other : eqb (pace_fault whole (get_or ts i d).time (get_or ts i d).pace) 0 ≡ false = ne_eqb (pace_fault whole (get_or ts i d).time (get_or ts i d).pace) 0 (λ z. some (e ∙ z)) in
-      e ∙ sym (paces-step whole k i ts d h more ∙ rw other) ∙ inv
+pub paces-first : (whole k n : ℕ) (ts : List TaskType) → length ts ≡ type_limit → n ≡ min k type_limit → first_fault (paced whole) (take n ts) ≡ paces_fault whole k ts
+paces-first whole k n ts six e =
+    let same : n ≡ min k (length ts) = e ∙ ap (min k) (sym six) in
+    ap (λ (j : ℕ). first_fault (paced whole) (take j ts)) same ∙ ap (first_fault (paced whole)) (take_min k ts) ∙ paces-listed whole k ts
 
-  pub paces-more : (d : TaskType) (n : ℕ) → i < length ts → i < k → n ≡ pace_fault whole (get_or ts i d).time (get_or ts i d).pace → n ≡ 0
-      → paces_fault whole (k - i) (drop i ts) ≡ paces_fault whole k ts → paces_fault whole (k - (i + 1)) (drop (i + 1) ts) ≡ paces_fault whole k ts
-  paces-more d n h more e none inv =
-      let is : eqb (pace_fault whole (get_or ts i d).time (get_or ts i d).pace) 0 ≡ true = eq-eqb (pace_fault whole (get_or ts i d).time (get_or ts i d).pace) 0 (sym e ∙ none) in
-      sym (paces-step whole k i ts d h more ∙ rw is) ∙ inv
+-- Clearing: what is kept stands before what is left of six entries with nothing given
 
-  pub paces-past : k ≤ i → paces_fault whole (k - i) (drop i ts) ≡ paces_fault whole k ts → 0 ≡ paces_fault whole k ts
-  unfolding paces_fault
-  paces-past h inv = let none : k - i ≡ 0 = omega arith in sym (ap (λ (n : ℕ). paces_fault whole n (drop i ts)) none ∙ nothing (drop i ts)) ∙ inv
-    where
-      nothing : (l : List TaskType) → paces_fault whole zero l ≡ 0
-      nothing [] = refl
-      nothing (t ∷ l) = refl
+pub cleared_is : (k kept : ℕ) (ts front : List TaskType) → length ts ≡ type_limit → kept ≡ min k type_limit → front ≡ take kept ts
+    → front ++ drop kept (replicate type_limit no_task) ≡ cleared_types k ts
+cleared_is k kept ts front six e same =
+    let least : kept ≡ min k (length ts) = e ∙ ap (min k) (sym six) in
+    let first : front ≡ take k ts = same ∙ ap (λ (n : ℕ). take n ts) least ∙ take_min k ts in
+    let left : type_limit - kept ≡ type_limit - k = omega arith in
+    let rest : drop kept (replicate type_limit no_task) ≡ replicate (type_limit - k) no_task = drop-replicate kept type_limit no_task ∙ ap (λ (n : ℕ). replicate n no_task) left in
+    λ i. first i ++ rest i
 
-  pub paces-end : length ts ≤ i → paces_fault whole (k - i) (drop i ts) ≡ paces_fault whole k ts → 0 ≡ paces_fault whole k ts
-  unfolding paces_fault
-  paces-end h inv = rw (drop_of_length-le ts h) at inv
+-- There is one kind where no second is given
 
--- Clearing: the entries from k up to i are cleared already, the others are as they were
+pub none_is_one : (one : Bool) (second : Option Kind) → is_some second ≡ not one → one ≡ is_one_kind second
+none_is_one true None e = refl
+none_is_one false None e = absurd (false≢true e)
+none_is_one true (Some k) e = absurd (false≢true (sym e))
+none_is_one false (Some k) e = refl
 
-abbrev pub cleared_to : ℕ → ℕ → List TaskType → List TaskType
-cleared_to k i ts = take k ts ++ (replicate (i - k) no_task ++ drop i ts)
+-- Request 2026-13: a list of what f gives of each entry
 
-pub cleared-none : (k : ℕ) (ts : List TaskType) → ts ≡ cleared_to k k ts
-cleared-none k ts = let none : k - k ≡ 0 = omega arith in sym (rw none (take-append-drop k ts))
+pub all_mapped : {A B : Type 0} (f : A → B) (xs : List A) (ys : List B) → length ys ≡ length xs
+    → ((i : ℕ) (d : A) (e : B) → i < length xs → get_or ys i e ≡ f (get_or xs i d)) → ys ≡ map f xs
+all_mapped f [] [] h at = refl
+all_mapped f [] (y ∷ ys) h at = absurd (omega arith)
+all_mapped f (x ∷ xs) [] h at = absurd (omega arith)
+all_mapped f (x ∷ xs) (y ∷ ys) h at =
+    let first : y ≡ f x = at 0 x y (omega arith) in
+    let rest : ys ≡ map f xs = all_mapped f xs ys (omega arith) (λ i d e l. at (suc i) d e (omega arith)) in
+    cc
 
-pub cleared_more : (k i : ℕ) (ts : List TaskType) → k ≤ i → i < length ts → set (cleared_to k i ts) i no_task ≡ cleared_to k (i + 1) ts
-cleared_more k i ts from h =
-    let front = take k ts ++ replicate (i - k) no_task in
-    let one : i + 1 - k ≡ i - k + 1 = omega arith in
-    let size : length front ≡ i = simp (length-append, length-replicate, length-take-le k ts (omega arith)) (omega arith) in
-    ap (λ (l : List TaskType). set l i no_task) (sym (append_assoc (take k ts) (replicate (i - k) no_task) (drop i ts)) ∙ ap (λ (l : List TaskType). front ++ l) (drop-cons ts i no_task h))
-    ∙ set_at front (get_or ts i no_task) (drop (suc i) ts) no_task i size
-    ∙ rw (one, ← replicate-append-replicate (i - k) 1 no_task, add-one i) (simp append_assoc)
+-- A table: its first row that passes the test
 
-pub cleared-all : (k i : ℕ) (ts : List TaskType) → length ts ≡ type_limit → type_limit ≤ i → i - k ≡ type_limit - k → cleared_to k i ts ≡ cleared_types k ts
-cleared-all k i ts six h e = let past : length ts ≤ i = omega arith in rw (drop_of_length-le ts past, e) (simp append-nil)
-
--- Request 2026-13: a list of which f has taken the place of the first i entries already, the others as they were
-
-abbrev pub mapped_to : {A : Type 0} → (A → A) → ℕ → List A → List A
-mapped_to f i l = map f (take i l) ++ drop i l
-
-pub mapped-none : {A : Type 0} (f : A → A) (l : List A) → l ≡ mapped_to f 0 l
-mapped-none f l = refl
-
-mapped_next : {A : Type 0} (f : A → A) (l : List A) (i : ℕ) (d : A) → i < length l → set (mapped_to f i l) i (f (get_or l i d)) ≡ mapped_to f (suc i) l
-mapped_next f [] i d h = absurd (omega arith)
-mapped_next f (x ∷ l) zero d h = refl
-mapped_next {A} f (x ∷ l) (suc i) d h = ap (λ (rest : List A). f x ∷ rest) (mapped_next f l i d (omega arith))
-
-pub mapped-more : {A : Type 0} (f : A → A) (l : List A) (i : ℕ) (d : A) → i < length l → set (mapped_to f i l) i (f (get_or l i d)) ≡ mapped_to f (i + 1) l
-mapped-more f l i d h = rw (add-one i) (mapped_next f l i d h)
-
-pub mapped-all : {A : Type 0} (f : A → A) (l : List A) (i : ℕ) → length l ≤ i → mapped_to f i l ≡ map f l
-mapped-all f [] zero h = refl
-mapped-all f [] (suc i) h = refl
-mapped-all f (x ∷ l) zero h = absurd (omega arith)
-mapped-all {A} f (x ∷ l) (suc i) h = ap (λ (rest : List A). f x ∷ rest) (mapped-all f l i (omega arith))
-
--- A table: its first row that passes the test stands here, or further on, or nowhere
-
-module _ {A B : Type 0} (hit : A → Bool) (out : A → B) (none : B) (rows : List A) (i : ℕ) where
-  first_step : (d : A) → i < length rows → first_of hit out none (drop i rows) ≡ cond (hit (get_or rows i d)) (out (get_or rows i d)) (first_of hit out none (drop (i + 1) rows))
-  first_step d h = rw (add-one i, drop-cons rows i d h)
-
-  pub first-here : (d : A) → i < length rows → hit (get_or rows i d) ≡ true → first_of hit out none (drop i rows) ≡ first_of hit out none rows
-      → out (get_or rows i d) ≡ first_of hit out none rows
-  first-here d h e inv = sym (first_step d h ∙ ap (λ (b : Bool). cond b (out (get_or rows i d)) (first_of hit out none (drop (i + 1) rows))) e) ∙ inv
-
-  pub first_on : (d : A) → i < length rows → hit (get_or rows i d) ≡ false → first_of hit out none (drop i rows) ≡ first_of hit out none rows
-      → first_of hit out none (drop (i + 1) rows) ≡ first_of hit out none rows
-  first_on d h e inv = sym (first_step d h ∙ ap (λ (b : Bool). cond b (out (get_or rows i d)) (first_of hit out none (drop (i + 1) rows))) e) ∙ inv
-
-  pub first-none : length rows ≤ i → first_of hit out none (drop i rows) ≡ first_of hit out none rows → none ≡ first_of hit out none rows
-  first-none h inv = rw (drop_of_length-le rows h) at inv
+pub first_found : {A : Type 0} (hit : A → Bool) (rows : List A) → find hit rows ≡ first_of hit Some None rows
+first_found hit [] = refl
+first_found hit (r ∷ rows) = ap (λ (o : Option _). cond (hit r) (Some r) o) (first_found hit rows)

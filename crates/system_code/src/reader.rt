@@ -2,16 +2,14 @@
 ghost use Rattle.std.specs.Prelude.{◌≡◌, ◌<◌, get_or, drop};
 ghost use Rattle.system.specs.Inner.{part_of, Typed, PastTypes, BodyReady};
 ghost use Rattle.system.specs.Limits.{type_limit};
+ghost use Rattle.system.specs.Outcome.{or_input};
 ghost use Rattle.system.specs.Layout.{word2, word4, headed_field, whole_field, field_at, tag_at, length_at, body_at, next_at};
-ghost use Rattle.system.specs.Layout.{head_from, seen_of, field_of, body_of, end_of, read_card, read_file, unread, Reads};
-ghost use Rattle.system.specs.Layout.{unless_fault, platform_of, type_of, data_of, most_of, pace_of, second_of, costs_of};
+ghost use Rattle.system.specs.Layout.{head_of, seen_of, field_of, body_of, end_of, read_card, read_file, Reading, Reads, read_result};
+ghost use Rattle.system.specs.Layout.{platform_of, type_of, data_of, most_of, pace_of, second_of, costs_of};
 
 use crate::rules::{COSTS, DATA, MOST, PACE, SECOND, TYPE};
 use crate::{limits, rules, values};
-use system::{
-    Answer, Costs, Cursor, Cycle, Field, FieldRule, Head, Most, Opened, Pace, Refusal, RuleFound,
-    System, There,
-};
+use system::{Costs, Cursor, Cycle, Field, FieldRule, Opened, Refusal, System};
 
 // The bytes before a field's body: its tag and its length.
 pub const HEAD_SIZE: usize = 3;
@@ -153,27 +151,26 @@ pub fn body_part(file: &[u8], field: Field) -> &[u8]
     }
 }
 
-// A field's head: refused 1 (start cut), 2, 3, 4, 1 (body cut) in this order.
-fn head_of(headed: bool, tag: u8, size: usize, whole: bool, last: u8) -> Head
-    ensures { result ≡ head_from headed tag size whole last }
+// The head of the field at a cursor: refused 1 (start cut), 2, 3, 4, 1 (body cut) in this order.
+fn head_of(file: &[u8], c: Cursor, last: u8) -> Result<FieldRule, Refusal>
+    ensures { result ≡ or_input (head_of (drop c.at file.now) last) }
 {
-    if !headed {
-        return Head::Stops(1);
+    if !headed_at(file, c) {
+        return Err(Refusal::Input(1));
     }
-    let found = rules::rule_of(tag);
-    let RuleFound::Known(rule) = found else {
-        return Head::Stops(2);
+    let Some(rule) = rules::rule_of(tag_at(file, c)) else {
+        return Err(Refusal::Input(2));
     };
     if !rules::may_follow(last, rule.tag) {
-        return Head::Stops(3);
+        return Err(Refusal::Input(3));
     }
-    if size != rule.body {
-        return Head::Stops(4);
+    if length_at(file, c) as usize != rule.body {
+        return Err(Refusal::Input(4));
     }
-    if !whole {
-        return Head::Stops(1);
+    if !whole_at(file, c) {
+        return Err(Refusal::Input(1));
     }
-    Head::Ruled(rule)
+    Ok(rule)
 }
 
 // How many fields of this tag were read before, where their number decides: that of types. Any other field stands
@@ -181,202 +178,178 @@ fn head_of(headed: bool, tag: u8, size: usize, whole: bool, last: u8) -> Head
 fn seen_of(tag: u8, y: System) -> usize
     ensures { result ≡ seen_of tag y }
 {
-    if tag == TYPE {
-        return y.typecount;
-    }
-    0
-}
-
-// A refusal from the input hands out the blank system.
-fn refused(n: u8) -> Opened
-    ensures { Reads (unread n) result }
-{
-    Opened {
-        answer: Answer::Refused(Refusal::Input(n)),
-        system: values::blank_system(),
-    }
-}
-
-// The system so far, unless a limit is broken.
-fn unless_fault(n: u8, y: System) -> Opened
-    ensures { Reads (unless_fault n y) result }
-{
-    if n != 0 {
-        return refused(n);
-    }
-    Opened {
-        answer: Answer::Accepted,
-        system: y,
-    }
+    if tag == TYPE { y.typecount } else { 0 }
 }
 
 // A platform's body: m, rule, U, S.
-fn platform_of(b: &[u8], y: System) -> Opened
-    ensures { Reads (platform_of b.now y) result }
+fn platform_of(b: &[u8], y: System) -> Result<System, Refusal>
+    ensures { result ≡ read_result (platform_of b.now y) }
 {
     let m = byte_at(b, 0) as usize;
     let rule = byte_at(b, 1);
     let time = four_bytes(b, 2);
     let memory = four_bytes(b, 6);
-    let fault = limits::platform_fault(m, rule, time, memory);
-    unless_fault(fault, values::with_platform(m, rule, time, memory, y))
+    limits::platform_fault(m, rule, time, memory)?;
+    Ok(values::with_platform(m, rule, time, memory, y))
 }
 
 // A type's body: u, s, n.
-fn type_of(b: &[u8], y: System) -> Opened
+fn type_of(b: &[u8], y: System) -> Result<System, Refusal>
     requires { y.typecount < type_limit }
-    ensures { Reads (type_of b.now y) result }
+    ensures { result ≡ read_result (type_of b.now y) }
 {
     let t = values::task_of(four_bytes(b, 0), four_bytes(b, 4), two_bytes(b, 8));
-    unless_fault(limits::type_fault(t), values::with_type(t, y))
+    limits::type_fault(t)?;
+    Ok(values::with_type(t, y))
 }
 
 // The body of a type's data memory: d, for the last type.
-fn data_of(b: &[u8], y: System) -> Opened
+fn data_of(b: &[u8], y: System) -> Result<System, Refusal>
     requires { Typed y }
-    ensures { Reads (data_of b.now y) result }
+    ensures { result ≡ read_result (data_of b.now y) }
 {
     let t = values::with_data(four_bytes(b, 0), values::last_type(y));
-    unless_fault(limits::type_fault(t), values::with_last(t, y))
+    limits::type_fault(t)?;
+    Ok(values::with_last(t, y))
 }
 
 // The body of a type's q, for the last type.
-fn most_of(b: &[u8], y: System) -> Opened
+fn most_of(b: &[u8], y: System) -> Result<System, Refusal>
     requires { Typed y }
-    ensures { Reads (most_of b.now y) result }
+    ensures { result ≡ read_result (most_of b.now y) }
 {
     let q = two_bytes(b, 0);
-    let t = values::with_most(q, values::last_type(y));
-    unless_fault(limits::most_fault(Most::AtMost(q)), values::with_last(t, y))
+    limits::most_fault(Some(q))?;
+    Ok(values::with_last(values::with_most(q, values::last_type(y)), y))
 }
 
 // The body of a type's C and T, for the last type.
-fn pace_of(b: &[u8], y: System) -> Opened
+fn pace_of(b: &[u8], y: System) -> Result<System, Refusal>
     requires { Typed y }
-    ensures { Reads (pace_of b.now y) result }
+    ensures { result ≡ read_result (pace_of b.now y) }
 {
     let run = four_bytes(b, 0);
     let period = four_bytes(b, 4);
     let last = values::last_type(y);
-    let fault = limits::pace_fault(y.timecap, last.time, Pace::Paced(Cycle { run, period }));
-    unless_fault(
-        fault,
-        values::with_last(values::with_pace(run, period, last), y),
-    )
+    limits::pace_fault(y.timecap, last.time, Some(Cycle { run, period }))?;
+    Ok(values::with_last(values::with_pace(run, period, last), y))
 }
 
 // The body of a second kind of engine: its number, U, S.
-fn second_of(b: &[u8], y: System) -> Opened
-    ensures { Reads (second_of b.now y) result }
+fn second_of(b: &[u8], y: System) -> Result<System, Refusal>
+    ensures { result ≡ read_result (second_of b.now y) }
 {
     let n = byte_at(b, 0) as usize;
     let time = four_bytes(b, 1);
     let memory = four_bytes(b, 5);
-    let fault = limits::kind_fault(y.engines, n, time, memory);
-    unless_fault(fault, values::with_second(n, time, memory, y))
+    limits::kind_fault(y.engines, n, time, memory)?;
+    Ok(values::with_second(n, time, memory, y))
 }
 
 // The body of a type's u and s on the second kind, for the last type.
-fn costs_of(b: &[u8], y: System) -> Opened
+fn costs_of(b: &[u8], y: System) -> Result<System, Refusal>
     requires { Typed y }
-    ensures { Reads (costs_of b.now y) result }
+    ensures { result ≡ read_result (costs_of b.now y) }
 {
     let time = four_bytes(b, 0);
     let memory = four_bytes(b, 4);
-    let t = values::with_costs(time, memory, values::last_type(y));
-    let fault = limits::costs_fault(There::Takes(Costs { time, memory }));
-    unless_fault(fault, values::with_last(t, y))
+    limits::costs_fault(Some(Costs { time, memory }))?;
+    Ok(values::with_last(values::with_costs(time, memory, values::last_type(y)), y))
 }
 
 // A field's body, where its head has a rule: 7, then what its tag says of it.
-fn body_of(rule: FieldRule, b: &[u8], y: System) -> Opened
+fn body_of(rule: FieldRule, b: &[u8], y: System) -> Result<System, Refusal>
     requires { BodyReady rule y }
-    ensures { Reads (body_of rule b.now y) result }
+    ensures { result ≡ read_result (body_of rule b.now y) }
 {
-    let tag = rule.tag;
-    if rule.allowed <= seen_of(tag, y) {
-        return refused(7);
+    if rule.allowed <= seen_of(rule.tag, y) {
+        return Err(Refusal::Input(7));
     }
-    if tag == TYPE {
-        return type_of(b, y);
+    match rule.tag {
+        TYPE => type_of(b, y),
+        DATA => data_of(b, y),
+        MOST => most_of(b, y),
+        PACE => pace_of(b, y),
+        SECOND => second_of(b, y),
+        COSTS => costs_of(b, y),
+        _ => platform_of(b, y),
     }
-    if tag == DATA {
-        return data_of(b, y);
-    }
-    if tag == MOST {
-        return most_of(b, y);
-    }
-    if tag == PACE {
-        return pace_of(b, y);
-    }
-    if tag == SECOND {
-        return second_of(b, y);
-    }
-    if tag == COSTS {
-        return costs_of(b, y);
-    }
-    platform_of(b, y)
 }
 
 // The field at a cursor: its head, then its body.
-fn field_of(file: &[u8], c: Cursor, last: u8, y: System) -> Opened
+fn field_of(file: &[u8], c: Cursor, last: u8, y: System) -> Result<System, Refusal>
     requires { PastTypes last → Typed y }
-    ensures { Reads (field_of (drop c.at file.now) last y) result }
+    ensures { result ≡ read_result (field_of (drop c.at file.now) last y) }
 {
-    let headed = headed_at(file, c);
-    let size = length_at(file, c) as usize;
-    let whole = whole_at(file, c);
-    let head = head_of(headed, tag_at(file, c), size, whole, last);
-    match head {
-        Head::Stops(n) => refused(n),
-        Head::Ruled(rule) => body_of(rule, body_at(file, c), y),
-    }
+    let rule = head_of(file, c, last)?;
+    body_of(rule, body_at(file, c), y)
 }
 
 // The end of the file: 9, 41, 10.
-fn end_of(last: u8, y: System) -> Opened
-    ensures { Reads (end_of last y) result }
+fn end_of(last: u8, y: System) -> Result<System, Refusal>
+    ensures { result ≡ read_result (end_of last y) }
 {
     if (last == 0) | (y.typecount == 0) {
-        return refused(9);
+        return Err(Refusal::Input(9));
     }
-    let fault = limits::kinds_fault(y);
-    if fault != 0 {
-        return refused(fault);
-    }
-    let types = y.types;
-    unless_fault(limits::columns_fault(types), y)
+    limits::kinds_fault(y)?;
+    limits::columns_fault(y.types)?;
+    Ok(y)
 }
 
-// The system of a file, of one kind of engine or two, or refusals 1 to 10, 31, 41 and 43.
-pub fn read_card(file: &[u8]) -> Opened
-    ensures { Reads (read_card file.now) result }
+// The fields one after the other, and then the end.
+fn card_of(file: &[u8]) -> Result<System, Refusal>
+    ensures { result ≡ read_result (read_card file.now) }
 {
     let mut c = Cursor { at: 0 };
     let mut last: u8 = 0;
     let mut y = values::blank_system();
     while c.at < file.len() {
-        let r = field_of(file, c, last, y);
-        let a = r.answer;
-        let Answer::Accepted = a else {
-            return r;
-        };
-        y = r.system;
+        y = field_of(file, c, last, y)?;
         last = tag_at(file, c);
         c = next_at(file, c);
     }
     end_of(last, y)
 }
 
+// A card where one kind of engine is wanted: 42 where it has two.
+fn one_kind_of(file: &[u8]) -> Result<System, Refusal>
+    ensures { result ≡ read_result (read_file file.now) }
+{
+    let y = card_of(file)?;
+    if y.second.is_some() {
+        return Err(Refusal::Input(42));
+    }
+    Ok(y)
+}
+
+// A refusal hands out the blank system.
+fn opened(read: Result<System, Refusal>) -> Opened
+    ensures { (x : Reading) → read ≡ read_result x → Reads x result }
+{
+    match read {
+        Ok(system) => Opened {
+            answer: Ok(None),
+            system,
+        },
+        Err(why) => Opened {
+            answer: Err(why),
+            system: values::blank_system(),
+        },
+    }
+}
+
+// The system of a file, of one kind of engine or two, or refusals 1 to 10, 31, 41 and 43.
+// `Reads`, which other crates' theorems cite, has the answer and the blank system beside it: so this is `Opened`, and no Result.
+pub fn read_card(file: &[u8]) -> Opened
+    ensures { Reads (read_card file.now) result }
+{
+    opened(card_of(file))
+}
+
 // The system of a file that is wanted of one kind of engine: 42 where it has two.
 pub fn read_system(file: &[u8]) -> Opened
     ensures { Reads (read_file file.now) result }
 {
-    let r = read_card(file);
-    let y = r.system;
-    let second = y.second;
-    if limits::is_one_kind(second) {
-        return r;
-    }
-    refused(42)
+    opened(one_kind_of(file))
 }

@@ -2,7 +2,7 @@
 ghost use Rattle.std.specs.Prelude.{◌≡◌};
 ghost use Rattle.system.specs.Rules.{field_rules, rule_of, follows, may_follow};
 
-use system::{FieldRule, Follow, RuleFound, TYPE_LIMIT};
+use system::{FieldRule, Follow, TYPE_LIMIT};
 
 // The tags.
 pub const PLATFORM: u8 = 1;
@@ -139,29 +139,16 @@ const FOLLOWS: [Follow; 19] = [
 ];
 
 // The table's rule for a tag.
-pub fn rule_of(tag: u8) -> RuleFound
+#[tactic(auto, unfolding(system::specs::Rules::rule_of))]
+pub fn rule_of(tag: u8) -> Option<FieldRule>
     ensures { result ≡ rule_of field_rules tag }
 {
-    let rules = RULES;
-    for i in 0..RULES.len() {
-        let rule = rules[i];
-        if rule.tag == tag {
-            return RuleFound::Known(rule);
-        }
-    }
-    RuleFound::Unknown
+    RULES.iter().find(|rule| rule.tag == tag).copied()
 }
 
 // Whether a field of this tag may come after one of tag `last`.
 pub(crate) fn may_follow(last: u8, tag: u8) -> bool
     ensures { result ≡ may_follow follows last tag }
 {
-    let rows = FOLLOWS;
-    for i in 0..FOLLOWS.len() {
-        let row = rows[i];
-        if (row.tag == tag) & (row.last == last) {
-            return true;
-        }
-    }
-    false
+    FOLLOWS.contains(&Follow { tag, last })
 }

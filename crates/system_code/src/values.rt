@@ -5,7 +5,7 @@ ghost use Rattle.system.specs.Values.{task_of, with_data, with_most, with_pace, 
 ghost use Rattle.system.specs.Values.{with_platform, with_second, with_type, last_type, with_last, cleared_types, cleared};
 ghost use Rattle.system.specs.Inner.{Typed};
 
-use system::{Costs, Cycle, Kind, Most, Pace, Second, System, TYPE_LIMIT, TaskType, There};
+use system::{Costs, Cycle, Kind, System, TYPE_LIMIT, TaskType};
 
 // A type of these u, s and n: without their fields, d is 0, no q, C and T are given, and nothing of a second kind.
 pub(crate) fn task_of(time: u32, memory: u32, ceiling: u16) -> TaskType
@@ -16,9 +16,9 @@ pub(crate) fn task_of(time: u32, memory: u32, ceiling: u16) -> TaskType
         memory,
         ceiling,
         data: 0,
-        most: Most::NotGiven,
-        pace: Pace::Unpaced,
-        there: There::Absent,
+        most: None,
+        pace: None,
+        there: None,
     }
 }
 
@@ -26,42 +26,23 @@ pub(crate) fn task_of(time: u32, memory: u32, ceiling: u16) -> TaskType
 pub(crate) fn with_data(d: u32, t: TaskType) -> TaskType
     ensures { result ≡ with_data d t }
 {
-    let mut z = t;
-    z.data = d;
-    z
+    TaskType { data: d, ..t }
 }
 
 // The type with its q.
 pub(crate) fn with_most(q: u16, t: TaskType) -> TaskType
     ensures { result ≡ with_most q t }
 {
-    let pace = t.pace;
-    let there = t.there;
-    TaskType {
-        time: t.time,
-        memory: t.memory,
-        ceiling: t.ceiling,
-        data: t.data,
-        most: Most::AtMost(q),
-        pace,
-        there,
-    }
+    TaskType { most: Some(q), ..t }
 }
 
 // The type with its C and T.
 pub(crate) fn with_pace(run: u32, period: u32, t: TaskType) -> TaskType
     ensures { result ≡ with_pace run period t }
 {
-    let most = t.most;
-    let there = t.there;
     TaskType {
-        time: t.time,
-        memory: t.memory,
-        ceiling: t.ceiling,
-        data: t.data,
-        most,
-        pace: Pace::Paced(Cycle { run, period }),
-        there,
+        pace: Some(Cycle { run, period }),
+        ..t
     }
 }
 
@@ -69,16 +50,9 @@ pub(crate) fn with_pace(run: u32, period: u32, t: TaskType) -> TaskType
 pub(crate) fn with_costs(time: u32, memory: u32, t: TaskType) -> TaskType
     ensures { result ≡ with_costs time memory t }
 {
-    let most = t.most;
-    let pace = t.pace;
     TaskType {
-        time: t.time,
-        memory: t.memory,
-        ceiling: t.ceiling,
-        data: t.data,
-        most,
-        pace,
-        there: There::Takes(Costs { time, memory }),
+        there: Some(Costs { time, memory }),
+        ..t
     }
 }
 
@@ -100,7 +74,7 @@ pub fn blank_system() -> System
         memorycap: 0,
         typecount: 0,
         types: [no_task(); TYPE_LIMIT],
-        second: Second::OneKind,
+        second: None,
     }
 }
 
@@ -108,31 +82,26 @@ pub fn blank_system() -> System
 pub(crate) fn with_platform(m: usize, rule: u8, time: u32, memory: u32, y: System) -> System
     ensures { result ≡ with_platform m rule time memory y }
 {
-    let mut z = y;
-    z.engines = m;
-    z.rule = rule;
-    z.timecap = time;
-    z.memorycap = memory;
-    z
+    System {
+        engines: m,
+        rule,
+        timecap: time,
+        memorycap: memory,
+        ..y
+    }
 }
 
 // The system with a second kind of engine: its number, U and S.
 pub(crate) fn with_second(number: usize, time: u32, memory: u32, y: System) -> System
     ensures { result ≡ with_second number time memory y }
 {
-    let types = y.types;
     System {
-        engines: y.engines,
-        rule: y.rule,
-        timecap: y.timecap,
-        memorycap: y.memorycap,
-        typecount: y.typecount,
-        types: types,
-        second: Second::TwoKinds(Kind {
-            number: number,
+        second: Some(Kind {
+            number,
             timecap: time,
             memorycap: memory,
         }),
+        ..y
     }
 }
 
@@ -142,9 +111,8 @@ pub(crate) fn with_type(t: TaskType, y: System) -> System
     ensures { result ≡ with_type t y }
 {
     let mut z = y;
-    let k = y.typecount;
-    z.types[k] = t;
-    z.typecount = k + 1;
+    z.types[y.typecount] = t;
+    z.typecount += 1;
     z
 }
 
@@ -153,9 +121,7 @@ pub(crate) fn last_type(y: System) -> TaskType
     requires { Typed y }
     ensures { result ≡ last_type y }
 {
-    let types = y.types;
-    let last = y.typecount - 1;
-    types[last]
+    y.types[y.typecount - 1]
 }
 
 // The system with another type in its place.
@@ -164,8 +130,7 @@ pub(crate) fn with_last(t: TaskType, y: System) -> System
     ensures { result ≡ with_last t y }
 {
     let mut z = y;
-    let last = y.typecount - 1;
-    z.types[last] = t;
+    z.types[y.typecount - 1] = t;
     z
 }
 
@@ -173,10 +138,9 @@ pub(crate) fn with_last(t: TaskType, y: System) -> System
 fn cleared_types(k: usize, types: [TaskType; TYPE_LIMIT]) -> [TaskType; TYPE_LIMIT]
     ensures { result ≡ cleared_types k types }
 {
-    let mut left = types;
-    for i in k..TYPE_LIMIT {
-        left[i] = no_task();
-    }
+    let kept = k.min(TYPE_LIMIT);
+    let mut left = [no_task(); TYPE_LIMIT];
+    left[..kept].copy_from_slice(&types[..kept]);
     left
 }
 
@@ -184,9 +148,8 @@ fn cleared_types(k: usize, types: [TaskType; TYPE_LIMIT]) -> [TaskType; TYPE_LIM
 pub fn cleared(y: System) -> System
     ensures { result ≡ cleared y }
 {
-    let mut z = y;
-    let types = y.types;
-    let left = cleared_types(y.typecount, types);
-    z.types = left;
-    z
+    System {
+        types: cleared_types(y.typecount, y.types),
+        ..y
+    }
 }

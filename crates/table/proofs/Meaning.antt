@@ -11,13 +11,12 @@ use borrow.Author.Tests.{eqb-true, eqb-false, eq-eqb, ne_eqb, leb-true, leb-fals
 use lib.ListN.{length, get_or, length-map}
 use lib.Dec.{leb, ltb, eqb}
 use Rattle.system.specs.declared.System.{System}
-use Rattle.system.specs.declared.Answer.{Answer}
+use Rattle.system.specs.Outcome.{Answer, Outcome, Source, accepted, refused, from_input, outcome_of}
 use Rattle.system.specs.declared.Kind.{Kind}
 use Rattle.system.specs.Values.{ceilings_of}
 use Rattle.system.specs.Limits.{type_limit, columns, keeps_limits}
 use Rattle.system.specs.Layout.{Reading, read_card, opened, unread}
 use Rattle.system.specs.Card.{Card, mixed, first_of, card_of}
-use Rattle.system.specs.Outcome.{Outcome, Source, accepted, refused, from_input, outcome_of}
 use Rattle.system.proofs.Laws.{Limits, limits-keep, columns_of-pos, read-card-limits}
 use Rattle.system.proofs.CardLaws.{first-columns}
 use Rattle.loads.specs.Load.{fits_engine, within, less}

@@ -1,12 +1,11 @@
 -- What a filled table says, in plain words, and what the calls that fill one promise.
 use Rattle.std.specs.Prelude.{ℕ, zero, suc, ◌+◌, ◌-◌, ◌*◌, ◌/◌, ◌≤◌, ◌<◌, List, [], ◌∷◌, Bool, true, cond, ◌&&◌, ◌||◌, ◌≡◌, ◌↔◌, ◌⊎◌, length, get_or, leb, ltb}
 use Rattle.system.specs.declared.System.{System}
-use Rattle.system.specs.declared.Answer.{Answer}
+use Rattle.system.specs.Outcome.{Answer, Outcome, Source, accepted, refused, from_input, outcome_of}
 use Rattle.system.specs.Values.{ceilings_of}
 use Rattle.system.specs.declared.Kind.{Kind}
 use Rattle.system.specs.Layout.{Reading, opened, unread}
 use Rattle.system.specs.Card.{Card, plain, mixed}
-use Rattle.system.specs.Outcome.{Outcome, Source, accepted, refused, from_input, outcome_of}
 use Rattle.loads.specs.Column.{load_of}
 use Rattle.partition.specs.ForSystem.{cell_for}
 use Rattle.partition.specs.Lent.{Lent}

@@ -5,14 +5,14 @@ use loads::EngineLoad;
 use system::ENGINE_LIMIT;
 
 // A list of engines by their numbers, the first `count` of these: row i of a table stands for the i-th.
-#[derive(Clone, Copy)]
+#[derive(Clone, Copy, PartialEq, Eq)]
 pub struct Engines {
     pub count: usize,
     pub numbers: [usize; ENGINE_LIMIT],
 }
 
 // A load placed on the engines: whether it can be, the number of used engines, and what each engine holds.
-#[derive(Clone, Copy)]
+#[derive(Clone, Copy, PartialEq, Eq)]
 pub struct Placement {
     pub placed: bool,
     pub used: usize,
@@ -20,7 +20,7 @@ pub struct Placement {
 }
 
 // The entries of a column in both parts, with the pairs that are counted for it.
-#[derive(Clone, Copy)]
+#[derive(Clone, Copy, PartialEq, Eq)]
 pub struct Entry {
     pub row: u16,
     pub predecessor: u16,
@@ -28,7 +28,7 @@ pub struct Entry {
 }
 
 // What a scan answers: the column that it found, 65,535 where there is none, and how many columns it tried.
-#[derive(Clone, Copy)]
+#[derive(Clone, Copy, PartialEq, Eq)]
 pub struct Found {
     pub column: u16,
     pub tried: usize,

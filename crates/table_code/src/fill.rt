@@ -17,13 +17,7 @@ use table::Entry;
 pub fn ceilings_of(y: System) -> [u16; TYPE_LIMIT]
     ensures { result ≡ ceilings_of y }
 {
-    let types = y.types;
-    let mut ceilings: [u16; TYPE_LIMIT] = [0; TYPE_LIMIT];
-    for i in 0..TYPE_LIMIT {
-        let task = types[i];
-        ceilings[i] = task.ceiling;
-    }
-    ceilings
+    y.types.map(|task| task.ceiling)
 }
 
 // What the row part says of a column without a row.

@@ -9,7 +9,7 @@ ghost use Rattle.table.specs.Table.{filled, placement};
 ghost use Rattle.table.specs.Chain.{listed, MayPlace};
 ghost use Rattle.table.specs.Meaning.{FillCall};
 
-use system::{Answer, Check, Second, System, TYPE_LIMIT};
+use system::{Answer, Kind, Refusal, System, TYPE_LIMIT};
 use table::{Engines, Placement};
 
 mod chain;
@@ -53,19 +53,13 @@ pub fn fill_table(file: &[u8], rows: &mut [u16], predecessors: &mut [u16]) -> An
         result (lent rows.new predecessors.new) }
 {
     let opened = system_code::read_card(file);
-    let answer = opened.answer;
-    let Answer::Accepted = answer else {
-        return answer;
-    };
+    opened.answer?;
     let y = opened.system;
-    let check = size::table_check(y, rows.len(), predecessors.len());
-    if let Check::Fails(why) = check {
-        return Answer::Refused(why);
-    }
+    size::table_check(y, rows.len(), predecessors.len())?;
     let second = y.second;
-    let Second::OneKind = second else {
+    let None = second else {
         fill::fill_parts(rows, predecessors, system_code::first_kind(y), y.engines);
-        return Answer::Accepted;
+        return Ok(None);
     };
-    Answer::Number(fill::fill_parts(rows, predecessors, y, y.engines))
+    Ok(Some(fill::fill_parts(rows, predecessors, y, y.engines)))
 }

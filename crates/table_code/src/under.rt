@@ -54,8 +54,8 @@ pub fn columns_under(load: [u16; TYPE_LIMIT]) -> usize
     ensures { result ≡ columns_of load }
 {
     let mut columns: usize = 1;
-    for t in 0..TYPE_LIMIT {
-        columns = columns * (wide(load[t]) + 1);
+    for count in load {
+        columns *= wide(count) + 1;
     }
     columns
 }

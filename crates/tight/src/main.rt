@@ -1,17 +1,13 @@
 // Program `tight`: reads a system file from standard input and writes one line to standard output: how many of all assignments are good, or a refusal.
 #![tactic(auto)]
 
-use front::read_front;
+use front::{read_front, write_answer};
 use std::process::ExitCode;
 
 // What was read is enough: what `tight_read` promises it promises of every file that begins with what was read.
 fn main(rt: HostRuntime) -> ExitCode {
     let front = read_front(&rt);
-    let bytes = front.bytes;
     let mut out = io::buffer();
-    let written = tightness_code::tight_read(bytes, front.read, &mut out);
-    match rt.write_all(&out[..written]) {
-        Ok(()) => ExitCode::SUCCESS,
-        Err(_) => ExitCode::FAILURE,
-    }
+    let written = tightness_code::tight_read(front.bytes, front.read, &mut out);
+    write_answer(&rt, &out[..written])
 }

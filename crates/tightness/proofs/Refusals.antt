@@ -1,4 +1,5 @@
 -- The numbers for which a file is refused as it is read: 1 to 10, 31, 41 and 43, and where one kind of engine is wanted 42, whatever its bytes. Each test of a field, and of the file's end, hands out one of them or none.
+use Rattle.std.proofs.Common.{Some, Option, None, Result, Ok, Err}
 use Prim.Native.Nat.{ℕ, zero, suc, ◌≤◌}
 use mathlib.Core.Path.{◌≡◌, refl, subst}
 use mathlib.Core.List.{List, [], ◌∷◌, map}
@@ -7,16 +8,9 @@ use mathlib.Core.Logic.{◌⊎◌, inl, inr}
 use native.Mathlib.Omega.{arith}
 use lib.Dec.{eqb, leb}
 use lib.ListN.{length, drop}
-use Rattle.system.specs.declared.Most.TheVariants.{AtMost}
-use Rattle.system.specs.declared.Pace.TheVariants.{Paced}
-use Rattle.system.specs.declared.There.TheVariants.{Takes}
 use Rattle.system.specs.declared.TaskType.{TaskType}
 use Rattle.system.specs.declared.System.{System}
 use Rattle.system.specs.declared.FieldRule.{FieldRule}
-use Rattle.system.specs.declared.RuleFound.{RuleFound}
-use Rattle.system.specs.declared.RuleFound.TheVariants.{Known, Unknown}
-use Rattle.system.specs.declared.Head.{Head}
-use Rattle.system.specs.declared.Head.TheVariants.{Ruled, Stops}
 use Rattle.system.specs.Values.{task_of, with_data, with_most, with_pace, with_costs, blank, with_platform, with_second, with_type, last_type, with_last}
 use Rattle.system.specs.Limits.{engine_limit, size_limit, column_limit, or_else, size_fault, platform_fault, kind_counted, kind_fault, type_fault, most_fault, cycle_keeps, pace_fault, costs_fault, columns_of, columns_fault, is_one_kind, kinds_agree, kinds_fault}
 use Rattle.system.specs.Rules.{field_rules, rule_of, follows, may_follow}
@@ -32,9 +26,9 @@ data Numbered : Reading → Type 0 where
   stops : (n : ℕ) → Own n → Numbered (unread n)
 
 -- a head that stops, if it does, for such a number
-data HeadNumbered : Head → Type 0 where
-  ruled : (r : FieldRule) → HeadNumbered (Ruled r)
-  stopped : (n : ℕ) → Own n → HeadNumbered (Stops n)
+data HeadNumbered : Result FieldRule ℕ → Type 0 where
+  ruled : (r : FieldRule) → HeadNumbered (Ok r)
+  stopped : (n : ℕ) → Own n → HeadNumbered (Err n)
 
 -- intermediate: one of two
 
@@ -65,10 +59,10 @@ unless-numbered n y (inr h) = either Numbered (eqb n 0) (opens y) (stops n h)
 
 -- intermediate: one field
 
-head-numbered : (found : RuleFound) (size : ℕ) (whole : Bool) (last : ℕ) → HeadNumbered (ruled_head found size whole last)
+head-numbered : (found : Option FieldRule) (size : ℕ) (whole : Bool) (last : ℕ) → HeadNumbered (ruled_head found size whole last)
 unfolding ruled_head
-head-numbered Unknown size whole last = stopped 2 (inl (omega arith, omega arith))
-head-numbered (Known r) size whole last =
+head-numbered None size whole last = stopped 2 (inl (omega arith, omega arith))
+head-numbered (Some r) size whole last =
     either HeadNumbered (not (may_follow follows last r.tag)) (stopped 3 (inl (omega arith, omega arith)))
     (either HeadNumbered (not (eqb size r.body)) (stopped 4 (inl (omega arith, omega arith)))
     (either HeadNumbered (not whole) (stopped 1 one) (ruled r)))
@@ -91,10 +85,10 @@ kind-fault m n u s = fault 5 (omega arith) (omega arith) (not (kind_counted m n)
 columns-fault : (ts : List TaskType) → Fault (columns_fault ts)
 columns-fault ts = fault 10 (omega arith) (omega arith) (not (leb (columns_of (map (λ (t : TaskType). t.ceiling) ts)) column_limit)) kept
 
-most-fault : (q : ℕ) → Fault (most_fault (AtMost q))
+most-fault : (q : ℕ) → Fault (most_fault (Some q))
 most-fault q = either Fault (eqb q 0) (inr (inr (inl refl))) kept
 
-pace-fault : (whole u c p : ℕ) → Fault (pace_fault whole u (Paced (record { run = c; period = p })))
+pace-fault : (whole u c p : ℕ) → Fault (pace_fault whole u (Some (record { run = c; period = p })))
 pace-fault whole u c p = either Fault (not (cycle_keeps whole u (record { run = c; period = p }))) (inr (inr (inr (inr refl)))) kept
 
 kinds-fault : (y : System) → Fault (kinds_fault y)
@@ -110,12 +104,12 @@ data-numbered d y = unless-numbered (type_fault (with_data d (last_type y))) (wi
 
 most-numbered : (q : ℕ) (y : System) → Numbered (most_from q y)
 unfolding most_from
-most-numbered q y = unless-numbered (most_fault (AtMost q)) (with_last (with_most q (last_type y)) y) (most-fault q)
+most-numbered q y = unless-numbered (most_fault (Some q)) (with_last (with_most q (last_type y)) y) (most-fault q)
 
 pace-numbered : (c p : ℕ) (y : System) → Numbered (pace_from c p y)
 unfolding pace_from
 pace-numbered c p y =
-    unless-numbered (pace_fault y.timecap (last_type y).time (Paced (record { run = c; period = p }))) (with_last (with_pace c p (last_type y)) y) (pace-fault y.timecap (last_type y).time c p)
+    unless-numbered (pace_fault y.timecap (last_type y).time (Some (record { run = c; period = p }))) (with_last (with_pace c p (last_type y)) y) (pace-fault y.timecap (last_type y).time c p)
 
 platform-numbered : (m rule u s : ℕ) (y : System) → Numbered (platform_from m rule u s y)
 unfolding platform_from
@@ -127,7 +121,7 @@ second-numbered n u s y = unless-numbered (kind_fault y.engines n u s) (with_sec
 
 costs-numbered : (u s : ℕ) (y : System) → Numbered (costs_from u s y)
 unfolding costs_from
-costs-numbered u s y = unless-numbered (costs_fault (Takes (record { time = u; memory = s }))) (with_last (with_costs u s (last_type y)) y) (size-fault u s)
+costs-numbered u s y = unless-numbered (costs_fault (Some (record { time = u; memory = s }))) (with_last (with_costs u s (last_type y)) y) (size-fault u s)
 
 body-numbered : (r : FieldRule) (b : List ℕ) (y : System) → Numbered (body_of r b y)
 unfolding body_of
@@ -146,7 +140,7 @@ unfolding field_of head_of ruled_field
 field-numbered s last y =
     go (head_of s last) (either HeadNumbered (not (headed_field s)) (stopped 1 one) (head-numbered (rule_of field_rules (byte_at s 0)) (word2 s 1) (whole_field s) last))
   where
-    go : (h : Head) → HeadNumbered h → Numbered (ruled_field h (body_part s) y)
+    go : (h : Result FieldRule ℕ) → HeadNumbered h → Numbered (ruled_field h (body_part s) y)
     go h (ruled r) = body-numbered r (body_part s) y
     go h (stopped n own) = stops n own
 

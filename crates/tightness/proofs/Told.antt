@@ -1,4 +1,7 @@
 -- What a reader finds in the line of a file, from what its numbers mean; and that the line which the code writes is that one.
+use Rattle.std.proofs.Common.{Result, Ok, Err}
+use Rattle.system.specs.declared.Refusal.{Refusal}
+use Rattle.counting.specs.declared.Counts.{Counts}
 use Prim.Native.Nat.{ℕ, zero, suc, ◌*◌, ◌^◌, ◌≤◌, ◌<◌}
 use mathlib.Core.Path.{◌≡◌, refl, sym, ap, ap₂, subst, ◌∙◌}
 use mathlib.Core.List.{List, [], ◌∷◌}
@@ -31,8 +34,6 @@ use Rattle.listing.specs.Demands.{TellsRefusal}
 use Rattle.listing.specs.Text.{reading_verdict}
 use Rattle.listing.proofs.Lines.{number-told, told-once}
 use Rattle.listing.proofs.Text.{one-kind-text}
-use Rattle.counting.specs.declared.CountAnswer.{CountAnswer}
-use Rattle.counting.specs.declared.CountAnswer.TheVariants.{Counted, Refused}
 use Rattle.counting.specs.Counts.{good_count, total_count, greatest, count_outcome}
 use Rattle.counting.specs.Meaning.{instances_out, CountMeans, counted_outcome, CountPromises}
 use Rattle.counting.proofs.Counted.{counts-mean}
@@ -166,17 +167,17 @@ tells-tight file = record {
 
 -- main: the line of what the code is answered, over a part that is long enough
 
-refused-line : (a : CountAnswer) (n : ℕ) → counted_outcome a ≡ refused from_input n → answer_line a ≡ refusal_line n
-refused-line (Counted c) n o = let z : ◌≡◌ {A = ℕ} 0 1 = cc in absurd (omega arith)
-refused-line (Refused (Input m)) n o = ap refusal_line (cc)
-refused-line (Refused (State m)) n o = ap refusal_line (cc)
+refused-line : (a : Result Counts Refusal) (n : ℕ) → counted_outcome a ≡ refused from_input n → answer_line a ≡ refusal_line n
+refused-line (Ok c) n o = let z : ◌≡◌ {A = ℕ} 0 1 = cc in absurd (omega arith)
+refused-line (Err (Input m)) n o = ap refusal_line (cc)
+refused-line (Err (State m)) n o = ap refusal_line (cc)
 
-counted-line : (a : CountAnswer) (good total : ℕ) → counted_outcome a ≡ accepted (good ∷ total ∷ []) → answer_line a ≡ count_line good total
-counted-line (Counted c) good total o = ap₂ count_line (cc) (cc)
-counted-line (Refused (Input m)) good total o = let z : ◌≡◌ {A = ℕ} 0 1 = cc in absurd (omega arith)
-counted-line (Refused (State m)) good total o = let z : ◌≡◌ {A = ℕ} 0 1 = cc in absurd (omega arith)
+counted-line : (a : Result Counts Refusal) (good total : ℕ) → counted_outcome a ≡ accepted (good ∷ total ∷ []) → answer_line a ≡ count_line good total
+counted-line (Ok c) good total o = ap₂ count_line (cc) (cc)
+counted-line (Err (Input m)) good total o = let z : ◌≡◌ {A = ℕ} 0 1 = cc in absurd (omega arith)
+counted-line (Err (State m)) good total o = let z : ◌≡◌ {A = ℕ} 0 1 = cc in absurd (omega arith)
 
-answer-line : (file part : List ℕ) (a : CountAnswer) → 8192 ≤ length part → counted_outcome a ≡ count_outcome (read_file file) (length part) → answer_line a ≡ tight_text file
+answer-line : (file part : List ℕ) (a : Result Counts Refusal) → 8192 ≤ length part → counted_outcome a ≡ count_outcome (read_file file) (length part) → answer_line a ≡ tight_text file
 unfolding reading_line
 answer-line file part a size o = go (read_file file) refl o
   where
@@ -193,7 +194,7 @@ answer-line file part a size o = go (read_file file) refl o
     go (unread n) e o = refused-line a n o
     go (opened y) e o = by y (long y e) (leb (total_count y) greatest) o
 
-pub tight-promised : {file part after old new : List ℕ} {a : CountAnswer} {r : ℕ} → 8192 ≤ length part → CountPromises (read_file file) part a after → Written (answer_line a) old new r
+pub tight-promised : {file part after old new : List ℕ} {a : Result Counts Refusal} {r : ℕ} → 8192 ≤ length part → CountPromises (read_file file) part a after → Written (answer_line a) old new r
     → TightPromises file old new r
 tight-promised {file = file} {part = part} {a = a} size p w = record {
   written = rw (answer-line file part a size p.answers) at w;

@@ -1,10 +1,10 @@
 -- The line that program `tight` writes, as the code writes it: the number of good assignments and the total of all, or a refusal.
-use Rattle.std.specs.Prelude.{ℕ, List, [], ◌∷◌, ◌++◌, cond, leb}
+use Rattle.std.specs.Prelude.{ℕ, List, [], ◌∷◌, ◌++◌, cond, leb, Result, Ok, Err}
+use Rattle.system.specs.declared.Refusal.{Refusal}
+use Rattle.counting.specs.declared.Counts.{Counts}
 use Rattle.system.specs.Layout.{Reading, read_file, opened, unread}
 use Rattle.listing.specs.Listing.{decimal, refusal_line}
 use Rattle.listing.specs.Demands.{number_of}
-use Rattle.counting.specs.declared.CountAnswer.{CountAnswer}
-use Rattle.counting.specs.declared.CountAnswer.TheVariants.{Counted, Refused}
 use Rattle.counting.specs.Counts.{good_count, total_count, greatest}
 
 -- what stands before the first number, `good `, and before the second, ` of `
@@ -19,9 +19,9 @@ abbrev pub count_line : ℕ → ℕ → List ℕ
 count_line good total = (((good_front ++ decimal good) ++ of_front) ++ decimal total) ++ (10 ∷ [])
 
 -- the line of what `count_assignments` answers
-abbrev pub answer_line : CountAnswer → List ℕ
-answer_line (Counted c) = count_line c.good c.total
-answer_line (Refused why) = refusal_line (number_of why)
+abbrev pub answer_line : Result Counts Refusal → List ℕ
+answer_line (Ok c) = count_line c.good c.total
+answer_line (Err why) = refusal_line (number_of why)
 
 -- the part of 64-bit numbers is the function's own and long enough, so 38 does not arise: 1 to 10, 31 and 41 to 43, then 37, or both numbers
 unfoldable pub reading_line : Reading → List ℕ

@@ -8,10 +8,10 @@ ghost use Rattle.tightness.specs.Line.{count_line, answer_line};
 ghost use Rattle.tightness.specs.Meaning.{TightPromises, ReadPromises};
 
 use buffer::{least, put_bytes};
-use counting::CountAnswer;
+use counting::Counts;
 use counting_code::count_assignments;
 use listing_code::{put_number, write_refusal};
-use system::{COLUMN_LIMIT, FILE_BYTES};
+use system::{COLUMN_LIMIT, FILE_BYTES, Refusal};
 
 // The entries that are enough to count for every system: two for each column.
 const PART_LIMIT: usize = 2 * COLUMN_LIMIT;
@@ -28,12 +28,12 @@ fn write_counts(out: &mut [u8; 4096], good: u64, total: u64) -> usize
 }
 
 // Writes the line of an answer.
-fn write_answer(out: &mut [u8; 4096], answer: CountAnswer) -> usize
+fn write_answer(out: &mut [u8; 4096], answer: Result<Counts, Refusal>) -> usize
     ensures { Written (answer_line answer) out.old out.new result }
 {
     match answer {
-        CountAnswer::Counted(c) => write_counts(out, c.good, c.total),
-        CountAnswer::Refused(why) => write_refusal(out, why),
+        Ok(c) => write_counts(out, c.good, c.total),
+        Err(why) => write_refusal(out, why),
     }
 }
 
@@ -43,8 +43,7 @@ pub fn tight_of(file: &[u8], out: &mut [u8; 4096]) -> usize
     ensures { TightPromises file.now out.old out.new result }
 {
     let mut part = [0u64; PART_LIMIT];
-    let answer = count_assignments(file, &mut part);
-    write_answer(out, answer)
+    write_answer(out, count_assignments(file, &mut part))
 }
 
 // The same for a file of which `read` bytes were read, at most `FILE_BYTES` of them. A longer file has the same line.

@@ -1,4 +1,6 @@
 -- The text of a run, line by line, is the one that a reader finds: what arrives in each tick, who runs in it by the schedule, and the last line.
+use Rattle.std.proofs.Common.{Option, None, Some}
+use Rattle.system.specs.declared.Cycle.{Cycle}
 use Prim.Native.Nat.{ℕ, zero, suc, ◌+◌, ◌-◌, ◌*◌, ◌/◌, ◌%◌, ◌≤◌, ◌<◌, min}
 use mathlib.Core.Path.{◌≡◌, refl, sym, ap, ap₂, ◌∙◌}
 use mathlib.Core.List.{List, [], ◌∷◌, ◌++◌, append_assoc}
@@ -9,8 +11,6 @@ use native.Mathlib.Omega.{arith}
 use borrow.Author.Tests.{eq-eqb, ne_eqb, eqb-true, eqb-false, leb-true, leb-false}
 use lib.ListN.{length, get_or}
 use lib.Dec.{eqb, leb}
-use Rattle.system.specs.declared.Pace.{Pace}
-use Rattle.system.specs.declared.Pace.TheVariants.{Unpaced, Paced}
 use Rattle.system.specs.declared.System.{System}
 use Rattle.partition.specs.OwnWords.{no_type}
 use Rattle.partition.specs.Plain.{type_no, LimitsOut}
@@ -72,9 +72,9 @@ module _ (js : List Job) (ps : Periods js) (τ p : ℕ) (h : p < length js) wher
             same = s.period;
           }
 
-pace-period : (q : Pace) → (paced_job q).period ≡ of_pace q
-pace-period Unpaced = refl
-pace-period (Paced c) = refl
+pace-period : (q : Option Cycle) → (paced_job q).period ≡ of_pace q
+pace-period None = refl
+pace-period (Some c) = refl
 
 -- the parts of a line, whichever way they are put together
 

@@ -1,4 +1,5 @@
 -- What a reader finds in the text of a file: by whether the file reads, whether it has a plan, whether it has the engine, and what the run of that engine answers.
+use Rattle.std.proofs.Common.{Ok}
 use Prim.Native.Nat.{ℕ, zero, suc, ◌-◌, ◌≤◌, min}
 use mathlib.Core.Path.{◌≡◌, refl, sym, ap, ◌∙◌}
 use mathlib.Core.List.{List, [], ◌∷◌, ◌++◌}
@@ -29,7 +30,6 @@ use Rattle.listing.specs.Text.{reading_verdict, TextPromises}
 use Rattle.listing.proofs.Lines.{number-told, told-once}
 use Rattle.listing.proofs.Text.{long-for-all, verdict-alone, one-kind-text}
 use Rattle.runs.specs.Run.{run_of}
-use Rattle.deadlines.specs.declared.RunAnswer.TheVariants.{Ran}
 use Rattle.deadlines.specs.Outcome.{all_kept, miss_of}
 use Rattle.deadlines.specs.Engine.{all_paced, few_enough, jobs_of}
 use Rattle.deadlines.specs.Meaning.{NoPace, TooMuch}
@@ -173,7 +173,7 @@ module _ (file : List ℕ) (e ticks from : ℕ) (y : System) (opens : read_file 
             → miss_of (run_of ticks (jobs_of y.types (record_no loads e).counts)).missed ≡ all_kept
         never on p q =
             let six = ours.six_counts y given.0 e opens given.1 on.0 (omega (arith, on.1, few)) in
-            let answer = Ran (run_of ticks (jobs_of y.types (record_no loads e).counts)) in
+            let answer = Ok (run_of ticks (jobs_of y.types (record_no loads e).counts)) in
             plans-kept file spare engine_limit given.0 (plan_outcome (planned y)) loads ours given.1 y e opens on ticks answer _ _
             (opened-promises file (record_no loads e).counts ticks six y opens answer (sym (over-ran y (record_no loads e).counts ticks p q))) refl
 

@@ -1,4 +1,5 @@
 -- The text of a file by the plan that the code was given: its table is long enough for every system, so the plan's verdict is the file's own.
+use Rattle.std.proofs.Common.{Ok, Err, Some, None}
 use Prim.Native.Nat.{ℕ, ◌≤◌}
 use mathlib.Core.Path.{◌≡◌, refl, sym, ap, ◌∙◌}
 use mathlib.Core.List.{List, [], ◌∷◌}
@@ -8,13 +9,11 @@ use borrow.Author.Tests.{leb-true}
 use lib.Dec.{leb}
 use lib.ListN.{replicate, length-replicate}
 use Rattle.system.specs.declared.System.{System}
-use Rattle.system.specs.declared.Answer.{Answer}
-use Rattle.system.specs.declared.Answer.TheVariants.{Accepted, Number, Refused}
+use Rattle.system.specs.Outcome.{Answer, from_input, accepted, refusal_of, outcome_of, Checked, passes, fails, check, and_then}
 use Rattle.system.specs.declared.Refusal.{Refusal}
 use Rattle.system.specs.declared.Refusal.TheVariants.{Input, State}
 use Rattle.system.specs.Limits.{engine_limit, tick_limit}
 use Rattle.system.specs.Layout.{Reading, read_file, read_system, opened, unread}
-use Rattle.system.specs.Outcome.{from_input, accepted, refusal_of, outcome_of, Checked, passes, fails, check, and_then}
 use Rattle.system.proofs.Laws.{read-limits, file-card}
 use Rattle.loads.specs.declared.EngineLoad.{EngineLoad}
 use Rattle.partition.specs.Lent.{Lent, lent}
@@ -83,16 +82,22 @@ module _ (file : List ℕ) {table after : Lent} {p : Plan} (long : LongForAll ta
   own : (a : Answer) → p.answer ≡ a → outcome_of a ≡ plan_outcome (reading_verdict (read_file file))
   own a is = ap outcome_of (sym is) ∙ given.answers ∙ ap plan_outcome (own-verdict file table long)
 
-  pub text-refused : (why : Refusal) (e ticks from : ℕ) → p.answer ≡ Refused why → watch_text file e ticks from ≡ refusal_line (number_of why)
-  text-refused why e ticks from is = refused-text (reading_verdict (read_file file)) why e ticks from (own (Refused why) is)
+  pub text-refused : (why : Refusal) (e ticks from : ℕ) → p.answer ≡ Err why → watch_text file e ticks from ≡ refusal_line (number_of why)
+  text-refused why e ticks from is = refused-text (reading_verdict (read_file file)) why e ticks from (own (Err why) is)
 
-  pub text-planned : (used e ticks from : ℕ) → p.answer ≡ Number used → watch_text file e ticks from ≡ engine_with (read_system (read_file file)) p.loads e ticks from
+  text-planned : (used e ticks from : ℕ) → p.answer ≡ Ok (Some used) → watch_text file e ticks from ≡ engine_with (read_system (read_file file)) p.loads e ticks from
   text-planned used e ticks from is =
-      planned-text (reading_verdict (read_file file)) (read_file file) used e ticks from refl (own (Number used) is)
+      planned-text (reading_verdict (read_file file)) (read_file file) used e ticks from refl (own (Ok (Some used)) is)
       ∙ ap (λ (l : List EngineLoad). engine_with (read_system (read_file file)) l e ticks from) (sym (given.places ∙ ap plan_loads (own-verdict file table long)))
 
-  pub not-bare : p.answer ≡ Accepted → ⊥
-  not-bare is = never-bare (reading_verdict (read_file file)) (own Accepted is)
+  -- an answer that is no refusal is a number, and never bare
+  pub text-given : (e ticks from : ℕ) → ((why : Refusal) → p.answer ≡ Err why → ⊥) → watch_text file e ticks from ≡ engine_with (read_system (read_file file)) p.loads e ticks from
+  text-given e ticks from other = go p.answer refl
+    where
+      go : (a : Answer) → p.answer ≡ a → watch_text file e ticks from ≡ engine_with (read_system (read_file file)) p.loads e ticks from
+      go (Ok (Some used)) is = text-planned used e ticks from is
+      go (Ok None) is = absurd (never-bare (reading_verdict (read_file file)) (own (Ok None) is))
+      go (Err why) is = absurd (other why is)
 
 -- a run that has a report has few enough instances and ticks
 

@@ -1,10 +1,9 @@
 -- What a reader finds in the text that program `watch` writes, in the words of deadlines/specs/Meaning: who runs in each tick is that of the schedule which
 -- the rule makes.
 -- The bytes stand here a second time, apart from those by which the code is described.
-use Rattle.std.specs.Prelude.{ℕ, zero, suc, ◌+◌, ◌-◌, ◌/◌, ◌%◌, ◌≤◌, ◌<◌, min, List, [], ◌∷◌, ◌++◌, cond, ◌≡◌, ◌↔◌, ◌⊎◌, length, get_or, take, drop, eqb}
+use Rattle.std.specs.Prelude.{ℕ, zero, suc, ◌+◌, ◌-◌, ◌/◌, ◌%◌, ◌≤◌, ◌<◌, min, List, [], ◌∷◌, ◌++◌, cond, ◌≡◌, ◌↔◌, ◌⊎◌, length, get_or, take, drop, eqb, Option, None, Some}
+use Rattle.system.specs.declared.Cycle.{Cycle}
 use Rattle.buffer.specs.Written.{Counts, Written}
-use Rattle.system.specs.declared.Pace.{Pace}
-use Rattle.system.specs.declared.Pace.TheVariants.{Unpaced, Paced}
 use Rattle.system.specs.declared.System.{System}
 use Rattle.system.specs.Layout.{read_file, opened, unread, word4}
 use Rattle.loads.specs.declared.EngineLoad.{EngineLoad}
@@ -21,9 +20,9 @@ use Rattle.timeline.specs.Whole.{watch_text}
 -- The bytes; `spelt` writes a number
 
 -- T of type t
-abbrev pub of_pace : Pace → ℕ
-of_pace Unpaced = 0
-of_pace (Paced c) = c.period
+abbrev pub of_pace : Option Cycle → ℕ
+of_pace None = 0
+of_pace (Some c) = c.period
 
 abbrev pub period_no : System → ℕ → ℕ
 period_no y t = of_pace (type_no y t).pace

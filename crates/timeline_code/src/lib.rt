@@ -24,7 +24,6 @@ ghost use Rattle.timeline.specs.Room.{text_room, watch_bytes};
 ghost use Rattle.timeline.specs.Meaning.{WatchPromises, JoinedPromises, ReadPromises};
 
 use buffer::{least, put_bytes};
-use deadlines::RunAnswer;
 use deadlines_code::{instances, jobs_of, run_over};
 use lines::put_summary;
 use listing_code::write_refusal;
@@ -32,7 +31,7 @@ use loads::EngineLoad;
 use planner_code::plan_one_kind;
 use runs::Report;
 use system::{
-    Answer, COLUMN_LIMIT, Cursor, ENGINE_LIMIT, FILE_BYTES, Refusal, System, TYPE_LIMIT, TaskType,
+    COLUMN_LIMIT, Cursor, ENGINE_LIMIT, FILE_BYTES, Refusal, System, TYPE_LIMIT, TaskType,
 };
 use system_code::{byte_at, four_bytes, read_system, rest_at};
 use ticks::put_window;
@@ -92,11 +91,12 @@ fn write_counts(
 ) -> usize
     ensures { Written (counts_text y counts ticks from) out.old out.new result }
 {
-    let answer = run_over(y, counts, ticks);
-    let types = y.types;
-    match answer {
-        RunAnswer::Refused(why) => put_refusal(out, why),
-        RunAnswer::Ran(report) => put_report(out, types, counts, ticks, from, report),
+    match run_over(y, counts, ticks) {
+        Ok(report) => {
+            let types = y.types;
+            put_report(out, types, counts, ticks, from, report)
+        }
+        Err(why) => put_refusal(out, why),
     }
 }
 
@@ -150,13 +150,11 @@ pub fn watch_of(
     let mut rows = [0u16; COLUMN_LIMIT];
     let mut predecessors = [0u16; COLUMN_LIMIT];
     let plan = plan_one_kind(file, &mut rows, &mut predecessors);
-    let answer = plan.answer;
-    let loads = plan.loads;
-    match answer {
-        Answer::Number(used) => write_planned(file, loads, engine, ticks, from, out),
-        Answer::Refused(why) => put_refusal(out, why),
-        Answer::Accepted => 0,
+    if let Err(why) = plan.answer {
+        return put_refusal(out, why);
     }
+    let loads = plan.loads;
+    write_planned(file, loads, engine, ticks, from, out)
 }
 
 // The same for numbers and a file that are joined, as the program reads them.

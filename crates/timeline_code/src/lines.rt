@@ -9,7 +9,7 @@ ghost use Rattle.timeline.specs.Room.{name_room, arrival_room, arrivals_room, ru
 
 use buffer::{put_byte, put_bytes};
 use listing_code::put_number;
-use runs::{JOB_LIMIT, Job, Missed, Report};
+use runs::{JOB_LIMIT, Job, Report};
 use system::TYPE_LIMIT;
 
 // An instance on the engine: its type and its number there, both from 1.
@@ -24,8 +24,8 @@ fn name_at(counts: [u16; TYPE_LIMIT], place: usize) -> Name
     ensures { (result.kind ≡ kind_from 1 counts place) × (result.number ≡ number_from counts place) }
 {
     let mut left = place;
-    for t in 0..TYPE_LIMIT {
-        let count = counts[t] as usize;
+    for (t, held) in counts.iter().enumerate() {
+        let count = *held as usize;
         if left < count {
             return Name {
                 kind: t + 1,
@@ -77,7 +77,7 @@ fn put_arrival(
     at
 }
 
-// Puts what arrives now, of the first `count` jobs.
+// Puts what arrives now, of the first `count` jobs. The array and its count go together, since `one_tick` of crate `runs_code` takes them so.
 fn put_arrivals(
     out: &mut [u8],
     at: usize,
@@ -145,13 +145,13 @@ fn put_missed_at(out: &mut [u8], at: usize, time: u32) -> usize
 }
 
 // Puts the first missed deadline, or that there is none.
-fn put_missed(out: &mut [u8], at: usize, missed: Missed) -> usize
+fn put_missed(out: &mut [u8], at: usize, missed: Option<u32>) -> usize
     requires { at + missed_room ≤ length out.old }
     ensures { Puts (missed_text (miss_of missed)) at out.old out.new result × (result ≤ at + missed_room) }
 {
     match missed {
-        Missed::Never => put_bytes(out, at, b"none missed"),
-        Missed::At(time) => put_missed_at(out, at, time),
+        None => put_bytes(out, at, b"none missed"),
+        Some(time) => put_missed_at(out, at, time),
     }
 }
 

@@ -22,11 +22,9 @@ fn state_at(jobs: [Job; JOB_LIMIT], count: usize, time: u32) -> [Job; JOB_LIMIT]
     ensures { take count result ≡ state_at time (take count jobs) }
 {
     let mut state = started(jobs, count);
-    let mut now: u32 = 0;
-    while now < time {
+    for now in 0..time {
         let tick = one_tick(now, state, count);
         state = tick.next;
-        now += 1;
     }
     state
 }
@@ -44,13 +42,11 @@ fn put_ticks(
     ensures { Puts (tick_lines shown from counts (take count jobs)) 0 out.old out.new result × (result ≤ ticks_room) }
 {
     let mut state = jobs;
-    let mut now = from;
     let mut next: usize = 0;
-    for i in 0..shown {
+    for now in from..from + shown as u32 {
         let tick = one_tick(now, state, count);
         next = put_tick(out, next, now, counts, state, count, tick.at);
         state = tick.next;
-        now += 1;
     }
     next
 }

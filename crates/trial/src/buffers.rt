@@ -1,5 +1,8 @@
 // Buffers of which a first part is lent: what stands in them before a call, and whether a call left it there.
 
+use crate::lent;
+use std::array;
+
 // The bytes of a buffer, and of a file with what stands past it: more than the 384 that `plan` reads, and than the 307 of the longest file.
 pub const BUFFER_BYTES: usize = 400;
 
@@ -9,31 +12,10 @@ pub fn old_byte(fill: usize, i: usize) -> u8 {
 }
 
 pub fn old_bytes(fill: usize) -> [u8; BUFFER_BYTES] {
-    let mut bytes: [u8; BUFFER_BYTES] = [0; BUFFER_BYTES];
-    for i in 0..BUFFER_BYTES {
-        bytes[i] = old_byte(fill, i);
-    }
-    bytes
+    array::from_fn(|i| old_byte(fill, i))
 }
 
 // The bytes from `start` on are as they were before the call.
 pub fn kept_from(bytes: [u8; BUFFER_BYTES], fill: usize, start: usize) -> bool {
-    let mut kept = true;
-    for i in 0..BUFFER_BYTES {
-        if start <= i {
-            kept = kept & (bytes[i] == old_byte(fill, i));
-        }
-    }
-    kept
-}
-
-// The first bytes of two buffers are the same.
-pub fn same_front(a: [u8; BUFFER_BYTES], b: [u8; BUFFER_BYTES], end: usize) -> bool {
-    let mut same = true;
-    for i in 0..BUFFER_BYTES {
-        if i < end {
-            same = same & (a[i] == b[i]);
-        }
-    }
-    same
+    lent::kept_from(&bytes, &old_bytes(fill), start)
 }

@@ -5,10 +5,11 @@
 #![tactic(auto)]
 
 pub mod buffers;
-mod bytes;
+pub mod cases;
 pub mod changes;
 pub mod files;
 pub mod input;
+pub mod lent;
 pub mod say;
 pub mod spread;
 pub mod systems;

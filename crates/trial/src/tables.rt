@@ -1,4 +1,7 @@
 // Tables to lend, of two parts of 512 entries each: dirty ones, and whether two are the same from some entry on.
+use crate::lent::kept_from;
+use std::array;
+
 #[derive(Clone, Copy)]
 pub struct Lent {
     pub rows: [u16; 512],
@@ -12,23 +15,13 @@ fn dirt(i: usize) -> u16 {
 
 // No entry of one part is what the other part has there.
 pub fn dirty_table() -> Lent {
-    let mut rows: [u16; 512] = [0; 512];
-    let mut predecessors: [u16; 512] = [0; 512];
-    for i in 0..512 {
-        rows[i] = dirt(i);
-        predecessors[i] = dirt(i + 512);
+    Lent {
+        rows: array::from_fn(dirt),
+        predecessors: array::from_fn(|i| dirt(i.wrapping_add(512))),
     }
-    Lent { rows, predecessors }
 }
 
 // The entries of both parts from `start` on are the same.
 pub fn same_from(a: Lent, b: Lent, start: usize) -> bool {
-    let mut same = true;
-    for i in 0..512 {
-        if start <= i {
-            same = same & (a.rows[i] == b.rows[i]);
-            same = same & (a.predecessors[i] == b.predecessors[i]);
-        }
-    }
-    same
+    kept_from(&a.rows, &b.rows, start) & kept_from(&a.predecessors, &b.predecessors, start)
 }

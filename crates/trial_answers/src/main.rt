@@ -7,7 +7,6 @@
 #![tactic(auto)]
 
 use answers_code::{JOINED_BYTES, check_of, check_read, sheet_of, sheet_read};
-use buffer::put_bytes;
 use system::FILE_BYTES;
 
 // System A.
@@ -48,42 +47,38 @@ fn say(rt: &HostRuntime, text: &[u8]) {
     let _ = rt.write_all(text);
 }
 
-// A line that names the case, then what is said of the sheet.
+// A line that names the case, and what was written of it.
+fn say_case(rt: &HostRuntime, name: &[u8], written: &[u8]) {
+    say(rt, name);
+    say(rt, b": ");
+    say(rt, written);
+}
+
+// What is said of a sheet.
 fn say_check(rt: &HostRuntime, name: &[u8], file: &[u8], sheet: &[u8]) {
     let mut out = io::buffer();
     let written = check_of(file, sheet, &mut out);
-    say(rt, name);
-    say(rt, b": ");
-    say(rt, &out[..written]);
-}
-
-// Of a sheet as long as that of the plan.
-fn say_alike(rt: &HostRuntime, name: &[u8], sheet: &[u8; 37]) {
-    let file = FILE;
-    say_check(rt, name, &file, sheet);
+    say_case(rt, name, &out[..written]);
 }
 
 // The sheet of the plan with another byte at a place.
 fn say_changed(rt: &HostRuntime, name: &[u8], at: usize, byte: u8) {
     let mut sheet = SHEET;
-    if at < 37 {
-        sheet[at] = byte;
+    if let Some(old) = sheet.get_mut(at) {
+        *old = byte;
     }
-    say_alike(rt, name, &sheet);
+    say_check(rt, name, &FILE, &sheet);
 }
 
 fn say_sheets(rt: &HostRuntime) {
-    let file = FILE;
-    let sheet = SHEET;
-    let three = THREE;
-    say_check(rt, b"the plan's", &file, &sheet);
-    say_check(rt, b"on three", &file, &three);
-    say_check(rt, b"none", &file, &sheet[..0]);
-    say_check(rt, b"its last byte cut", &file, &sheet[..36]);
-    say_check(rt, b"its last record cut", &file, &sheet[..21]);
-    say_check(rt, b"a file that is cut", &file[..38], &sheet);
-    say_check(rt, b"no file", &file[..0], &sheet);
-    say_check(rt, b"a sheet as file", &sheet, &sheet);
+    say_check(rt, b"the plan's", &FILE, &SHEET);
+    say_check(rt, b"on three", &FILE, &THREE);
+    say_check(rt, b"none", &FILE, &SHEET[..0]);
+    say_check(rt, b"its last byte cut", &FILE, &SHEET[..36]);
+    say_check(rt, b"its last record cut", &FILE, &SHEET[..21]);
+    say_check(rt, b"a file that is cut", &FILE[..38], &SHEET);
+    say_check(rt, b"no file", &FILE[..0], &SHEET);
+    say_check(rt, b"a sheet as file", &SHEET, &SHEET);
     say_changed(rt, b"used 3", 3, 3);
     say_changed(rt, b"k 3", 4, 3);
     say_changed(rt, b"number 2 twice", 8, 2);
@@ -101,32 +96,32 @@ fn say_less(rt: &HostRuntime) {
     sheet[12] = 4;
     sheet[16] = 3;
     sheet[18] = 1;
-    say_alike(rt, b"one instance less", &sheet);
+    say_check(rt, b"one instance less", &FILE, &sheet);
 }
 
 // What is said of the first bytes of a joined input.
 fn say_read(rt: &HostRuntime, name: &[u8], front: [u8; JOINED_BYTES], read: usize) {
     let mut out = io::buffer();
     let written = check_read(front, read, &mut out);
-    say(rt, name);
-    say(rt, b": ");
-    say(rt, &out[..written]);
+    say_case(rt, name, &out[..written]);
 }
 
-// The file and the sheet joined, with these two bytes in front; 0 past them.
-fn joined(high: u8, low: u8) -> [u8; JOINED_BYTES] {
-    let length = [high, low];
-    let file = FILE;
-    let sheet = SHEET;
-    let mut front = [0u8; JOINED_BYTES];
-    put_bytes(&mut front, 0, &length);
-    put_bytes(&mut front, 2, &file);
-    put_bytes(&mut front, 41, &sheet);
+// These parts, one after the other, and then the same byte.
+fn joined(parts: &[&[u8]], behind: u8) -> [u8; JOINED_BYTES] {
+    let mut front = [behind; JOINED_BYTES];
+    for (old, new) in front.iter_mut().zip(parts.iter().copied().flatten()) {
+        *old = *new;
+    }
     front
 }
 
+// The file and the sheet joined, with these two bytes in front; 0 past them.
+fn joined_a(length: [u8; 2]) -> [u8; JOINED_BYTES] {
+    joined(&[&length, &FILE, &SHEET], 0)
+}
+
 fn say_joined(rt: &HostRuntime) {
-    let front = joined(0, 39);
+    let front = joined_a([0, 39]);
     say_read(rt, b"joined", front, 78);
     say_read(rt, b"a byte less", front, 77);
     say_read(rt, b"a byte more", front, 79);
@@ -137,8 +132,8 @@ fn say_joined(rt: &HostRuntime) {
     say_read(rt, b"the length alone", front, 2);
     say_read(rt, b"half of it", front, 1);
     say_read(rt, b"nothing", front, 0);
-    say_read(rt, b"a length of 38", joined(0, 38), 78);
-    say_read(rt, b"a length past the end", joined(255, 255), 78);
+    say_read(rt, b"a length of 38", joined_a([0, 38]), 78);
+    say_read(rt, b"a length past the end", joined_a([255, 255]), 78);
 }
 
 // How many bytes the sheet of the first bytes of a file has, and its first byte.
@@ -146,85 +141,60 @@ fn say_sheet(rt: &HostRuntime, name: &[u8], file: &[u8]) {
     let mut out = io::buffer();
     let written = sheet_of(file, &mut out);
     say(rt, name);
-    say(rt, b": bytes ");
-    let _ = rt.print(written);
-    say(rt, b", the first ");
-    let _ = rt.print(number(out[0]));
-    say(rt, b"\n");
-}
-
-fn number(b: u8) -> u64 {
-    b as u64
+    let _ = println!(rt; ": bytes {written}, the first {}", out[0]);
 }
 
 fn say_written(rt: &HostRuntime) {
-    let file = FILE;
-    say_sheet(rt, b"a sheet", &file);
-    say_sheet(rt, b"no sheet", &file[..0]);
-    let front = [0u8; FILE_BYTES];
+    say_sheet(rt, b"a sheet", &FILE);
+    say_sheet(rt, b"no sheet", &FILE[..0]);
     let mut out = io::buffer();
-    let written = sheet_read(front, 99999, &mut out);
-    say(rt, b"zeros: ");
-    say(rt, &out[..written]);
+    let written = sheet_read([0; FILE_BYTES], 99999, &mut out);
+    say_case(rt, b"zeros", &out[..written]);
 }
 
 // As many columns as there may be, and one more, over the functions' own parts.
 fn say_widest(rt: &HostRuntime) {
-    let file = WIDEST;
-    let one = ON_ONE;
-    let both = ON_BOTH;
     let mut more = WIDEST;
     more[24] = 16;
     more[25] = 0;
-    say_check(rt, b"4096 columns, on one", &file, &one);
-    say_check(rt, b"4096 columns, on both", &file, &both);
-    say_check(rt, b"4097 columns", &more, &one);
-    say_sheet(rt, b"4096 columns", &file);
+    say_check(rt, b"4096 columns, on one", &WIDEST, &ON_ONE);
+    say_check(rt, b"4096 columns, on both", &WIDEST, &ON_BOTH);
+    say_check(rt, b"4097 columns", &more, &ON_ONE);
+    say_sheet(rt, b"4096 columns", &WIDEST);
     say_sheet(rt, b"4097 columns", &more);
 }
 
 // The longest sheet there is: 389 bytes, sixteen engines and six types. Its file has 91: one instance of type 1 fills an engine, n 16, and there are none of
 // the types 2 to 6.
 
-// The file's length, the file, and the sheet's first field.
-fn put_file(front: &mut [u8; JOINED_BYTES]) {
-    let none = b"\x02\x00\x0a\x00\x00\x00\x01\x00\x00\x00\x01\x00\x00";
-    put_bytes(front, 0, b"\x00\x5b");
-    put_bytes(
-        front,
-        2,
-        b"\x01\x00\x0a\x10\x00\x00\x00\x00\x0a\x00\x00\x00\x08",
-    );
-    put_bytes(
-        front,
-        15,
-        b"\x02\x00\x0a\x00\x00\x00\x0a\x00\x00\x00\x08\x00\x10",
-    );
-    put_bytes(front, 28, none);
-    put_bytes(front, 41, none);
-    put_bytes(front, 54, none);
-    put_bytes(front, 67, none);
-    put_bytes(front, 80, none);
-    put_bytes(front, 93, b"\x10\x00\x02\x10\x06");
-}
+// A type of which there is none.
+const NONE: [u8; 13] = [2, 0, 10, 0, 0, 0, 1, 0, 0, 0, 1, 0, 0];
 
-// The record of engine e + 1, with one instance of type 1.
-fn put_record(front: &mut [u8; JOINED_BYTES], e: usize) {
-    let record =
-        b"\x11\x00\x15\x00\x00\x00\x00\x0a\x00\x00\x00\x08\x00\x01\x00\x00\x00\x00\x00\x00\x00\x00\x00\x00";
-    if e < 16 {
-        let at = 98 + 24 * e;
-        put_bytes(front, at, record);
-        front[at + 3] = (e + 1) as u8;
-    }
-}
+// The record of engine 0, with one instance of type 1.
+const RECORD: [u8; 24] = [
+    17, 0, 21, 0, 0, 0, 0, 10, 0, 0, 0, 8, 0, 1, 0, 0, 0, 0, 0, 0, 0, 0, 0, 0,
+];
 
-// The two joined, and nothing but this byte behind them.
+// The file's length, the file, and the sheet's first field and its records; nothing but this byte behind them.
 fn longest(behind: u8) -> [u8; JOINED_BYTES] {
-    let mut front = [behind; JOINED_BYTES];
-    put_file(&mut front);
-    for e in 0..16usize {
-        put_record(&mut front, e);
+    let platform = [1, 0, 10, 16, 0, 0, 0, 0, 10, 0, 0, 0, 8];
+    let first = [2, 0, 10, 0, 0, 0, 10, 0, 0, 0, 8, 0, 16];
+    let header = [16, 0, 2, 16, 6];
+    let parts: [&[u8]; 9] = [
+        &[0, 91],
+        &platform,
+        &first,
+        &NONE,
+        &NONE,
+        &NONE,
+        &NONE,
+        &NONE,
+        &header,
+    ];
+    let mut front = joined(&parts, behind);
+    for (engine, record) in (1..17u8).zip(front[98..482].chunks_exact_mut(24)) {
+        record.copy_from_slice(&RECORD);
+        record[3] = engine;
     }
     front
 }

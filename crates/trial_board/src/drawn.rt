@@ -1,86 +1,38 @@
 // Many drawn lists of calls, over dirty tables, the same table again, and tables of which one part is too short, or both: lists of the four calls of
 // document 01, and lists of all six, in which engines are withdrawn and put back. How many calls were answered in each way, and a line for each call
 // that is answered otherwise than the ledger says.
-use crate::live::{Lengths, Live, Step, live_of, played};
+use crate::live::{Live, Step, played};
 use crate::scripts::kind_of;
 use crate::shown::shown;
-use brute::ledger::Call;
+use brute::ledger::{Call, Kind};
 use brute::recovery;
-use std::num::{wrapping_add_usize, wrapping_sub_usize};
 use system::System;
+use trial::lent::Lengths;
+use trial::spread::{DrawnSystem, Draws};
 use trial::words::byte_of;
 use trial::{files, say, spread, systems, tables};
 
-// How many calls of each kind were accepted, at 0 to 5, how many refused with each number, how many showed each case of `shown`, and how
-// many were answered wrongly; with the seed that the next one is drawn from.
-#[derive(Clone, Copy)]
-struct Tally {
-    answers: [usize; 40],
-    cases: [usize; 8],
-    wrong: usize,
-    seed: u64,
-}
-
-// A call drawn, how many entries of each part it is lent, whether they are made dirty before, and the seed after it.
+// A call drawn, how many entries of each part it is lent, and whether they are made dirty before.
 #[derive(Clone, Copy)]
 struct DrawnCall {
     call: Call,
     lent: Lengths,
     dirty: bool,
-    seed: u64,
 }
 
-// A number that is mostly 1 to `last`, now and then 0, one past it, or 255; with the seed after it.
-fn drawn_number(seed: u64, last: usize) -> spread::Drawn {
-    let which = spread::draw(seed, 24);
-    let inside = spread::draw(which.seed, last);
-    let way = which.value;
-    let value = match way {
-        0 => 0,
-        1 => wrapping_add_usize(last, 1),
-        2 => 255,
-        _ => wrapping_add_usize(inside.value, 1),
-    };
-    spread::Drawn {
-        seed: inside.seed,
-        value: value,
+// The letters of the calls that may be drawn at a turn, each as likely as the others. Of the four kinds: five admits, one seat, three retires and one
+// repack. Of all six kinds so many of each, by how far the list has come: engines are withdrawn; put back and filled; instances come and go; engines are
+// emptied and withdrawn; at last all kinds are likely.
+fn letters_at(turn: usize, six: bool) -> &'static [u8] {
+    if !six {
+        return b"aaaaasrrrp";
     }
-}
-
-// Of ten calls of the four kinds five are admits, one is a seat, three are retires and one is a repack.
-fn four_kinds(value: usize) -> usize {
-    match value {
-        0..=4 => 0,
-        5 => 1,
-        6..=8 => 2,
-        _ => 3,
-    }
-}
-
-// Of sixteen calls of all six kinds so many of each, by how far the list has come: engines are withdrawn; put back and filled; instances come
-// and go; engines are emptied and withdrawn; at last all kinds are likely.
-fn six_kinds(turn: usize, value: usize) -> usize {
-    let part = turn / 8;
-    match part {
-        0 => kind_of(byte_of(b"wwwwwwwwwwbaassp", value)),
-        1 => kind_of(byte_of(b"bbbaaaaaaaaaaspr", value)),
-        2 => kind_of(byte_of(b"aaaaaarrrrrrswbp", value)),
-        3 => kind_of(byte_of(b"wwwwwwrrrraassbp", value)),
-        _ => kind_of(byte_of(b"aaaaaaasrrrrpwwb", value)),
-    }
-}
-
-// The kind of a call that is drawn, with the seed after it.
-fn drawn_kind(seed: u64, turn: usize, six: bool) -> spread::Drawn {
-    let way = spread::draw(seed, if six { 16 } else { 10 });
-    let kind = if six {
-        six_kinds(turn, way.value)
-    } else {
-        four_kinds(way.value)
-    };
-    spread::Drawn {
-        seed: way.seed,
-        value: kind,
+    match turn / 8 {
+        0 => b"wwwwwwwwwwbaassp",
+        1 => b"bbbaaaaaaaaaaspr",
+        2 => b"aaaaaarrrrrrswbp",
+        3 => b"wwwwwwrrrraassbp",
+        _ => b"aaaaaaasrrrrpwwb",
     }
 }
 
@@ -90,9 +42,8 @@ fn lengths(rows: usize, predecessors: usize) -> Lengths {
 
 // Parts of which one has an entry too few, or none at all, or both have an entry too few: by turns.
 fn short_lengths(turn: usize, columns: usize) -> Lengths {
-    let less = wrapping_sub_usize(columns, 1);
-    let way = turn % 7;
-    match way {
+    let less = columns.wrapping_sub(1);
+    match turn % 7 {
         0 => lengths(less, columns),
         1 => lengths(columns, less),
         2 => lengths(less, less),
@@ -105,8 +56,7 @@ fn short_lengths(turn: usize, columns: usize) -> Lengths {
 
 // Parts of which one is just long enough, or both: by turns.
 fn just_lengths(turn: usize, columns: usize) -> Lengths {
-    let way = turn % 3;
-    match way {
+    match turn % 3 {
         0 => lengths(columns, columns),
         1 => lengths(columns, 512),
         _ => lengths(512, columns),
@@ -122,134 +72,121 @@ fn drawn_lengths(value: usize, turn: usize, columns: usize) -> Lengths {
     }
 }
 
-fn drawn_call(seed: u64, y: System, turn: usize, six: bool) -> DrawnCall {
-    let kind = drawn_kind(seed, turn, six);
-    let task = drawn_number(kind.seed, y.typecount);
-    let engine = drawn_number(task.seed, y.engines);
-    let room = spread::draw(engine.seed, 8);
-    DrawnCall {
-        call: Call {
-            kind: kind.value,
-            task: task.value,
-            engine: engine.value,
-        },
-        lent: drawn_lengths(room.value, turn, recovery::columns_of(y)),
-        dirty: room.value < 4,
-        seed: room.seed,
+// A number that is mostly 1 to `last`, now and then 0, one past it, or 255.
+fn drawn_number(draws: &mut Draws, last: usize) -> usize {
+    let way = draws.below(24);
+    let inside = draws.below(last);
+    match way {
+        0 => 0,
+        1 => last.wrapping_add(1),
+        2 => 255,
+        _ => inside.wrapping_add(1),
     }
+}
+
+fn drawn_kind(draws: &mut Draws, turn: usize, six: bool) -> Kind {
+    let letters = letters_at(turn, six);
+    kind_of(byte_of(letters, draws.below(letters.len())))
+}
+
+fn drawn_call(draws: &mut Draws, y: System, turn: usize, six: bool) -> DrawnCall {
+    let call = Call {
+        kind: drawn_kind(draws, turn, six),
+        task: drawn_number(draws, y.typecount),
+        engine: drawn_number(draws, y.engines),
+    };
+    let room = draws.below(8);
+    DrawnCall {
+        call,
+        lent: drawn_lengths(room, turn, recovery::columns_of(y)),
+        dirty: room < 4,
+    }
+}
+
+// How many calls of each kind were accepted, at 0 to 5, how many refused with each number, how many showed each case of `shown`, and how
+// many were answered wrongly.
+#[derive(Clone, Copy)]
+struct Tally {
+    answers: [usize; 40],
+    cases: [usize; 8],
+    wrong: usize,
 }
 
 // The index that an answer is counted at.
-fn place_of(kind: usize, code: usize) -> usize {
+fn place_of(kind: Kind, code: usize) -> usize {
     if (code == 0) | (1000 <= code) {
-        return kind;
+        return kind as usize;
     }
     code % 100
-}
-
-// The tally with a call, which was played from this live board.
-fn counted(t: Tally, before: Live, d: DrawnCall, s: Step) -> Tally {
-    let c = d.call;
-    let after = s.live;
-    let mut next = t;
-    let place = place_of(c.kind, s.code);
-    if place < 40 {
-        next.answers[place] = wrapping_add_usize(t.answers[place], 1);
-    }
-    let held = before.ledger;
-    let holds = after.ledger;
-    let seen = shown(held, holds, c, s.code);
-    if seen < 8 {
-        next.cases[seen] = wrapping_add_usize(t.cases[seen], 1);
-    }
-    if !s.right {
-        next.wrong = wrapping_add_usize(t.wrong, 1);
-    }
-    next.seed = d.seed;
-    next
 }
 
 // A drawn call is wrong: its system, then its kind, type, engine and answer.
 fn say_wrong(rt: &HostRuntime, y: System, c: Call, code: usize) {
     say::say_system(rt, b"mismatch:", y);
-    say::say_also(rt, c.kind);
+    say::say_also(rt, c.kind as usize);
     say::say_also(rt, c.task);
     say::say_also(rt, c.engine);
     say::say_also(rt, code);
     say::say(rt, b"\n");
 }
 
-fn soiled(live: Live, dirty: bool) -> Live {
-    let mut next = live;
-    if dirty {
-        let table = tables::dirty_table();
-        next.table = table;
-    }
-    next
-}
-
-// A list of calls drawn for one system, of four kinds or of six.
-fn with_list(rt: &HostRuntime, t: Tally, y: System, six: bool, cells: bool) -> Tally {
-    let f = files::file_of(y);
-    let bytes = f.bytes;
-    let mut live = live_of(files::first_of(&bytes, f.size));
-    let mut all = t;
-    for i in 0..40usize {
-        let d = drawn_call(all.seed, y, i, six);
-        let c = d.call;
-        let lent = d.lent;
-        let s = played(soiled(live, d.dirty), c, lent, cells);
-        if !s.right {
-            say_wrong(rt, y, c, s.code);
+impl Tally {
+    fn new() -> Tally {
+        Tally {
+            answers: [0; 40],
+            cases: [0; 8],
+            wrong: 0,
         }
-        let next = counted(all, live, d, s);
-        all = next;
-        live = s.live;
     }
-    all
-}
 
-fn no_tally(seed: u64) -> Tally {
-    Tally {
-        answers: [0; 40],
-        cases: [0; 8],
-        wrong: 0,
-        seed: seed,
+    // A call, which was played from this live board.
+    fn count(&mut self, before: &Live, c: Call, s: &Step) {
+        if let Some(n) = self.answers.get_mut(place_of(c.kind, s.code)) {
+            *n = n.wrapping_add(1);
+        }
+        if let Some(case) = shown(before.ledger, s.live.ledger, c, s.code) {
+            let n = &mut self.cases[case as usize];
+            *n = n.wrapping_add(1);
+        }
+        if !s.right {
+            self.wrong = self.wrong.wrapping_add(1);
+        }
     }
-}
 
-// So many lists, each for a drawn system, with every entry of every filled table in one of 50.
-fn drawn_lists(
-    rt: &HostRuntime,
-    seed: u64,
-    number: usize,
-    typecount: usize,
-    most: usize,
-    six: bool,
-) -> Tally {
-    let mut t = no_tally(seed);
-    let mut i: usize = 0;
-    while i < number {
-        let d = spread::drawn_system(t.seed, 3, typecount, most);
-        let y = d.system;
-        t.seed = d.seed;
-        let next = with_list(rt, t, y, six, i % 50 == 0);
-        t = next;
-        i += 1;
+    // A list of calls drawn for one system, of four kinds or of six.
+    fn play(&mut self, rt: &HostRuntime, draws: &mut Draws, y: System, six: bool, cells: bool) {
+        let f = files::file_of(y);
+        let mut live = Live::of(f.as_slice());
+        for turn in 0..40 {
+            let d = drawn_call(draws, y, turn, six);
+            if d.dirty {
+                live.table = tables::dirty_table();
+            }
+            let s = played(live, d.call, d.lent, cells);
+            if !s.right {
+                say_wrong(rt, y, d.call, s.code);
+            }
+            self.count(&live, d.call, &s);
+            live = s.live;
+        }
     }
-    t
-}
 
-// So many lists for one system.
-fn lists_of(rt: &HostRuntime, seed: u64, number: usize, y: System, six: bool) -> Tally {
-    let mut t = no_tally(seed);
-    let mut i: usize = 0;
-    while i < number {
-        let next = with_list(rt, t, y, six, i % 50 == 0);
-        t = next;
-        i += 1;
+    // A line: the accepted admits, seats, retires and repacks, the calls refused 11, 13, 14, 21, 22, 23 and 24, and those answered wrongly.
+    fn say(&self, rt: &HostRuntime, name: &[u8]) {
+        let n = &self.answers;
+        let row = [
+            n[0], n[1], n[2], n[3], n[11], n[13], n[14], n[21], n[22], n[23], n[24], self.wrong,
+        ];
+        say::say_numbers(rt, name, &row);
     }
-    t
+
+    // A second line of all six calls: the accepted withdraws and restores, the calls refused 35 and 36, and the eight cases of `shown`.
+    fn say_marks(&self, rt: &HostRuntime) {
+        let n = &self.answers;
+        let [a, b, c, d, e, f, g, h] = self.cases;
+        let row = [n[4], n[5], n[35], n[36], a, b, c, d, e, f, g, h];
+        say::say_numbers(rt, b"    marks:", &row);
+    }
 }
 
 // Two engines or a few more that a few types fill in few ways, so that a newcomer often finds no engine though there is room: by time, and
@@ -293,27 +230,110 @@ fn tight_shared(engines: usize) -> System {
     systems::with_most(systems::with_data(systems::with_type(two, 1, 2, 3), 3), 1)
 }
 
-// A line of a spread: the accepted admits, seats, retires and repacks, the calls refused 11, 13, 14, 21, 22, 23 and 24, and those
-// answered wrongly.
-fn say_tally(rt: &HostRuntime, name: &[u8], t: Tally) {
-    let n = t.answers;
-    let row = [
-        n[0], n[1], n[2], n[3], n[11], n[13], n[14], n[21], n[22], n[23], n[24], t.wrong,
-    ];
-    say::say_row(rt, name, row, 12);
+// The lists of a spread: whether of all six calls, the seed before that of the first line, how many lists each line has for drawn systems, for ones that are
+// tight in time or memory, and for those with d or q; and how many engines the tight ones have, and the last one.
+#[derive(Clone, Copy)]
+struct Spread {
+    six: bool,
+    seed: u64,
+    drawn: usize,
+    tight: usize,
+    stacked: usize,
+    engines: usize,
+    last: usize,
 }
 
-// Two lines of a spread of all six calls: the same, and then the accepted withdraws and restores, the calls refused 35 and 36, and the eight
-// cases of `shown`.
-fn say_both(rt: &HostRuntime, name: &[u8], t: Tally) {
-    let n = t.answers;
-    let cases = t.cases;
-    let row = [
-        n[4], n[5], n[35], n[36], cases[0], cases[1], cases[2], cases[3], cases[4], cases[5],
-        cases[6], cases[7],
-    ];
-    say_tally(rt, name, t);
-    say::say_row(rt, b"    marks:", row, 12);
+const FOUR: Spread = Spread {
+    six: false,
+    seed: 10,
+    drawn: 200,
+    tight: 100,
+    stacked: 50,
+    engines: 2,
+    last: 2,
+};
+
+const SIX: Spread = Spread {
+    six: true,
+    seed: 20,
+    drawn: 400,
+    tight: 200,
+    stacked: 200,
+    engines: 3,
+    last: 4,
+};
+
+impl Spread {
+    // The line at this place of so many lists, each for the system that `next` gives, with every entry of every filled table in one of 50.
+    fn say<F: Fn(u64) -> DrawnSystem>(
+        &self,
+        rt: &HostRuntime,
+        name: &[u8],
+        place: u64,
+        number: usize,
+        next: F,
+    )
+        requires { F.IsAlwaysCallable next }
+    {
+        let mut t = Tally::new();
+        let mut draws = Draws {
+            seed: self.seed.wrapping_add(place),
+        };
+        for i in 0..number {
+            let d = next(draws.seed);
+            draws.seed = d.seed;
+            t.play(rt, &mut draws, d.system, self.six, i % 50 == 0);
+        }
+        t.say(rt, name);
+        if self.six {
+            t.say_marks(rt);
+        }
+    }
+
+    // The lines of systems that are drawn, of so many types.
+    fn say_spread(&self, rt: &HostRuntime) {
+        let lines = [
+            (b"one type:".as_slice(), 1, 5),
+            (b"two types:".as_slice(), 2, 3),
+            (b"three types:".as_slice(), 3, 2),
+        ];
+        for (name, k, most) in lines {
+            self.say(rt, name, k as u64, self.drawn, |seed| {
+                spread::drawn_system(seed, 3, k, most)
+            });
+        }
+    }
+
+    // The lines of systems that are given.
+    fn say_tight(&self, rt: &HostRuntime) {
+        let m = self.engines;
+        let lines = [
+            (b"tight time:".as_slice(), 4, self.tight, tight_time(m)),
+            (b"tight memory:".as_slice(), 5, self.tight, tight_memory(m)),
+            (
+                b"tight data, own:".as_slice(),
+                6,
+                self.stacked,
+                tight_data(m, 0, 11),
+            ),
+            (
+                b"tight data, shared:".as_slice(),
+                7,
+                self.stacked,
+                tight_data(m, 1, 13),
+            ),
+            (b"tight q, own:".as_slice(), 8, self.stacked, tight_own(m)),
+            (
+                b"tight q, shared:".as_slice(),
+                9,
+                self.stacked,
+                tight_shared(self.last),
+            ),
+        ];
+        for (name, place, number, system) in lines {
+            self.say(rt, name, place, number, |seed| DrawnSystem { seed, system });
+        }
+    }
 }
 
 pub fn say_drawn(rt: &HostRuntime) {
@@ -321,39 +341,8 @@ pub fn say_drawn(rt: &HostRuntime) {
         rt,
         b"calls: admitted, seated, retired, repacked, refused 11, 13, 14, 21, 22, 23, 24, mismatches\n",
     );
-    say_tally(rt, b"one type:", drawn_lists(rt, 11, 200, 1, 5, false));
-    say_tally(rt, b"two types:", drawn_lists(rt, 12, 200, 2, 3, false));
-    say_tally(rt, b"three types:", drawn_lists(rt, 13, 200, 3, 2, false));
-    say_tally(
-        rt,
-        b"tight time:",
-        lists_of(rt, 14, 100, tight_time(2), false),
-    );
-    say_tally(
-        rt,
-        b"tight memory:",
-        lists_of(rt, 15, 100, tight_memory(2), false),
-    );
-    say_tally(
-        rt,
-        b"tight data, own:",
-        lists_of(rt, 16, 50, tight_data(2, 0, 11), false),
-    );
-    say_tally(
-        rt,
-        b"tight data, shared:",
-        lists_of(rt, 17, 50, tight_data(2, 1, 13), false),
-    );
-    say_tally(
-        rt,
-        b"tight q, own:",
-        lists_of(rt, 18, 50, tight_own(2), false),
-    );
-    say_tally(
-        rt,
-        b"tight q, shared:",
-        lists_of(rt, 19, 50, tight_shared(2), false),
-    );
+    FOUR.say_spread(rt);
+    FOUR.say_tight(rt);
 }
 
 // Lists of all six calls.
@@ -366,37 +355,6 @@ pub fn say_drawn_marks(rt: &HostRuntime) {
         rt,
         b" it, moved past it, refused 23, refused 24 for want of it; with all out, admits and seats refused 24, repacked, restored\n",
     );
-    say_both(rt, b"one type:", drawn_lists(rt, 21, 400, 1, 5, true));
-    say_both(rt, b"two types:", drawn_lists(rt, 22, 400, 2, 3, true));
-    say_both(rt, b"three types:", drawn_lists(rt, 23, 400, 3, 2, true));
-    say_both(
-        rt,
-        b"tight time:",
-        lists_of(rt, 24, 200, tight_time(3), true),
-    );
-    say_both(
-        rt,
-        b"tight memory:",
-        lists_of(rt, 25, 200, tight_memory(3), true),
-    );
-    say_both(
-        rt,
-        b"tight data, own:",
-        lists_of(rt, 26, 200, tight_data(3, 0, 11), true),
-    );
-    say_both(
-        rt,
-        b"tight data, shared:",
-        lists_of(rt, 27, 200, tight_data(3, 1, 13), true),
-    );
-    say_both(
-        rt,
-        b"tight q, own:",
-        lists_of(rt, 28, 200, tight_own(3), true),
-    );
-    say_both(
-        rt,
-        b"tight q, shared:",
-        lists_of(rt, 29, 200, tight_shared(4), true),
-    );
+    SIX.say_spread(rt);
+    SIX.say_tight(rt);
 }

@@ -16,55 +16,34 @@
 // - `vector eight` to `twelve`: made outside this project from request 2026-07;
 // - `C and T`: four of these again, from files that give some types a C and T (request 2026-14). Nothing is answered otherwise, and the board keeps them.
 use crate::scripts::say_list;
-use trial::files::first_of;
-use trial::words::{Bytes, after, byte_of, bytes_in, line_end, part, word_end};
+use trial::cases::{Words, each_case};
+use trial::say::say;
+use trial::words::Bytes;
 
 // The bytes of the text that are read at most.
-pub const TEXT_BYTES: usize = 32768;
+const TEXT_BYTES: usize = 32768;
 
-// A list: whether every cell is compared, its file, where its name starts and ends, where its calls end, and where the next list starts.
+// What the first line of a list gives beside its name: its file, and whether every cell is compared.
 #[derive(Clone, Copy)]
-struct Case {
-    cells: bool,
+struct Head {
     file: Bytes,
-    start: usize,
-    named: usize,
-    ended: usize,
-    next: usize,
+    cells: bool,
 }
 
-// The list that starts at a place.
-fn case_at(text: &[u8], at: usize) -> Case {
-    let kind = word_end(text, at);
-    let filed = word_end(text, after(kind));
-    let named = line_end(text, after(filed));
-    let ended = line_end(text, after(named));
-    Case {
-        cells: byte_of(text, at) == b'c',
-        file: bytes_in(text, after(kind), filed),
-        start: after(filed),
-        named,
-        ended,
-        next: after(ended),
-    }
+// The first line of a list, whose name is printed.
+fn head_of(rt: &HostRuntime, line: &[u8]) -> Head {
+    let mut words = Words::of(line);
+    let cells = words.letter() == b'c';
+    let file = words.bytes();
+    say(rt, words.rest());
+    Head { file, cells }
 }
 
-fn say_case(rt: &HostRuntime, text: &[u8], c: Case) {
-    let given = c.file;
-    let bytes = given.bytes;
-    let name = part(text, c.start, c.named);
-    let calls = part(text, after(c.named), c.ended);
-    say_list(rt, name, first_of(&bytes, given.size), calls, c.cells);
-}
-
-// All lists of the text: there are fewer of them than bytes.
-pub fn say_cases(rt: &HostRuntime, text: &[u8]) {
-    let mut at: usize = 0;
-    for line in 0..text.len() {
-        if at < text.len() {
-            let c = case_at(text, at);
-            say_case(rt, text, c);
-            at = c.next;
-        }
-    }
+// All lists of the text.
+pub fn say_cases(rt: &HostRuntime) {
+    let mut head: Option<Head> = None;
+    each_case::<TEXT_BYTES, _>(rt, |line| match head.take() {
+        None => head = Some(head_of(rt, line)),
+        Some(h) => say_list(rt, h.file.as_slice(), line, h.cells),
+    });
 }

@@ -6,8 +6,6 @@
 // otherwise.
 #![tactic(auto)]
 
-use trial::input::read_full;
-
 mod drawn;
 mod lines;
 mod live;
@@ -15,9 +13,7 @@ mod scripts;
 mod shown;
 
 fn main(rt: HostRuntime) {
-    let mut input = [0u8; lines::TEXT_BYTES];
-    let read = read_full(&rt, &mut input);
-    lines::say_cases(&rt, &input[..read]);
+    lines::say_cases(&rt);
     drawn::say_drawn(&rt);
     drawn::say_drawn_marks(&rt);
 }

@@ -1,11 +1,10 @@
 // Lists of calls that are given, with their answers: scripts of six bytes for each call. Its kind (a, s, r for retire, p for repack, w for
 // withdraw, b for restore, which puts an engine back), type and engine, then `@` and the engine that admit answers (0 for another call), or
 // the refusal's number; a space, or a full stop after the last. `-` is no number, `x` is 255.
-use crate::live::{Lengths, live_of, played};
+use crate::live::{Live, played};
 use board::Board;
-use brute::ledger::Call;
-use std::num::wrapping_add_usize;
-use system::ENGINE_LIMIT;
+use brute::ledger::{Call, Kind};
+use trial::lent::Lengths;
 use trial::say;
 use trial::words::byte_of;
 
@@ -20,22 +19,22 @@ fn figure(b: u8) -> usize {
 }
 
 // The kind of call that a letter stands for.
-pub fn kind_of(b: u8) -> usize {
+pub fn kind_of(b: u8) -> Kind {
     match b {
-        b'a' => 0,
-        b's' => 1,
-        b'r' => 2,
-        b'p' => 3,
-        b'w' => 4,
-        _ => 5,
+        b'a' => Kind::Admit,
+        b's' => Kind::Seat,
+        b'r' => Kind::Retire,
+        b'p' => Kind::Repack,
+        b'w' => Kind::Withdraw,
+        _ => Kind::Restore,
     }
 }
 
-fn scripted(script: &[u8], start: usize) -> Call {
+fn scripted(script: &[u8]) -> Call {
     Call {
-        kind: kind_of(byte_of(script, start)),
-        task: figure(byte_of(script, wrapping_add_usize(start, 1))),
-        engine: figure(byte_of(script, wrapping_add_usize(start, 2))),
+        kind: kind_of(byte_of(script, 0)),
+        task: figure(byte_of(script, 1)),
+        engine: figure(byte_of(script, 2)),
     }
 }
 
@@ -43,7 +42,7 @@ fn accepted_code(engine: usize) -> usize {
     if engine == 0 {
         return 0;
     }
-    wrapping_add_usize(1000, engine)
+    engine.wrapping_add(1000)
 }
 
 // The tens of a refusal's code: refusals below 20 come from the input, the others of these calls from the state.
@@ -56,60 +55,45 @@ fn tens_of(b: u8) -> usize {
 }
 
 // The code of the answer that a script gives.
-fn scripted_code(script: &[u8], start: usize) -> usize {
-    let first = byte_of(script, wrapping_add_usize(start, 3));
-    let second = figure(byte_of(script, wrapping_add_usize(start, 4)));
+fn scripted_code(script: &[u8]) -> usize {
+    let first = byte_of(script, 3);
+    let second = figure(byte_of(script, 4));
     if first == b'@' {
         return accepted_code(second);
     }
-    wrapping_add_usize(tens_of(first), second)
+    tens_of(first).wrapping_add(second)
 }
 
-// A word for an engine that is out of service.
-fn say_mark(rt: &HostRuntime, out: bool) {
-    if out {
-        say::say(rt, b" out");
-    }
-}
-
-// The engines of a board.
+// The engines of a board, and a word for each that is out of service.
 fn say_board(rt: &HostRuntime, b: Board) {
-    let y = b.system;
-    let loads = b.loads;
-    let marks = b.marks;
-    for e in 0..ENGINE_LIMIT {
-        let l = loads[e];
-        if e < y.engines {
-            say::say_load(rt, l, y.typecount);
-            say_mark(rt, marks[e]);
+    let engines = b.loads.iter().zip(&b.marks).take(b.system.engines);
+    for (load, out) in engines {
+        say::say_load(rt, *load, b.system.typecount);
+        if *out {
+            say::say(rt, b" out");
         }
     }
     say::say(rt, b"\n");
 }
 
-// A line for a list of at most 64 calls that is given: how many calls, how many of them wrong by the script or the ledger, and the final board.
-// With `cells` every entry of a filled table is compared too.
-pub fn say_list(rt: &HostRuntime, name: &[u8], file: &[u8], script: &[u8], cells: bool) {
-    let mut live = live_of(file);
+// The rest of the line of a list of calls that is given, past its name: how many calls, how many of them wrong by the script or the ledger, and the final
+// board. With `cells` every entry of a filled table is compared too.
+pub fn say_list(rt: &HostRuntime, file: &[u8], script: &[u8], cells: bool) {
+    let whole = Lengths {
+        rows: 512,
+        predecessors: 512,
+    };
+    let mut live = Live::of(file);
     let mut wrong: usize = 0;
-    for i in 0..64usize {
-        let start = i * 6;
-        if start < script.len() {
-            let whole = Lengths {
-                rows: 512,
-                predecessors: 512,
-            };
-            let s = played(live, scripted(script, start), whole, cells);
-            if (s.code != scripted_code(script, start)) | !s.right {
-                wrong = wrapping_add_usize(wrong, 1);
-            }
-            live = s.live;
+    for call in script.chunks(6) {
+        let s = played(live, scripted(call), whole, cells);
+        if (s.code != scripted_code(call)) | !s.right {
+            wrong = wrong.wrapping_add(1);
         }
+        live = s.live;
     }
-    say::say(rt, name);
     say::say_also(rt, script.len() / 6);
     say::say(rt, b" calls, wrong");
     say::say_also(rt, wrong);
-    let b = live.board;
-    say_board(rt, b);
+    say_board(rt, live.board);
 }

@@ -6,189 +6,129 @@
 // missing at the end are 0.
 use board::Board;
 use loads::EngineLoad;
-use std::num::wrapping_add_usize;
-use system::{
-    Costs, Cursor, Cycle, ENGINE_LIMIT, Kind, Most, Pace, Second, System, TYPE_LIMIT, TaskType,
-    There,
-};
-use system_code::{byte_at, four_bytes, rest_at, two_bytes};
+use std::array;
+use system::{Costs, Cycle, Kind, System, TaskType};
 
-const FIRST_TYPE: usize = 11;
-
-const TYPE_BYTES: usize = 17;
-
-const FIRST_MARK: usize = 113;
-
-const FIRST_ENGINE: usize = 129;
-
-const ENGINE_BYTES: usize = 20;
-
-const SECOND: usize = 449;
-
-const THERE: usize = 459;
-
-const PACE: usize = 468;
-
-fn most_of(given: u8, q: u16) -> Most {
-    if given == 0 {
-        return Most::NotGiven;
-    }
-    Most::AtMost(q)
+// What is left of the bytes of a board; past their end all are 0. Numbers have their most significant byte first.
+#[derive(Clone, Copy)]
+struct Numbers<'a> {
+    rest: &'a [u8],
 }
 
-// The type whose bytes start the part.
-fn task_in(part: &[u8]) -> TaskType {
-    let most = most_of(byte_at(part, 14), two_bytes(part, 15));
-    TaskType {
-        time: four_bytes(part, 0),
-        memory: four_bytes(part, 4),
-        ceiling: two_bytes(part, 8),
-        data: four_bytes(part, 10),
-        most,
-        pace: Pace::Unpaced,
-        there: There::Absent,
+impl<'a> Numbers<'a> {
+    fn byte(&mut self) -> u8 {
+        let Some((first, rest)) = self.rest.split_first() else {
+            return 0;
+        };
+        self.rest = rest;
+        *first
     }
-}
 
-// Whether the bit of the type at index t is set.
-fn has_bit(flags: u8, t: usize) -> bool {
-    match t {
-        0 => flags % 2 == 1,
-        1 => flags / 2 % 2 == 1,
-        2 => flags / 4 % 2 == 1,
-        3 => flags / 8 % 2 == 1,
-        4 => flags / 16 % 2 == 1,
-        _ => flags / 32 % 2 == 1,
+    fn flag(&mut self) -> bool {
+        self.byte() != 0
     }
-}
 
-// The u and s there, whose bytes follow the first of the part.
-fn costs_in(part: &[u8]) -> Costs {
-    Costs {
-        time: four_bytes(part, 1),
-        memory: four_bytes(part, 5),
+    fn two(&mut self) -> u16 {
+        u16::from_be_bytes([self.byte(), self.byte()])
     }
-}
 
-// The type at index t with its costs on a second kind, where the bytes of the board give them.
-fn with_there(task: TaskType, bytes: &[u8], t: usize) -> TaskType {
-    if !has_bit(byte_at(bytes, THERE), t) {
-        return task;
+    fn four(&mut self) -> u32 {
+        u32::from_be_bytes([self.byte(), self.byte(), self.byte(), self.byte()])
     }
-    let most = task.most;
-    let pace = task.pace;
-    let costs = costs_in(rest_at(bytes, Cursor { at: THERE }));
-    TaskType {
-        time: task.time,
-        memory: task.memory,
-        ceiling: task.ceiling,
-        data: task.data,
-        most,
-        pace,
-        there: There::Takes(costs),
-    }
-}
 
-// The C and T, whose bytes follow the first of the part.
-fn cycle_in(part: &[u8]) -> Cycle {
-    Cycle {
-        run: four_bytes(part, 1),
-        period: four_bytes(part, 5),
+    // A type, with no costs on a second kind and no C and T.
+    fn task(&mut self) -> TaskType {
+        let time = self.four();
+        let memory = self.four();
+        let ceiling = self.two();
+        let data = self.four();
+        let given = self.flag();
+        let most = self.two();
+        TaskType {
+            time,
+            memory,
+            ceiling,
+            data,
+            most: given.then_some(most),
+            pace: None,
+            there: None,
+        }
     }
-}
 
-// The type at index t with its C and T, where the bytes of the board give them.
-fn with_pace(task: TaskType, bytes: &[u8], t: usize) -> TaskType {
-    if !has_bit(byte_at(bytes, PACE), t) {
-        return task;
+    fn system(&mut self) -> System {
+        System {
+            engines: usize::from(self.byte()),
+            rule: self.byte(),
+            timecap: self.four(),
+            memorycap: self.four(),
+            typecount: usize::from(self.byte()),
+            types: array::from_fn(|_| self.task()),
+            second: None,
+        }
     }
-    let most = task.most;
-    let there = task.there;
-    let cycle = cycle_in(rest_at(bytes, Cursor { at: PACE }));
-    TaskType {
-        time: task.time,
-        memory: task.memory,
-        ceiling: task.ceiling,
-        data: task.data,
-        most,
-        pace: Pace::Paced(cycle),
-        there,
+
+    fn load(&mut self) -> EngineLoad {
+        EngineLoad {
+            time: self.four(),
+            memory: self.four(),
+            counts: array::from_fn(|_| self.two()),
+        }
+    }
+
+    fn kind(&mut self) -> Kind {
+        Kind {
+            number: usize::from(self.byte()),
+            timecap: self.four(),
+            memorycap: self.four(),
+        }
+    }
+
+    fn costs(&mut self) -> Costs {
+        Costs {
+            time: self.four(),
+            memory: self.four(),
+        }
+    }
+
+    fn cycle(&mut self) -> Cycle {
+        Cycle {
+            run: self.four(),
+            period: self.four(),
+        }
     }
 }
 
-// The second kind whose bytes start the part, where the first of them gives it.
-fn second_in(part: &[u8]) -> Second {
-    if byte_at(part, 0) == 0 {
-        return Second::OneKind;
-    }
-    Second::TwoKinds(Kind {
-        number: byte_at(part, 1) as usize,
-        timecap: four_bytes(part, 2),
-        memorycap: four_bytes(part, 6),
-    })
-}
-
-// The engine whose bytes start the part.
-fn engine_in(part: &[u8]) -> EngineLoad {
-    let counts = [
-        two_bytes(part, 8),
-        two_bytes(part, 10),
-        two_bytes(part, 12),
-        two_bytes(part, 14),
-        two_bytes(part, 16),
-        two_bytes(part, 18),
-    ];
-    EngineLoad {
-        time: four_bytes(part, 0),
-        memory: four_bytes(part, 4),
-        counts,
-    }
-}
-
-fn types_in(bytes: &[u8]) -> [TaskType; TYPE_LIMIT] {
-    let mut types = [system_code::no_task(); TYPE_LIMIT];
-    for i in 0..TYPE_LIMIT {
-        let at = FIRST_TYPE + i * TYPE_BYTES;
-        let task = with_there(task_in(rest_at(bytes, Cursor { at: at })), bytes, i);
-        types[i] = with_pace(task, bytes, i);
-    }
-    types
-}
-
-fn marks_in(bytes: &[u8]) -> [bool; ENGINE_LIMIT] {
-    let mut marks = [false; ENGINE_LIMIT];
-    for i in 0..ENGINE_LIMIT {
-        marks[i] = byte_at(bytes, wrapping_add_usize(FIRST_MARK, i)) != 0;
-    }
-    marks
-}
-
-fn engines_in(bytes: &[u8]) -> [EngineLoad; ENGINE_LIMIT] {
-    let mut loads = [loads_code::idle_engine(); ENGINE_LIMIT];
-    for i in 0..ENGINE_LIMIT {
-        let at = FIRST_ENGINE + i * ENGINE_BYTES;
-        loads[i] = engine_in(rest_at(bytes, Cursor { at: at }));
-    }
-    loads
-}
-
-fn system_in(bytes: &[u8]) -> System {
-    System {
-        engines: byte_at(bytes, 0) as usize,
-        rule: byte_at(bytes, 1),
-        timecap: four_bytes(bytes, 2),
-        memorycap: four_bytes(bytes, 6),
-        typecount: byte_at(bytes, 10) as usize,
-        types: types_in(bytes),
-        second: second_in(rest_at(bytes, Cursor { at: SECOND })),
+// The types for which `change` is made: those whose bit is set, that of type 1 the lowest.
+fn change_those<F: FnMut(&mut TaskType)>(types: &mut [TaskType], flags: u8, mut change: F)
+    requires { F.IsAlwaysCallable change }
+{
+    let mut left = flags;
+    for task in types.iter_mut() {
+        if left % 2 == 1 {
+            change(task);
+        }
+        left /= 2;
     }
 }
 
 // The board of these bytes.
 pub fn board_in(bytes: &[u8]) -> Board {
+    let mut numbers = Numbers { rest: bytes };
+    let mut system = numbers.system();
+    let marks = array::from_fn(|_| numbers.flag());
+    let loads = array::from_fn(|_| numbers.load());
+    let given = numbers.flag();
+    let second = numbers.kind();
+    system.second = given.then_some(second);
+    let there = numbers.byte();
+    let costs = numbers.costs();
+    change_those(&mut system.types, there, |task| task.there = Some(costs));
+    let paced = numbers.byte();
+    let cycle = numbers.cycle();
+    change_those(&mut system.types, paced, |task| task.pace = Some(cycle));
     Board {
-        system: system_in(bytes),
-        loads: engines_in(bytes),
-        marks: marks_in(bytes),
+        system,
+        loads,
+        marks,
     }
 }

@@ -1,37 +1,29 @@
 // The calls over tables that are dirty, and of which first entries of each part are lent; and what was left in them.
-ghost use Rattle.std.specs.Prelude.{◌<◌};
-
 use crate::as_promised::{why_no_plan, why_no_room};
-use crate::boards::board_in;
-use board::{Board, Turn};
+use board::Board;
 use board_code::{admit, seat};
-use causes::{Cause, CauseAnswer};
-use causes_code::cause_number;
-use planner::Plan;
+use causes::Cause;
 use planner_code::plan_of;
-use system::{COLUMN_LIMIT, Refusal};
-use trial::files::first_of;
-use trial::say::code_of;
-use trial::words::Bytes;
+use system::{Answer, COLUMN_LIMIT, Refusal};
+use trial::lent::{Lengths, Parts};
 
 // The entries of each part: more than the columns of any system.
 const LONG: usize = 5100;
 
-// The number of a table that is as it was lent.
-pub const AS_LENT: usize = 0;
+// What a call left in the table: all as it was lent; the number of the first entries, one for each column that a system can have, where one of them is
+// another; or an entry past those that is another.
+#[derive(Clone, Copy)]
+pub enum Left {
+    AsLent,
+    Front(usize),
+    ChangedPast,
+}
 
-// The number of a table that is not as it was past all columns that a system can have.
-const CHANGED_PAST: usize = 1000004;
-
-// What a call told: the cause's number and the type that it names, 0 for none; or a refusal, 100 and more from the input, 200 and more from the state; and
-// the number
-// that stands for the whole table after it.
+// What a call told, and what it left in the table.
 #[derive(Clone, Copy)]
 pub struct Told {
-    pub cause: usize,
-    pub named: usize,
-    pub refused: usize,
-    pub table: usize,
+    pub answer: Result<Cause, Refusal>,
+    pub left: Left,
 }
 
 // What stands at an entry of a table before it is lent.
@@ -39,273 +31,84 @@ fn dirt(i: usize) -> u16 {
     (((i % 65536) * 40503 + 7) % 65536) as u16
 }
 
-// Tables to lend, in two parts.
-#[derive(Clone, Copy)]
-struct Lent {
-    rows: [u16; LONG],
-    predecessors: [u16; LONG],
+fn dirty_table() -> Parts<LONG> {
+    Parts::of(dirt, |i| dirt(i.wrapping_add(COLUMN_LIMIT)))
 }
 
-// How many entries of each part are lent.
-#[derive(Clone, Copy)]
-pub struct Lengths {
-    pub rows: usize,
-    pub predecessors: usize,
+// What numbers of entries are counted by.
+const MODULUS: usize = 1000003;
+
+// The number of entries after one more, of which the remainder counts.
+fn mixed(number: usize, entry: u16) -> usize {
+    number % MODULUS * 257 + usize::from(entry)
 }
 
-fn dirty_table() -> Lent {
-    let mut rows: [u16; LONG] = [0; LONG];
-    let mut predecessors: [u16; LONG] = [0; LONG];
-    for i in 0..LONG {
-        rows[i] = dirt(i);
-        predecessors[i] = dirt(i + COLUMN_LIMIT);
+// The number of the first entries, from 1 on: each of both parts has a part in it.
+fn front_number(table: &Parts<LONG>) -> usize {
+    let mut number = 1;
+    for (row, predecessor) in table
+        .rows
+        .iter()
+        .zip(&table.predecessors)
+        .take(COLUMN_LIMIT)
+    {
+        number = mixed(mixed(number, *row), *predecessor);
     }
-    Lent { rows, predecessors }
+    number % MODULUS + 1
 }
 
-fn wide(entry: u16) -> usize
-    ensures { result < 65536 }
-{
-    entry as usize
-}
-
-// The number of the first entries of a table, one for each column that a system can have: each of both parts has a part in it. 0 stands for entries that are
-// as they were lent.
-fn front_number(rows: [u16; LONG], predecessors: [u16; LONG]) -> usize {
-    let mut number: usize = 1;
-    let mut same = true;
-    for i in 0..COLUMN_LIMIT {
-        number = (number * 257 + wide(rows[i])) % 1000003;
-        number = (number * 257 + wide(predecessors[i])) % 1000003;
-        same = same & (rows[i] == dirt(i));
-        same = same & (predecessors[i] == dirt(i + COLUMN_LIMIT));
+fn left_in(table: &Parts<LONG>) -> Left {
+    let old = dirty_table();
+    if *table == old {
+        Left::AsLent
+    } else if table.kept_from(&old, COLUMN_LIMIT) {
+        Left::Front(front_number(table))
+    } else {
+        Left::ChangedPast
     }
-    if same { AS_LENT } else { number + 1 }
-}
-
-// All entries past those are as they were.
-fn kept_past(rows: [u16; LONG], predecessors: [u16; LONG]) -> bool {
-    let mut kept = true;
-    for i in COLUMN_LIMIT..LONG {
-        kept = kept & (rows[i] == dirt(i));
-        kept = kept & (predecessors[i] == dirt(i + COLUMN_LIMIT));
-    }
-    kept
-}
-
-// The number of a table.
-fn table_number(rows: [u16; LONG], predecessors: [u16; LONG]) -> usize {
-    if kept_past(rows, predecessors) {
-        return front_number(rows, predecessors);
-    }
-    CHANGED_PAST
-}
-
-fn refused_code(r: Refusal) -> usize {
-    match r {
-        Refusal::Input(n) => 100 + n as usize,
-        Refusal::State(n) => 200 + n as usize,
-    }
-}
-
-// The request's number of a cause, by the name of its case.
-fn named_number(c: Cause) -> usize {
-    match c {
-        Cause::Possible => 0,
-        Cause::NoEngine => 1,
-        Cause::OneTooLarge(t) => 2,
-        Cause::TooMuchTime => 3,
-        Cause::TooMuchMemory => 4,
-        Cause::TooManyReplicas => 5,
-        Cause::NoArrangement => 6,
-    }
-}
-
-// The same, which `cause_number` must say too; 9 where it says another.
-fn number_of(c: Cause) -> usize {
-    let number = named_number(c);
-    if cause_number(c) as usize == number {
-        return number;
-    }
-    9
-}
-
-fn named_in(c: Cause) -> usize {
-    match c {
-        Cause::OneTooLarge(t) => t,
-        _ => 0,
-    }
-}
-
-fn told_as(a: CauseAnswer, table: usize) -> Told {
-    match a {
-        CauseAnswer::Because(c) => Told {
-            cause: number_of(c),
-            named: named_in(c),
-            refused: 0,
-            table,
-        },
-        CauseAnswer::Refused(r) => Told {
-            cause: 0,
-            named: 0,
-            refused: refused_code(r),
-            table,
-        },
-    }
-}
-
-// The call from a file over the first entries of both parts, or all where they have fewer: first the predecessor part is cut, then both.
-fn plan_front(file: &[u8], rows: &mut [u16], predecessors: &mut [u16], n: usize) -> CauseAnswer {
-    if n < predecessors.len() {
-        return why_no_plan(file, rows, &mut predecessors[0..n]);
-    }
-    why_no_plan(file, rows, predecessors)
-}
-
-fn plan_over(file: &[u8], rows: &mut [u16], predecessors: &mut [u16], n: Lengths) -> CauseAnswer {
-    let first = n.rows;
-    if first < rows.len() {
-        return plan_front(file, &mut rows[0..first], predecessors, n.predecessors);
-    }
-    plan_front(file, rows, predecessors, n.predecessors)
-}
-
-// The call from a board.
-fn room_front(
-    b: Board,
-    t: usize,
-    rows: &mut [u16],
-    predecessors: &mut [u16],
-    n: usize,
-) -> CauseAnswer {
-    if n < predecessors.len() {
-        return why_no_room(b, t, rows, &mut predecessors[0..n]);
-    }
-    why_no_room(b, t, rows, predecessors)
-}
-
-fn room_over(
-    b: Board,
-    t: usize,
-    rows: &mut [u16],
-    predecessors: &mut [u16],
-    n: Lengths,
-) -> CauseAnswer {
-    let first = n.rows;
-    if first < rows.len() {
-        return room_front(b, t, &mut rows[0..first], predecessors, n.predecessors);
-    }
-    room_front(b, t, rows, predecessors, n.predecessors)
 }
 
 // Why a file has no plan, with so many entries of each part lent.
-pub fn plan_told(f: Bytes, n: Lengths) -> Told {
-    let bytes = f.bytes;
-    let table = dirty_table();
-    let mut rows = table.rows;
-    let mut predecessors = table.predecessors;
-    let answer = plan_over(first_of(&bytes, f.size), &mut rows, &mut predecessors, n);
-    told_as(answer, table_number(rows, predecessors))
+pub fn plan_told(file: &[u8], n: Lengths) -> Told {
+    let mut table = dirty_table();
+    let answer = table.lent(
+        n,
+        |rows, predecessors| why_no_plan(file, rows, predecessors),
+    );
+    Told {
+        answer,
+        left: left_in(&table),
+    }
 }
 
 // Why a board has no room for a newcomer.
-pub fn room_told(g: Bytes, t: usize, n: Lengths) -> Told {
-    let bytes = g.bytes;
-    let b = board_in(first_of(&bytes, g.size));
-    let table = dirty_table();
-    let mut rows = table.rows;
-    let mut predecessors = table.predecessors;
-    let answer = room_over(b, t, &mut rows, &mut predecessors, n);
-    told_as(answer, table_number(rows, predecessors))
-}
-
-// A plan, an admit and a seat where first entries of both parts are lent.
-fn planned_front(file: &[u8], rows: &mut [u16], predecessors: &mut [u16], n: usize) -> Plan {
-    if n < predecessors.len() {
-        return plan_of(file, rows, &mut predecessors[0..n]);
+pub fn room_told(b: Board, t: usize, n: Lengths) -> Told {
+    let mut table = dirty_table();
+    let answer = table.lent(
+        n,
+        |rows, predecessors| why_no_room(b, t, rows, predecessors),
+    );
+    Told {
+        answer,
+        left: left_in(&table),
     }
-    plan_of(file, rows, predecessors)
 }
 
-fn planned_over(file: &[u8], rows: &mut [u16], predecessors: &mut [u16], n: Lengths) -> Plan {
-    let first = n.rows;
-    if first < rows.len() {
-        return planned_front(file, &mut rows[0..first], predecessors, n.predecessors);
-    }
-    planned_front(file, rows, predecessors, n.predecessors)
+// What a plan, an admit and a seat answer there.
+pub fn planned(file: &[u8], n: Lengths) -> Answer {
+    dirty_table().lent(n, |rows, predecessors| {
+        plan_of(file, rows, predecessors).answer
+    })
 }
 
-fn admitted_front(
-    b: Board,
-    t: usize,
-    rows: &mut [u16],
-    predecessors: &mut [u16],
-    n: usize,
-) -> Turn {
-    if n < predecessors.len() {
-        return admit(b, t, rows, &mut predecessors[0..n]);
-    }
-    admit(b, t, rows, predecessors)
+pub fn admitted(b: Board, t: usize, n: Lengths) -> Answer {
+    dirty_table().lent(n, |rows, predecessors| {
+        admit(b, t, rows, predecessors).answer
+    })
 }
 
-fn admitted_over(
-    b: Board,
-    t: usize,
-    rows: &mut [u16],
-    predecessors: &mut [u16],
-    n: Lengths,
-) -> Turn {
-    let first = n.rows;
-    if first < rows.len() {
-        return admitted_front(b, t, &mut rows[0..first], predecessors, n.predecessors);
-    }
-    admitted_front(b, t, rows, predecessors, n.predecessors)
-}
-
-fn seated_front(b: Board, t: usize, rows: &mut [u16], predecessors: &mut [u16], n: usize) -> Turn {
-    if n < predecessors.len() {
-        return seat(b, t, rows, &mut predecessors[0..n]);
-    }
-    seat(b, t, rows, predecessors)
-}
-
-fn seated_over(b: Board, t: usize, rows: &mut [u16], predecessors: &mut [u16], n: Lengths) -> Turn {
-    let first = n.rows;
-    if first < rows.len() {
-        return seated_front(b, t, &mut rows[0..first], predecessors, n.predecessors);
-    }
-    seated_front(b, t, rows, predecessors, n.predecessors)
-}
-
-// What they answer.
-pub fn planned(f: Bytes, n: Lengths) -> usize {
-    let bytes = f.bytes;
-    let table = dirty_table();
-    let mut rows = table.rows;
-    let mut predecessors = table.predecessors;
-    let plan = planned_over(first_of(&bytes, f.size), &mut rows, &mut predecessors, n);
-    let answer = plan.answer;
-    code_of(answer)
-}
-
-pub fn admitted(g: Bytes, t: usize, n: Lengths) -> usize {
-    let bytes = g.bytes;
-    let b = board_in(first_of(&bytes, g.size));
-    let table = dirty_table();
-    let mut rows = table.rows;
-    let mut predecessors = table.predecessors;
-    let turn = admitted_over(b, t, &mut rows, &mut predecessors, n);
-    let answer = turn.answer;
-    code_of(answer)
-}
-
-pub fn seated(g: Bytes, t: usize, n: Lengths) -> usize {
-    let bytes = g.bytes;
-    let b = board_in(first_of(&bytes, g.size));
-    let table = dirty_table();
-    let mut rows = table.rows;
-    let mut predecessors = table.predecessors;
-    let turn = seated_over(b, t, &mut rows, &mut predecessors, n);
-    let answer = turn.answer;
-    code_of(answer)
+pub fn seated(b: Board, t: usize, n: Lengths) -> Answer {
+    dirty_table().lent(n, |rows, predecessors| {
+        seat(b, t, rows, predecessors).answer
+    })
 }

@@ -1,64 +1,88 @@
-// A line for each case.
-use crate::calls::{AS_LENT, Told};
-use crate::text::Case;
-use crate::{calls, text};
-use trial::say::{say, say_also};
-use trial::words::part;
+// A line for each case: a name, the letter of a file or a board, its bytes, the newcomer's type, and how many entries of each part are lent.
+use crate::boards::board_in;
+use crate::calls;
+use crate::calls::{Left, Told};
+use board::Board;
+use causes::Cause;
+use causes_code::cause_number;
+use trial::cases::Words;
+use trial::lent::Lengths;
+use trial::say::{code_of, say, say_also};
 
-fn say_told(rt: &HostRuntime, a: Told) {
-    if a.refused == 0 {
-        say(rt, b" cause");
-        say_also(rt, a.cause);
-    } else {
-        say(rt, b" refused");
-        say_also(rt, a.refused);
+// The request's number of a cause, by the name of its case: written here again, apart from the code under test.
+fn named_number(c: Cause) -> u8 {
+    match c {
+        Cause::Possible => 0,
+        Cause::NoEngine => 1,
+        Cause::OneTooLarge(_) => 2,
+        Cause::TooMuchTime => 3,
+        Cause::TooMuchMemory => 4,
+        Cause::TooManyReplicas => 5,
+        Cause::NoArrangement => 6,
     }
-    if 0 < a.named {
+}
+
+// The number of a cause, which `cause_number` must say too; 9 where it says another. And the type that it names.
+fn say_cause(rt: &HostRuntime, c: Cause) {
+    let number = named_number(c);
+    say(rt, b" cause");
+    say_also(
+        rt,
+        if cause_number(c) == number {
+            usize::from(number)
+        } else {
+            9
+        },
+    );
+    if let Cause::OneTooLarge(t) = c {
         say(rt, b" type");
-        say_also(rt, a.named);
+        say_also(rt, t);
     }
-    if a.table == AS_LENT {
-        say(rt, b" lent");
-    } else {
-        say_also(rt, a.table);
+}
+
+// What a call told, and what it left in the table.
+fn say_told(rt: &HostRuntime, told: Told) {
+    match told.answer {
+        Ok(c) => say_cause(rt, c),
+        Err(why) => {
+            say(rt, b" refused");
+            say_also(rt, code_of(Err(why)));
+        }
+    }
+    match told.left {
+        Left::AsLent => say(rt, b" lent"),
+        Left::Front(number) => say_also(rt, number),
+        Left::ChangedPast => say(rt, b" CHANGED PAST"),
     }
     say(rt, b" |");
 }
 
-fn say_file(rt: &HostRuntime, c: Case) {
-    let given = c.given;
-    let lent = c.lent;
-    say_told(rt, calls::plan_told(given, lent));
-    say_also(rt, calls::planned(given, lent));
+fn say_file(rt: &HostRuntime, file: &[u8], lent: Lengths) {
+    say_told(rt, calls::plan_told(file, lent));
+    say_also(rt, code_of(calls::planned(file, lent)));
 }
 
-fn say_board(rt: &HostRuntime, c: Case) {
-    let given = c.given;
-    let lent = c.lent;
-    say_told(rt, calls::room_told(given, c.newcomer, lent));
-    say_also(rt, calls::admitted(given, c.newcomer, lent));
-    say_also(rt, calls::seated(given, c.newcomer, lent));
+fn say_board(rt: &HostRuntime, b: Board, newcomer: usize, lent: Lengths) {
+    say_told(rt, calls::room_told(b, newcomer, lent));
+    say_also(rt, code_of(calls::admitted(b, newcomer, lent)));
+    say_also(rt, code_of(calls::seated(b, newcomer, lent)));
 }
 
-fn say_case(rt: &HostRuntime, name: &[u8], c: Case) {
-    say(rt, name);
+pub fn say_case(rt: &HostRuntime, line: &[u8]) {
+    let mut words = Words::of(line);
+    say(rt, words.word());
     say(rt, b":");
-    if c.board {
-        say_board(rt, c);
+    let on_board = words.letter() == b'b';
+    let given = words.bytes();
+    let newcomer = words.number();
+    let lent = Lengths {
+        rows: words.number(),
+        predecessors: words.number(),
+    };
+    if on_board {
+        say_board(rt, board_in(given.as_slice()), newcomer, lent);
     } else {
-        say_file(rt, c);
+        say_file(rt, given.as_slice(), lent);
     }
     say(rt, b"\n");
-}
-
-// All cases of the text: there are fewer of them than bytes.
-pub fn say_cases(rt: &HostRuntime, text: &[u8]) {
-    let mut at: usize = 0;
-    for line in 0..text.len() {
-        if at < text.len() {
-            let c = text::case_at(text, at);
-            say_case(rt, part(text, at, c.named), c);
-            at = c.next;
-        }
-    }
 }

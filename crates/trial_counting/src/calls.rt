@@ -2,18 +2,19 @@
 ghost use Rattle.system.specs.Layout.{read_file};
 ghost use Rattle.counting.specs.Meaning.{CountPromises};
 
-use counting::CountAnswer;
+use counting::Counts;
 use counting_code::count_assignments;
-use trial::files::first_of;
-use trial::words::Bytes;
+use std::array;
+use system::Refusal;
+use trial::lent::{changed_end, front_mut};
 
 // The entries of the whole part: a few more than any system needs.
-pub const LONG: usize = 8200;
+const LONG: usize = 8200;
 
 // What a count answered, and the place from which on the whole part is as it was.
 #[derive(Clone, Copy)]
 pub struct Called {
-    pub answer: CountAnswer,
+    pub answer: Result<Counts, Refusal>,
     pub kept: usize,
 }
 
@@ -23,47 +24,20 @@ fn dirt(i: usize) -> u64 {
     18446744073709551615 - step * 40503
 }
 
-fn dirty_part() -> [u64; LONG] {
-    let mut part: [u64; LONG] = [0; LONG];
-    for i in 0..LONG {
-        part[i] = dirt(i);
-    }
-    part
-}
-
-// The place from which on every entry is as it was.
-fn kept_from(part: [u64; LONG]) -> usize {
-    let mut from: usize = 0;
-    for i in 0..LONG {
-        if part[i] != dirt(i) {
-            from = i + 1;
-        }
-    }
-    from
-}
-
 // The call with all that it promises, of every file and every part: a contract that said it of some alone would not prove this.
-fn as_promised(file: &[u8], part: &mut [u64]) -> CountAnswer
+fn as_promised(file: &[u8], part: &mut [u64]) -> Result<Counts, Refusal>
     ensures { CountPromises (read_file file.now) part.old result part.new }
 {
     count_assignments(file, part)
 }
 
-// The count over the first entries of the part, or all where it has fewer.
-fn count_over(file: &[u8], part: &mut [u64], lent: usize) -> CountAnswer {
-    if lent < part.len() {
-        return as_promised(file, &mut part[0..lent]);
-    }
-    as_promised(file, part)
-}
-
-// The assignments of a file counted, with so many entries lent.
-pub fn counted(f: Bytes, lent: usize) -> Called {
-    let file = f.bytes;
-    let mut part = dirty_part();
-    let answer = count_over(first_of(&file, f.size), &mut part, lent);
+// The assignments of a file counted, with so many entries of the part lent, or all where it has fewer.
+pub fn counted(file: &[u8], lent: usize) -> Called {
+    let old: [u64; LONG] = array::from_fn(dirt);
+    let mut part = old;
+    let answer = as_promised(file, front_mut(&mut part, lent));
     Called {
         answer,
-        kept: kept_from(part),
+        kept: changed_end(&part, &old),
     }
 }

@@ -1,44 +1,14 @@
 // The cases as they stand in the text, a word for each part, and a line for each.
 use crate::{calls, one_by_one};
 use brute::recovery::columns_of;
-use counting::{CountAnswer, Counts};
-use std::num::wrapping_add_usize;
+use counting::Counts;
 use system::{Refusal, System};
-use trial::files::{first_of, reading_of};
+use trial::cases::Words;
+use trial::files::reading_of;
 use trial::say::{say, say_also};
-use trial::words::{Bytes, after, bytes_in, number_in, part, word_end};
 
 // The bytes of the text that are read at most.
 pub const TEXT_BYTES: usize = 65536;
-
-// A case: where its name ends, its file, the entries lent, and where the next case starts.
-#[derive(Clone, Copy)]
-struct Case {
-    named: usize,
-    file: Bytes,
-    lent: usize,
-    next: usize,
-}
-
-// The case that starts at a place.
-fn case_at(text: &[u8], start: usize) -> Case {
-    let named = word_end(text, start);
-    let filed = word_end(text, after(named));
-    let ended = word_end(text, after(filed));
-    Case {
-        named,
-        file: bytes_in(text, after(named), filed),
-        lent: number_in(text, after(filed), ended),
-        next: after(ended),
-    }
-}
-
-// The system of a file, as the trial reads it.
-fn system_of(f: Bytes) -> System {
-    let file = f.bytes;
-    let r = reading_of(first_of(&file, f.size));
-    r.system
-}
 
 // Two numbers, one of the other.
 fn say_of(rt: &HostRuntime, good: usize, total: usize) {
@@ -51,13 +21,12 @@ fn say_of(rt: &HostRuntime, good: usize, total: usize) {
 fn say_counts(rt: &HostRuntime, y: System, c: Counts, kept: usize) {
     say_of(rt, c.good as usize, c.total as usize);
     let columns = columns_of(y);
-    if kept <= wrapping_add_usize(columns, columns) {
+    if kept <= columns.wrapping_add(columns) {
         say(rt, b" kept");
     } else {
         say(rt, b" spoiled");
     }
-    let gone = one_by_one::assignments(y);
-    if gone.through {
+    if let Some(gone) = one_by_one::assignments(y) {
         say(rt, b", one by one");
         say_of(rt, gone.good, gone.total);
     }
@@ -82,27 +51,17 @@ fn say_refused(rt: &HostRuntime, r: Refusal, kept: usize) {
     }
 }
 
-fn say_case(rt: &HostRuntime, name: &[u8], c: Case) {
-    let file = c.file;
-    let called = calls::counted(file, c.lent);
-    let answer = called.answer;
+// A case: its name, its file, and the entries lent.
+pub fn say_case(rt: &HostRuntime, line: &[u8]) {
+    let mut words = Words::of(line);
+    let name = words.word();
+    let file = words.bytes();
+    let called = calls::counted(file.as_slice(), words.number());
     say(rt, name);
     say(rt, b":");
-    match answer {
-        CountAnswer::Counted(counts) => say_counts(rt, system_of(file), counts, called.kept),
-        CountAnswer::Refused(r) => say_refused(rt, r, called.kept),
+    match called.answer {
+        Ok(counts) => say_counts(rt, reading_of(file.as_slice()).system, counts, called.kept),
+        Err(r) => say_refused(rt, r, called.kept),
     }
     say(rt, b"\n");
-}
-
-// All cases of the text: there are fewer of them than bytes.
-pub fn say_cases(rt: &HostRuntime, text: &[u8]) {
-    let mut at: usize = 0;
-    for line in 0..text.len() {
-        if at < text.len() {
-            let c = case_at(text, at);
-            say_case(rt, part(text, at, c.named), c);
-            at = c.next;
-        }
-    }
 }

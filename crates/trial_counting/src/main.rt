@@ -4,14 +4,12 @@
 // What is expected was computed apart from the code, by a model of documents 01 and 02.
 #![tactic(auto)]
 
-use trial::input::read_full;
+use trial::cases::each_case;
 
 mod calls;
 mod lines;
 mod one_by_one;
 
 fn main(rt: HostRuntime) {
-    let mut input = [0u8; lines::TEXT_BYTES];
-    let read = read_full(&rt, &mut input);
-    lines::say_cases(&rt, &input[..read]);
+    each_case::<{ lines::TEXT_BYTES }, _>(&rt, |line| lines::say_case(&rt, line));
 }

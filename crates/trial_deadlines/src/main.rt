@@ -10,15 +10,16 @@
 // instant, idle ticks by the work that has come and not been done, whosever it is, and plans by document 01's recovery.
 #![tactic(auto)]
 
-use trial::input::read_full;
+use trial::cases::each_case;
 
 mod apart;
 mod calls;
 mod jobs;
 mod lines;
 
+// The bytes of the text that are read at most.
+const TEXT_BYTES: usize = 131072;
+
 fn main(rt: HostRuntime) {
-    let mut input = [0u8; lines::TEXT_BYTES];
-    let read = read_full(&rt, &mut input);
-    lines::say_cases(&rt, &input[..read]);
+    each_case::<TEXT_BYTES, _>(&rt, |line| lines::say_case(&rt, line));
 }

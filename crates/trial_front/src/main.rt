@@ -5,71 +5,29 @@
 // bytes, and whether all past them are 0.
 #![tactic(auto)]
 
-use front::{read_front, read_joined, read_watched};
-
-// The first n bytes, all of them where there are fewer.
-fn first_of(bytes: &[u8], n: usize) -> &[u8] {
-    if n <= bytes.len() {
-        &bytes[0..n]
-    } else {
-        bytes
-    }
-}
-
-// The bytes from a place on are 0.
-fn zero_from(bytes: &[u8], start: usize) -> bool {
-    let mut zero = true;
-    for i in 0..bytes.len() {
-        if start <= i {
-            zero = zero & (bytes[i] == 0);
-        }
-    }
-    zero
-}
+use front::{Front, read_front, read_joined, read_watched};
 
 fn say(rt: &HostRuntime, text: &[u8]) {
     let _ = rt.write_all(text);
 }
 
-fn say_number(rt: &HostRuntime, n: usize) {
-    let _ = rt.print(n);
-}
-
-fn say_read(rt: &HostRuntime, bytes: &[u8], read: usize) {
-    say_number(rt, read);
+fn say_read<const N: usize>(rt: &HostRuntime, front: Front<N>) {
+    let _ = rt.print(front.read);
     say(rt, b" read\n");
-    say(rt, first_of(bytes, read));
-    if zero_from(bytes, read) {
+    say(rt, front.as_slice());
+    if front.bytes[front.read..].iter().all(|b| *b == 0) {
         say(rt, b"|0 past them\n");
     } else {
         say(rt, b"|not 0 past them\n");
     }
 }
 
-fn say_front(rt: &HostRuntime) {
-    let front = read_front(rt);
-    let bytes = front.bytes;
-    say_read(rt, &bytes, front.read);
-}
-
-fn say_watched(rt: &HostRuntime) {
-    let front = read_watched(rt);
-    let bytes = front.bytes;
-    say_read(rt, &bytes, front.read);
-}
-
-fn say_joined(rt: &HostRuntime) {
-    let joined = read_joined(rt);
-    let bytes = joined.bytes;
-    say_read(rt, &bytes, joined.read);
-}
-
 fn main(rt: HostRuntime) {
-    say_front(&rt);
-    say_watched(&rt);
-    say_joined(&rt);
-    say_joined(&rt);
-    say_joined(&rt);
-    say_watched(&rt);
-    say_front(&rt);
+    say_read(&rt, read_front(&rt));
+    say_read(&rt, read_watched(&rt));
+    say_read(&rt, read_joined(&rt));
+    say_read(&rt, read_joined(&rt));
+    say_read(&rt, read_joined(&rt));
+    say_read(&rt, read_watched(&rt));
+    say_read(&rt, read_front(&rt));
 }

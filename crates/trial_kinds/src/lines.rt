@@ -12,220 +12,185 @@
 //   whether an engine is used there or not; then whether `write_listing` of that plan left all bytes past those written as they were, and what it wrote. Its
 // file has one right plan alone;
 // - s: as p, and whether plans of the same file over parts that held other things, and into lists of 16 and 17 records, have the same answer and the same list.
-use crate::lent::{After, Lengths, called};
-use crate::plans::{Front, later_kept};
+use crate::judge::Fault;
+use crate::lent::{Lent, MOST, over_dirty, planned_over};
 use crate::{again, judge, search, text, whole};
 use brute::recovery;
-use system::{Answer, System};
-use table_code::columns_needed;
-use trial::files::{first_of, reading_of};
-use trial::words::{Bytes, after, byte_of, bytes_in, line_end, number_in, part, word_end};
-use trial::{say, systems};
+use planner_code::plan_of;
+use system::{Answer, Refusal, System};
+use table_code::{columns_needed, fill_table};
+use trial::cases::Words;
+use trial::files::reading_of;
+use trial::lent::{Lengths, front};
+use trial::say;
+use trial_records::Listed;
 
-// The bytes of the text that are read at most.
-pub const TEXT_BYTES: usize = 262144;
-
-// A case: where its name ends, its kind, its file, what it lends, and where the next case starts.
+// What is done with the file of a case.
 #[derive(Clone, Copy)]
-struct Case {
-    named: usize,
-    kind: u8,
-    file: Bytes,
-    lent: Lengths,
-    next: usize,
+enum Kind {
+    Plan,
+    PlanAgain,
+    Fill,
+    Columns,
+    Listing,
+    Whole,
 }
 
-// The case that starts at a place.
-fn case_at(text: &[u8], at: usize) -> Case {
-    let named = word_end(text, at);
-    let kind = word_end(text, after(named));
-    let filed = word_end(text, after(kind));
-    let rows = word_end(text, after(filed));
-    let predecessors = word_end(text, after(rows));
-    let ended = line_end(text, after(predecessors));
-    Case {
-        named,
-        kind: byte_of(text, after(named)),
-        file: bytes_in(text, after(kind), filed),
-        lent: Lengths {
-            rows: number_in(text, after(filed), rows),
-            predecessors: number_in(text, after(rows), predecessors),
-            records: number_in(text, after(predecessors), ended),
-        },
-        next: after(ended),
+impl From<u8> for Kind {
+    fn from(letter: u8) -> Kind {
+        match letter {
+            b'c' => Kind::Columns,
+            b'f' => Kind::Fill,
+            b'l' => Kind::Listing,
+            b's' => Kind::PlanAgain,
+            b'w' => Kind::Whole,
+            _ => Kind::Plan,
+        }
     }
 }
 
 // The entries of both parts from this place on must be as they were, and none before it: a refusal but 12 changes nothing.
-fn free_to(y: System, code: usize) -> usize {
-    if (code == 112) | (code < 100) | (999 < code) {
-        return recovery::columns_of(y);
-    }
-    0
-}
-
-// The records that the list may have changed: those of a plan.
-fn used_by(answer: Answer) -> usize {
+fn free_to(y: System, answer: Answer) -> usize {
     match answer {
-        Answer::Number(n) => n,
-        Answer::Accepted => 0,
-        Answer::Refused(r) => 0,
+        Ok(_) | Err(Refusal::Input(12)) => recovery::columns_of(y),
+        Err(_) => 0,
     }
 }
 
-// What may not be changed is as it was. Filling leaves the list.
-fn say_kept(rt: &HostRuntime, y: System, c: After, used: usize) {
-    let front = c.front;
-    let answer = front.answer;
-    let list = front.list;
-    if free_to(y, say::code_of(answer)) < c.kept {
-        say::say(rt, b" CHANGED PARTS");
-    } else if later_kept(list, used) {
-        say::say(rt, b" kept");
-    } else {
-        say::say(rt, b" CHANGED LIST");
+// What may not be changed is as it was, in the parts and in the list.
+fn say_kept(rt: &HostRuntime, parts: bool, list: bool) {
+    match (parts, list) {
+        (false, _) => say::say(rt, b" CHANGED PARTS"),
+        (true, false) => say::say(rt, b" CHANGED LIST"),
+        (true, true) => say::say(rt, b" kept"),
     }
 }
 
 // What is wrong with a plan.
-fn say_fault(rt: &HostRuntime, fault: usize) {
-    match fault {
-        0 => say::say(rt, b" right"),
-        1 => say::say(rt, b" WRONG NUMBER"),
-        2 => say::say(rt, b" HOLDS NOTHING"),
-        3 => say::say(rt, b" WRONG SUMS"),
-        4 => say::say(rt, b" DOES NOT FIT"),
-        _ => say::say(rt, b" NOT ALL"),
+fn say_judged(rt: &HostRuntime, judged: Result<(), Fault>) {
+    match judged {
+        Ok(()) => say::say(rt, b" right"),
+        Err(Fault::Number) => say::say(rt, b" WRONG NUMBER"),
+        Err(Fault::Nothing) => say::say(rt, b" HOLDS NOTHING"),
+        Err(Fault::Sums) => say::say(rt, b" WRONG SUMS"),
+        Err(Fault::Room) => say::say(rt, b" DOES NOT FIT"),
+        Err(Fault::Missing) => say::say(rt, b" NOT ALL"),
     }
 }
 
 // The fewest engines over all assignments.
 fn say_best(rt: &HostRuntime, y: System) {
-    let best = search::best_of(y);
     say::say(rt, b" fewest");
-    if best == search::UNTRIED {
-        say::say(rt, b" untried");
-        return;
+    match search::best_of(y) {
+        Ok(Some(best)) => {
+            say::say_also(rt, best.all);
+            say::say_also(rt, best.second);
+        }
+        Ok(None) => say::say(rt, b" none"),
+        Err(search::Untried) => say::say(rt, b" untried"),
     }
-    if search::NONE <= best {
-        say::say(rt, b" none");
-        return;
-    }
-    say::say_also(rt, best / 32);
-    say::say_also(rt, best % 32);
 }
 
 // A plan, where the file was read by crate `trial`.
-fn say_planned(rt: &HostRuntime, y: System, front: Front) {
-    let answer = front.answer;
-    let list = front.list;
-    if let Answer::Number(used) = answer {
+fn say_planned(rt: &HostRuntime, y: System, listed: &Listed<MOST>) {
+    let records = listed.records();
+    if let Ok(Some(_)) = listed.answer {
         say::say(rt, b" second");
-        say::say_also(rt, judge::second_in(y, list, used));
-        say_fault(rt, judge::plan_fault(y, list, used));
+        say::say_also(rt, judge::second_in(y, records));
+        say_judged(rt, judge::judged(y, records));
     }
-    let code = say::code_of(answer);
-    if (code == 112) | (999 < code) {
+    if let Ok(Some(_)) | Err(Refusal::Input(12)) = listed.answer {
         say_best(rt, y);
     }
 }
 
-// A plan or a fill, and what it left.
-fn say_call(rt: &HostRuntime, kind: u8, file: &[u8], n: Lengths) {
-    let c = called(kind, file, n);
-    let read = reading_of(file);
-    let y = read.system;
-    let front = c.front;
-    let answer = front.answer;
-    say::say_answer(rt, answer);
-    if kind == b'f' {
-        say_kept(rt, y, c, 0);
-    } else {
-        say_planned(rt, y, front);
-        say_kept(rt, y, c, used_by(answer));
+// A plan, and what it left.
+fn say_plan(rt: &HostRuntime, file: &[u8], n: Lent, again: bool) {
+    let y = reading_of(file).system;
+    let left = planned_over(file, n);
+    let listed = left.answered;
+    say::say_answer(rt, listed.answer);
+    say_planned(rt, y, &listed);
+    say_kept(
+        rt,
+        left.kept_from(free_to(y, listed.answer)),
+        listed.later_kept(),
+    );
+    if again {
+        again::say_same(rt, file, n, &listed);
     }
-    if kind == b's' {
-        again::say_same(rt, file, n, front);
-    }
+    say::say(rt, b"\n");
+}
+
+// Filling alone, and what it left.
+fn say_fill(rt: &HostRuntime, file: &[u8], n: Lengths) {
+    let y = reading_of(file).system;
+    let left = over_dirty(n, |rows, predecessors| {
+        fill_table(file, rows, predecessors)
+    });
+    say::say_answer(rt, left.answered);
+    say_kept(rt, left.kept_from(free_to(y, left.answered)), true);
     say::say(rt, b"\n");
 }
 
 // A plan by value, whole.
 fn say_whole(rt: &HostRuntime, file: &[u8], n: Lengths) {
-    let w = whole::planned(file, n);
-    let read = reading_of(file);
-    let y = read.system;
-    let plan = w.plan;
-    let answer = plan.answer;
-    say::say_answer(rt, answer);
+    let y = reading_of(file).system;
+    let left = over_dirty(n, |rows, predecessors| plan_of(file, rows, predecessors));
+    let plan = left.answered;
+    say::say_answer(rt, plan.answer);
     say::say(rt, b" used");
     say::say_also(rt, plan.used);
     say::say(rt, b" types");
     say::say_also(rt, plan.typecount);
-    if free_to(y, say::code_of(answer)) < w.kept {
-        say::say(rt, b" CHANGED PARTS");
-    } else {
-        say::say(rt, b" kept");
-    }
+    say_kept(rt, left.kept_from(free_to(y, plan.answer)), true);
     say::say(rt, b"\n");
-    whole::say_places(rt, plan);
-    whole::say_lines(rt, plan);
+    whole::say_places(rt, &plan);
+    whole::say_lines(rt, &plan);
 }
 
 fn say_columns(rt: &HostRuntime, file: &[u8]) {
-    let answer = columns_needed(file);
-    say::say_answer(rt, answer);
+    say::say_answer(rt, columns_needed(file));
     say::say(rt, b"\n");
 }
 
 // A listing: whole, or judged where it is of two kinds.
-fn say_text(rt: &HostRuntime, y: System, judged: bool, out: &[u8; 4096], written: usize) {
-    if judged {
-        text::say_judged(rt, y, part(out, 0, written));
+fn say_listing(rt: &HostRuntime, file: &[u8]) {
+    let read = reading_of(file);
+    let mut out = io::buffer();
+    let written = listing_code::listing_of(file, &mut out);
+    let listing = front(&out, written);
+    if read.refusal == 0 && read.system.second.is_some() {
+        text::say_judged(rt, read.system, listing);
         say::say(rt, b"\n");
     } else {
         say::say(rt, b"\n");
-        say::say(rt, part(out, 0, written));
+        say::say(rt, listing);
     }
-}
-
-fn say_listing(rt: &HostRuntime, file: &[u8]) {
-    let read = reading_of(file);
-    let y = read.system;
-    let second = y.second;
-    let judged = (read.refusal == 0) & systems::two_kinds(second);
-    let mut out = io::buffer();
-    let written = listing_code::listing_of(file, &mut out);
-    say_text(rt, y, judged, &out, written);
 }
 
 // What follows the name.
-fn say_kind(rt: &HostRuntime, kind: u8, file: &[u8], n: Lengths) {
+fn say_kind(rt: &HostRuntime, kind: Kind, file: &[u8], n: Lent) {
     match kind {
-        b'c' => say_columns(rt, file),
-        b'l' => say_listing(rt, file),
-        b'w' => say_whole(rt, file, n),
-        _ => say_call(rt, kind, file, n),
+        Kind::Plan => say_plan(rt, file, n, false),
+        Kind::PlanAgain => say_plan(rt, file, n, true),
+        Kind::Fill => say_fill(rt, file, n.entries),
+        Kind::Columns => say_columns(rt, file),
+        Kind::Listing => say_listing(rt, file),
+        Kind::Whole => say_whole(rt, file, n.entries),
     }
 }
 
-fn say_case(rt: &HostRuntime, name: &[u8], c: Case) {
-    let given = c.file;
-    let bytes = given.bytes;
-    let lent = c.lent;
-    say::say(rt, name);
+// A case, from its line.
+pub fn say_case(rt: &HostRuntime, line: &[u8]) {
+    let mut words = Words::of(line);
+    say::say(rt, words.word());
     say::say(rt, b":");
-    say_kind(rt, c.kind, first_of(&bytes, given.size), lent);
-}
-
-// All cases of the text: there are fewer of them than bytes.
-pub fn say_cases(rt: &HostRuntime, text: &[u8]) {
-    let mut at: usize = 0;
-    for line in 0..text.len() {
-        if at < text.len() {
-            let c = case_at(text, at);
-            say_case(rt, part(text, at, c.named), c);
-            at = c.next;
-        }
-    }
+    let kind = Kind::from(words.letter());
+    let file = words.bytes();
+    let rows = words.number();
+    let predecessors = words.number();
+    let entries = Lengths { rows, predecessors };
+    let records = words.number();
+    say_kind(rt, kind, file.as_slice(), Lent { entries, records });
 }

@@ -19,21 +19,18 @@
 // of documents 01 and 02.
 #![tactic(auto)]
 
-use trial::input::read_full;
+use trial::cases::each_case;
 
 mod again;
 mod drawn;
 mod judge;
 mod lent;
 mod lines;
-mod plans;
 mod search;
 mod text;
 mod whole;
 
 fn main(rt: HostRuntime) {
-    let mut input = [0u8; lines::TEXT_BYTES];
-    let read = read_full(&rt, &mut input);
-    lines::say_cases(&rt, &input[..read]);
+    each_case::<262144, _>(&rt, |line| lines::say_case(&rt, line));
     drawn::say_spreads(&rt);
 }

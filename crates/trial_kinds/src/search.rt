@@ -1,183 +1,141 @@
 // Every assignment of up to eight single instances to the engines of a card, tried one after the other, where there are at most 65,536 of them.
-ghost use Rattle.std.specs.Prelude.{◌<◌, ◌≤◌};
-
 use crate::judge;
-use brute::search::{Odometer, counted_up};
-use std::num::{wrapping_add_u16, wrapping_add_usize};
+use brute::search::counted_up;
+use std::array;
 use system::{System, TYPE_LIMIT};
-use trial::systems::wide;
 
-// What stands for the engines of an assignment: 32 for each, and 1 for each of the second kind. So the least of these is of the fewest engines, and among
+// The engines that an assignment needs: those of both kinds, and those of the second kind among them. The least of these is of the fewest engines, and among
 // those of the fewest of the second kind.
-pub const EACH: usize = 32;
-
-// No good assignment exists.
-pub const NONE: usize = 1000;
-
-// More assignments than are tried.
-pub const UNTRIED: usize = 1001;
-
-// Which sets of instances fit an engine of the first kind, and of the second: a set is a number of eight bits, one for each instance.
-#[derive(Clone, Copy)]
-struct Fits {
-    first: [bool; 256],
-    second: [bool; 256],
+#[derive(Clone, Copy, PartialEq, Eq, PartialOrd, Ord)]
+pub struct Engines {
+    pub all: usize,
+    pub second: usize,
 }
 
-// The type, counted from 0, of single instance j, where those of type 1 come first: 6 where there are fewer.
-fn type_of(y: System, j: usize) -> usize {
-    let types = y.types;
-    let mut before: usize = 0;
-    for t in 0..TYPE_LIMIT {
-        let task = types[t];
-        before = wrapping_add_usize(before, wide(task.ceiling));
+// There are more assignments than are tried.
+#[derive(Clone, Copy)]
+pub struct Untried;
+
+// The types, counted from 0, of the first eight single instances, of which those of type 1 come first; None where there are fewer.
+type Instances = [Option<usize>; 8];
+
+// A set of the first eight instances is a number of eight bits, one for each of them.
+const BITS: [u8; 8] = [1, 2, 4, 8, 16, 32, 64, 128];
+
+// Whether a set of instances fits an engine of the first kind, and of the second.
+#[derive(Clone, Copy)]
+struct Fit {
+    first: bool,
+    second: bool,
+}
+
+// The type, counted from 0, of the single instance at index j.
+fn type_of(y: System, j: usize) -> Option<usize> {
+    let mut before = 0usize;
+    for (t, task) in y.types.iter().enumerate() {
+        before = before.wrapping_add(usize::from(task.ceiling));
         if j < before {
-            return t;
+            return Some(t);
         }
     }
-    6
+    None
 }
 
-// The types of the first eight.
-fn types_in(y: System) -> [usize; 8] {
-    let mut types: [usize; 8] = [6; 8];
-    for j in 0..8 {
-        types[j] = type_of(y, j);
+// One instance more of the type at index t.
+fn add_one(counts: &mut [u16; TYPE_LIMIT], t: usize) {
+    if let Some(count) = counts.get_mut(t) {
+        *count = count.wrapping_add(1);
     }
-    types
-}
-
-// The bit of an instance.
-fn bit(j: usize) -> usize
-    ensures { (1 ≤ result) × (result ≤ 128) }
-{
-    match j {
-        0 => 1,
-        1 => 2,
-        2 => 4,
-        3 => 8,
-        4 => 16,
-        5 => 32,
-        6 => 64,
-        _ => 128,
-    }
-}
-
-// The counts with one instance more of the type at index t.
-fn with_one(counts: [u16; TYPE_LIMIT], t: usize) -> [u16; TYPE_LIMIT] {
-    if 6 <= t {
-        return counts;
-    }
-    let mut more = counts;
-    more[t] = wrapping_add_u16(counts[t], 1);
-    more
 }
 
 // The counts of a set.
-fn counts_in(types: [usize; 8], set: usize) -> [u16; TYPE_LIMIT] {
-    let mut counts: [u16; TYPE_LIMIT] = [0; TYPE_LIMIT];
-    for j in 0..8 {
-        if set / bit(j) % 2 == 1 {
-            let more = with_one(counts, types[j]);
-            counts = more;
+fn counts_in(instances: Instances, set: u8) -> [u16; TYPE_LIMIT] {
+    let mut counts = [0; TYPE_LIMIT];
+    for (bit, instance) in BITS.iter().zip(&instances) {
+        match instance {
+            Some(t) if set & *bit != 0 => add_one(&mut counts, *t),
+            _ => {}
         }
     }
     counts
 }
 
 // Every set of a card's instances.
-fn fits_in(y: System) -> Fits {
-    let types = types_in(y);
-    let there = wrapping_add_usize(y.engines, 1);
-    let mut first = [false; 256];
-    let mut second = [false; 256];
-    for set in 0..256 {
-        let counts = counts_in(types, set);
-        first[set] = judge::fits_on(y, 1, counts);
-        second[set] = judge::fits_on(y, there, counts);
-    }
-    Fits { first, second }
+fn fits_in(y: System, instances: Instances) -> [Fit; 256] {
+    array::from_fn(|set| {
+        let counts = counts_in(instances, (set % 256) as u8);
+        Fit {
+            first: judge::fits_on(y, 1, counts),
+            second: judge::fits_on(y, y.engines.wrapping_add(1), counts),
+        }
+    })
 }
 
-// The sets on 16 engines under an assignment: instance j, where there is one, is on the engine with the index digits[j].
-fn sets_of(types: [usize; 8], digits: [usize; 8]) -> [usize; 16] {
-    let mut sets: [usize; 16] = [0; 16];
-    for j in 0..8 {
-        if types[j] < 6 {
-            let e = digits[j] % 16;
-            sets[e] = wrapping_add_usize(sets[e], bit(j));
+// The sets on 16 engines under an assignment: an instance is on the engine whose index stands at its place.
+fn sets_of(instances: Instances, assignment: [usize; 8]) -> [u8; 16] {
+    let mut sets = [0; 16];
+    for ((bit, instance), e) in BITS.iter().zip(&instances).zip(&assignment) {
+        if instance.is_some() {
+            sets[*e % 16] |= *bit;
         }
     }
     sets
 }
 
-// What an engine adds, by its set; NONE where the set does not fit.
-fn added(fits: bool, set: usize, cost: usize) -> usize {
-    if set == 0 {
-        return 0;
+// An engine, of the first kind or of the second, holds a set.
+fn holds(fits: &[Fit; 256], first: bool, set: u8) -> bool {
+    let fit = fits[usize::from(set)];
+    if first { fit.first } else { fit.second }
+}
+
+// The engines that an assignment needs, of which the first m are of the first kind; None where one does not hold its set.
+fn needed(fits: &[Fit; 256], sets: [u8; 16], m: usize) -> Option<Engines> {
+    if !sets
+        .iter()
+        .enumerate()
+        .all(|(e, set)| holds(fits, e < m, *set))
+    {
+        return None;
     }
-    if fits { cost } else { NONE }
+    Some(Engines {
+        all: sets.iter().filter(|set| **set != 0).count(),
+        second: sets.iter().skip(m).filter(|set| **set != 0).count(),
+    })
 }
 
-// What stands for the engines of an assignment, of which the first m are of the first kind; NONE or more where one does not fit.
-fn cost_of(first: &[bool; 256], second: &[bool; 256], sets: [usize; 16], m: usize) -> usize {
-    let mut cost: usize = 0;
-    for e in 0..16 {
-        let set = sets[e] % 256;
-        if e < m {
-            cost = wrapping_add_usize(cost, added(first[set], set, EACH));
-        } else {
-            cost = wrapping_add_usize(cost, added(second[set], set, EACH + 1));
-        }
+// The less of two, where both are good.
+fn least(a: Option<Engines>, b: Option<Engines>) -> Option<Engines> {
+    match (a, b) {
+        (Some(one), Some(other)) => Some(one.min(other)),
+        (one, other) => one.or(other),
     }
-    cost
 }
 
-fn least(a: usize, b: usize) -> usize {
-    if a < b { a } else { b }
-}
-
-// One digit for each instance, below the number of engines; the others stay 0.
-fn bases_of(types: [usize; 8], engines: usize) -> [usize; 8] {
-    let mut bases: [usize; 8] = [1; 8];
-    for j in 0..8 {
-        if types[j] < 6 {
-            bases[j] = engines;
-        }
-    }
-    bases
-}
-
-// The least over all assignments, NONE where none is good.
-fn least_tried(y: System, types: [usize; 8]) -> usize {
-    let fits = fits_in(y);
-    let first = fits.first;
-    let second = fits.second;
-    let bases = bases_of(types, judge::engines_in(y));
-    let mut at = Odometer {
-        digits: [0; 8],
-        wrapped: false,
-    };
-    let mut best = NONE;
-    for turn in 0..65536usize {
-        let digits = at.digits;
+// The least over all assignments, None where none is good.
+fn least_tried(y: System, instances: Instances) -> Result<Option<Engines>, Untried> {
+    let engines = judge::engines_in(y);
+    let fits = fits_in(y, instances);
+    let bases = instances.map(|instance| if instance.is_some() { engines } else { 1 });
+    let mut assignment = [0; 8];
+    let mut best = None;
+    for _ in 0..65536 {
         best = least(
             best,
-            cost_of(&first, &second, sets_of(types, digits), y.engines),
+            needed(&fits, sets_of(instances, assignment), y.engines),
         );
-        let next = counted_up(digits, bases);
-        at = next;
-        if at.wrapped {
-            return best;
+        let next = counted_up(assignment, bases);
+        if next.wrapped {
+            return Ok(best);
         }
+        assignment = next.digits;
     }
-    UNTRIED
+    Err(Untried)
 }
 
-// What stands for the engines of the best plan of all instances of a card.
-pub fn best_of(y: System) -> usize {
-    if type_of(y, 8) < 6 {
-        return UNTRIED;
+// The engines of the best plan of all instances of a card, None where there is no plan.
+pub fn best_of(y: System) -> Result<Option<Engines>, Untried> {
+    if type_of(y, 8).is_some() {
+        return Err(Untried);
     }
-    least_tried(y, types_in(y))
+    least_tried(y, array::from_fn(|j| type_of(y, j)))
 }

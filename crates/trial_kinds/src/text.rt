@@ -1,171 +1,100 @@
 // A listing of a plan of two kinds of engine: taken apart into records, which are judged as a plan, and held to what is written for these records, byte by
 // byte.
 use crate::judge;
-use crate::judge::MOST;
-use crate::plans::old_list;
+use crate::lent::MOST;
 use loads::EngineLoad;
 use planner::EngineRecord;
-use std::num::wrapping_add_usize;
 use system::{System, TYPE_LIMIT};
+use trial::cases::Words;
 use trial::say;
-use trial::systems::wide;
-use trial::words::{after, byte_of, number_in, word_end};
+use trial_records::OLD;
 
-// A record, and where the next line starts.
-#[derive(Clone, Copy)]
-struct Taken {
-    record: EngineRecord,
-    at: usize,
+// The number after the next word, which says what it is.
+fn named(words: &mut Words<'_>) -> usize {
+    words.word();
+    words.number()
 }
 
-// How far a text is what it should be, and whether it is so far.
-#[derive(Clone, Copy)]
-struct Match {
-    at: usize,
-    same: bool,
-}
-
-// Where the word after that at a place starts, and the number of a word.
-fn next_word(text: &[u8], at: usize) -> usize {
-    after(word_end(text, at))
-}
-
-fn number_at(text: &[u8], at: usize) -> usize {
-    number_in(text, at, word_end(text, at))
-}
-
-// The first k counts, each a word, from a place on.
-fn counts_at(text: &[u8], at: usize, k: usize) -> [u16; TYPE_LIMIT] {
-    let mut counts: [u16; TYPE_LIMIT] = [0; TYPE_LIMIT];
-    let mut next = at;
-    for t in 0..TYPE_LIMIT {
-        if t < k {
-            counts[t] = (number_at(text, next) % 65536) as u16;
-            next = next_word(text, next);
-        }
+// The counts of k types.
+fn counts_in(words: &mut Words<'_>, k: usize) -> [u16; TYPE_LIMIT] {
+    let mut counts = [0; TYPE_LIMIT];
+    for count in counts.iter_mut().take(k) {
+        *count = (words.number() % 65536) as u16;
     }
     counts
 }
 
-// The place after the first k words.
-fn past_words(text: &[u8], at: usize, k: usize) -> usize {
-    let mut next = at;
-    for t in 0..TYPE_LIMIT {
-        if t < k {
-            next = next_word(text, next);
-        }
-    }
-    next
-}
-
-// The record of the line that starts at a place: `engine`, its number, `util`, its time, `mem`, its memory, `types`, and k counts.
-fn record_at(text: &[u8], at: usize, k: usize) -> Taken {
-    let number = next_word(text, at);
-    let time = next_word(text, next_word(text, number));
-    let memory = next_word(text, next_word(text, time));
-    let counts = next_word(text, next_word(text, memory));
-    let load = EngineLoad {
-        time: (number_at(text, time) % 4294967296) as u32,
-        memory: (number_at(text, memory) % 4294967296) as u32,
-        counts: counts_at(text, counts, k),
-    };
-    Taken {
-        record: EngineRecord {
-            number: number_at(text, number),
-            load: load,
+// The record of a line: `engine`, its number, `util`, its time, `mem`, its memory, `types`, and k counts.
+fn record_in(words: &mut Words<'_>, k: usize) -> EngineRecord {
+    let number = named(words);
+    let time = (named(words) % 4294967296) as u32;
+    let memory = (named(words) % 4294967296) as u32;
+    words.word();
+    let counts = counts_in(words, k);
+    EngineRecord {
+        number,
+        load: EngineLoad {
+            time,
+            memory,
+            counts,
         },
-        at: past_words(text, counts, k),
     }
 }
 
-// The records of a listing; those past the last one are as they were.
-fn records_in(text: &[u8], k: usize, used: usize) -> [EngineRecord; MOST] {
-    let mut list = old_list();
-    let mut at = past_words(text, 0, 2);
-    for i in 0..MOST {
-        if i < used {
-            let taken = record_at(text, at, k);
-            let r = taken.record;
-            list[i] = r;
-            at = taken.at;
-        }
+// So many records; those past the last one are as they were.
+fn records_in(words: &mut Words<'_>, k: usize, used: usize) -> [EngineRecord; MOST] {
+    let mut list = [OLD; MOST];
+    for record in list.iter_mut().take(used) {
+        *record = record_in(words, k);
     }
     list
 }
 
-// These bytes come next.
-fn with_bytes(text: &[u8], m: Match, bytes: &[u8]) -> Match {
-    let mut same = m.same;
-    for i in 0..bytes.len() {
-        same = same & (byte_of(text, wrapping_add_usize(m.at, i)) == bytes[i]);
-    }
-    Match {
-        at: wrapping_add_usize(m.at, bytes.len()),
-        same,
-    }
+// What follows a word and a number in decimal, where a text starts with them.
+fn after_number<'a>(text: &'a [u8], word: &[u8], n: usize) -> Option<&'a [u8]> {
+    let mut digits = [0; 20];
+    let size = io::decimal(n as u64, &mut digits);
+    text.strip_prefix(word)?.strip_prefix(&digits[..size])
 }
 
-// A word and a number in decimal come next.
-fn with_number(text: &[u8], m: Match, word: &[u8], n: usize) -> Match {
-    let mut digits = [0u8; 20];
-    let k = io::decimal(n as u64, &mut digits);
-    let worded = with_bytes(text, m, word);
-    with_bytes(text, worded, &digits[..k])
-}
-
-// The first k counts come next.
-fn with_counts(text: &[u8], m: Match, counts: [u16; TYPE_LIMIT], k: usize) -> Match {
-    let mut all = m;
-    for t in 0..TYPE_LIMIT {
-        if t < k {
-            let next = with_number(text, all, b" ", wide(counts[t]));
-            all = next;
-        }
+// What follows the line of a record.
+fn after_record<'a>(text: &'a [u8], r: &EngineRecord, k: usize) -> Option<&'a [u8]> {
+    let numbered = after_number(text, b"engine ", r.number)?;
+    let timed = after_number(numbered, b" util ", r.load.time as usize)?;
+    let stored = after_number(timed, b" mem ", r.load.memory as usize)?;
+    let mut rest = stored.strip_prefix(b" types")?;
+    for count in r.load.counts.iter().take(k) {
+        rest = after_number(rest, b" ", usize::from(*count))?;
     }
-    all
+    rest.strip_prefix(b"\n")
 }
 
-// The line of a record comes next.
-fn with_record(text: &[u8], m: Match, r: EngineRecord, k: usize) -> Match {
-    let load = r.load;
-    let counts = load.counts;
-    let numbered = with_number(text, m, b"engine ", r.number);
-    let timed = with_number(text, numbered, b" util ", load.time as usize);
-    let stored = with_number(text, timed, b" mem ", load.memory as usize);
-    let typed = with_bytes(text, stored, b" types");
-    with_bytes(text, with_counts(text, typed, counts, k), b"\n")
-}
-
-// The text is the listing of the first `used` records, and nothing more.
-fn is_listing(text: &[u8], list: [EngineRecord; MOST], k: usize, used: usize) -> bool {
-    let start = Match { at: 0, same: true };
-    let first = with_number(text, start, b"engines ", used);
-    let mut m = with_bytes(text, first, b"\n");
-    for i in 0..MOST {
-        if i < used {
-            let r = list[i];
-            let next = with_record(text, m, r, k);
-            m = next;
-        }
+// What follows the listing of the records.
+fn after_listing<'a>(text: &'a [u8], records: &[EngineRecord], k: usize) -> Option<&'a [u8]> {
+    let mut rest = after_number(text, b"engines ", records.len())?.strip_prefix(b"\n")?;
+    for r in records {
+        rest = after_record(rest, r, k)?;
     }
-    m.same & (m.at == text.len())
+    Some(rest)
 }
 
 // A listing judged: the refusal that it says, or how many engines and how many of the second kind, and what is wrong with it.
 pub fn say_judged(rt: &HostRuntime, y: System, text: &[u8]) {
-    if byte_of(text, 0) == b'r' {
+    let mut words = Words::of(text);
+    let number = named(&mut words);
+    if text.starts_with(b"r") {
         say::say(rt, b" refused");
-        say::say_also(rt, number_at(text, 8));
+        say::say_also(rt, number);
         return;
     }
-    let used = number_at(text, 8);
-    let list = records_in(text, y.typecount, used);
+    let list = records_in(&mut words, y.typecount, number);
+    let records = &list[..number.min(MOST)];
+    let listed = after_listing(text, records, y.typecount).is_some_and(|rest| rest.is_empty());
     say::say(rt, b" engines");
-    say::say_also(rt, used);
+    say::say_also(rt, number);
     say::say(rt, b" second");
-    say::say_also(rt, judge::second_in(y, list, used));
-    let right = judge::plan_fault(y, list, used) == 0;
-    if right & is_listing(text, list, y.typecount, used) {
+    say::say_also(rt, judge::second_in(y, records));
+    if listed && judge::judged(y, records).is_ok() {
         say::say(rt, b" right");
     } else {
         say::say(rt, b" WRONG");

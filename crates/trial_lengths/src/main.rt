@@ -22,12 +22,13 @@
 // 01 and 02.
 #![tactic(auto)]
 
-use trial::input::read_full;
+use trial::cases::each_case;
 
 mod boards;
 mod buffers;
 mod counts;
 mod lent;
+mod letters;
 mod lines;
 mod lists;
 mod opened;
@@ -38,7 +39,5 @@ mod texts;
 mod told;
 
 fn main(rt: HostRuntime) {
-    let mut input = [0u8; lines::TEXT_BYTES];
-    let read = read_full(&rt, &mut input);
-    lines::say_cases(&rt, &input[..read]);
+    each_case::<262144, _>(&rt, |line| lines::say_case(&rt, line));
 }

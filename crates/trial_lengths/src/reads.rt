@@ -4,26 +4,17 @@ use trial::say;
 
 // The first bytes of a file, 0s behind it.
 pub fn front_of(file: &[u8]) -> [u8; FILE_BYTES] {
-    let mut front: [u8; FILE_BYTES] = [0; FILE_BYTES];
-    for i in 0..FILE_BYTES {
-        if i < file.len() {
-            front[i] = file[i];
-        }
+    let mut front = [0; FILE_BYTES];
+    for (byte, given) in front.iter_mut().zip(file) {
+        *byte = *given;
     }
     front
 }
 
-fn say_byte(rt: &HostRuntime, b: u8) {
-    say::say_hex(rt, b);
-}
-
-// The bytes of a sheet or a made file, or of the line of a refusal, at most 512.
-pub fn say_bytes(rt: &HostRuntime, bytes: &[u8]) {
+// The bytes of a sheet or a made file, or of the line of a refusal, at most 512: more than the 307 of the longest file.
+pub fn say_hex(rt: &HostRuntime, bytes: &[u8]) {
     say::say(rt, b" ");
-    for i in 0..512 {
-        if i < bytes.len() {
-            say_byte(rt, bytes[i]);
-        }
+    for byte in bytes.iter().take(512) {
+        say::say_hex(rt, *byte);
     }
-    say::say(rt, b"\n");
 }

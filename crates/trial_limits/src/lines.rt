@@ -11,66 +11,22 @@
 //   what it can before another is put back; the first, one between and the last of sixteen; and an instance that costs nothing and keeps its engine. At the
 // end 4,096
 //   columns; some of these lists over parts of more than 5,000 entries; and three from files that give C and T, which answer as they do without them.
-use crate::lent::Lengths;
 use crate::{calls, openings, plans};
-use trial::files::first_of;
-use trial::words::{Bytes, after, byte_of, bytes_in, line_end, number_in, part, word_end};
+use trial::cases::Words;
+use trial::lent::Lengths;
 
-// The bytes of the text that are read at most.
-pub const TEXT_BYTES: usize = 32768;
-
-// A case: its kind, what it lends, where its text starts and ends, and where the next case starts.
-#[derive(Clone, Copy)]
-struct Case {
-    kind: u8,
-    file: Bytes,
-    lent: Lengths,
-    start: usize,
-    end: usize,
-    next: usize,
-}
-
-// The case that starts at a place.
-fn case_at(text: &[u8], at: usize) -> Case {
-    let kind = word_end(text, at);
-    let filed = word_end(text, after(kind));
-    let rows = word_end(text, after(filed));
-    let predecessors = word_end(text, after(rows));
-    let ended = line_end(text, after(predecessors));
-    Case {
-        kind: byte_of(text, at),
-        file: bytes_in(text, after(kind), filed),
-        lent: Lengths {
-            rows: number_in(text, after(filed), rows),
-            predecessors: number_in(text, after(rows), predecessors),
-        },
-        start: after(predecessors),
-        end: ended,
-        next: after(ended),
-    }
-}
-
-fn say_case(rt: &HostRuntime, text: &[u8], c: Case) {
-    let given = c.file;
-    let bytes = given.bytes;
-    let file = first_of(&bytes, given.size);
-    let kind = c.kind;
-    let lent = c.lent;
+// A case, from its line.
+pub fn say_case(rt: &HostRuntime, line: &[u8]) {
+    let mut words = Words::of(line);
+    let kind = words.letter();
+    let file = words.bytes();
+    let rows = words.number();
+    let predecessors = words.number();
+    let lent = Lengths { rows, predecessors };
+    // The letter chooses here and nowhere else: an enum of three would say it twice more.
     match kind {
-        b'o' => openings::say_opening(rt, text, file),
-        b'p' => plans::say_ways(rt, file, lent),
-        _ => calls::say_script(rt, file, lent, text),
-    }
-}
-
-// All cases of the text: there are fewer of them than bytes.
-pub fn say_cases(rt: &HostRuntime, text: &[u8]) {
-    let mut at: usize = 0;
-    for line in 0..text.len() {
-        if at < text.len() {
-            let c = case_at(text, at);
-            say_case(rt, part(text, c.start, c.end), c);
-            at = c.next;
-        }
+        b'o' => openings::say_opening(rt, words.rest(), file.as_slice()),
+        b'p' => plans::say_ways(rt, file.as_slice(), lent),
+        _ => calls::say_script(rt, file.as_slice(), lent, words.rest()),
     }
 }

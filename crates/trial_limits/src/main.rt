@@ -12,7 +12,7 @@
 // say, of every input.
 #![tactic(auto)]
 
-use trial::input::read_full;
+use trial::cases::each_case;
 
 mod as_promised;
 mod calls;
@@ -22,7 +22,5 @@ mod openings;
 mod plans;
 
 fn main(rt: HostRuntime) {
-    let mut input = [0u8; lines::TEXT_BYTES];
-    let read = read_full(&rt, &mut input);
-    lines::say_cases(&rt, &input[..read]);
+    each_case::<32768, _>(&rt, |line| lines::say_case(&rt, line));
 }

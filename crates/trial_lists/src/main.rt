@@ -2,15 +2,11 @@
 // before 12, and the records past the last used engine are as they were lent. What is expected was computed apart from the code.
 #![tactic(auto)]
 
-ghost use Rattle.std.specs.Prelude.{◌≡◌, ◌≤◌, length};
-
-use brute::{recovery, search};
-use loads::EngineLoad;
-use planner::EngineRecord;
-use planner_code::plan_into;
-use std::num::wrapping_add_usize;
-use system::{Answer, System, TYPE_LIMIT};
+use brute::recovery;
+use system::System;
+use trial::lent::{Lengths, Parts};
 use trial::{files, say, systems};
+use trial_records::{plan_front, say_listed, say_record};
 
 // The most records that are lent: one more than any system has engines.
 const MOST: usize = 17;
@@ -18,113 +14,30 @@ const MOST: usize = 17;
 // The entries of the longest part: as many as any system needs.
 const LONG: usize = 4096;
 
-// What every entry of a part holds before it is lent.
-const OLD: u16 = 7;
+// Both parts before they are lent.
+const OLD: Parts<LONG> = Parts {
+    rows: [7; LONG],
+    predecessors: [7; LONG],
+};
 
 // How many entries of each part are lent.
-#[derive(Clone, Copy)]
-struct Lengths(usize, usize);
-
-// What a plan into a list answers, with the list.
-#[derive(Clone, Copy)]
-struct Front {
-    answer: Answer,
-    list: [EngineRecord; MOST],
+fn lengths(rows: usize, predecessors: usize) -> Lengths {
+    Lengths { rows, predecessors }
 }
 
-// A plan into the first `room` records of a list.
-fn plan_front(
-    file: &[u8],
-    rows: &mut [u16],
-    predecessors: &mut [u16],
-    list: [EngineRecord; MOST],
-    room: usize,
-) -> Front
-    requires { room ≤ 17 }
-    ensures { length result.list ≡ 17 }
-{
-    let mut records = list;
-    let answer = plan_into(file, rows, predecessors, &mut records[..room]);
-    Front {
-        answer: answer,
-        list: records,
-    }
-}
-
-// A list before a plan.
-fn old_list() -> [EngineRecord; MOST] {
-    let load = EngineLoad {
-        time: 7,
-        memory: 7,
-        counts: [7; TYPE_LIMIT],
-    };
-    [EngineRecord { number: 77, load }; MOST]
-}
-
-// The records of a list.
-fn say_records(rt: &HostRuntime, list: [EngineRecord; MOST]) {
-    for i in 0..MOST {
-        let record = list[i];
-        let load = record.load;
-        say::say_also(rt, record.number);
-        say::say_load(rt, load, TYPE_LIMIT);
-    }
-}
-
-// A plan into the first `room` records: its answer, and all records of the list after it.
-fn say_planned(
-    rt: &HostRuntime,
-    file: &[u8],
-    rows: &mut [u16],
-    predecessors: &mut [u16],
-    room: usize,
-) {
-    if MOST < room {
-        return;
-    }
-    let planned = plan_front(file, rows, predecessors, old_list(), room);
-    let answer = planned.answer;
-    let list = planned.list;
-    say::say_answer(rt, answer);
-    say_records(rt, list);
-}
-
-// The same over the first entries of the predecessor part.
-fn say_front(
-    rt: &HostRuntime,
-    file: &[u8],
-    rows: &mut [u16],
-    predecessors: &mut [u16],
-    lent: usize,
-    room: usize,
-) {
-    if lent < predecessors.len() {
-        say_planned(rt, file, rows, &mut predecessors[0..lent], room);
-    } else {
-        say_planned(rt, file, rows, predecessors, room);
-    }
-}
-
-// The entries of a part from `start` on are as they were before.
-fn kept_from(part: &[u16; LONG], start: usize) -> bool {
-    let mut kept = true;
-    for i in 0..LONG {
-        if start <= i {
-            kept = kept & (part[i] == OLD);
-        }
-    }
-    kept
+// As many of either.
+fn both(entries: usize) -> Lengths {
+    lengths(entries, entries)
 }
 
 // What entry 0 of each part holds, 0 and 65,535 where they are filled, and whether the entries past the columns, or all of them, are as they were.
-fn say_table(rt: &HostRuntime, y: System, rows: &[u16; LONG], predecessors: &[u16; LONG]) {
-    let columns = recovery::columns_of(y);
+fn say_table(rt: &HostRuntime, y: System, parts: &Parts<LONG>) {
     say::say(rt, b", table");
-    say::say_also(rt, search::wide(rows[0]));
-    say::say_also(rt, search::wide(predecessors[0]));
-    if kept_from(rows, 0) & kept_from(predecessors, 0) {
+    say::say_also(rt, usize::from(parts.rows[0]));
+    say::say_also(rt, usize::from(parts.predecessors[0]));
+    if parts.kept_from(&OLD, 0) {
         say::say(rt, b", all kept\n");
-    } else if kept_from(rows, columns) & kept_from(predecessors, columns) {
+    } else if parts.kept_from(&OLD, recovery::columns_of(y)) {
         say::say(rt, b", kept past it\n");
     } else {
         say::say(rt, b", changed past it\n");
@@ -134,48 +47,36 @@ fn say_table(rt: &HostRuntime, y: System, rows: &[u16; LONG], predecessors: &[u1
 // A line for a plan over the first entries of two parts: the records that are lent, the answer, all records after it, and the table.
 fn say_list(rt: &HostRuntime, y: System, lent: Lengths, room: usize) {
     let f = files::file_of(y);
-    let bytes = f.bytes;
-    let file = files::first_of(&bytes, f.size);
-    let mut rows: [u16; LONG] = [OLD; LONG];
-    let mut predecessors: [u16; LONG] = [OLD; LONG];
+    let mut parts = OLD;
     say::say_number(rt, room);
-    let first = lent.0;
-    if first < LONG {
-        say_front(
-            rt,
-            file,
-            &mut rows[0..first],
-            &mut predecessors,
-            lent.1,
-            room,
-        );
-    } else {
-        say_front(rt, file, &mut rows, &mut predecessors, lent.1, room);
-    }
-    say_table(rt, y, &rows, &predecessors);
+    parts.lent(lent, |rows, predecessors| {
+        let planned = plan_front::<MOST>(f.as_slice(), rows, predecessors, room);
+        say_listed(rt, planned, |record| say_record(rt, record));
+    });
+    say_table(rt, y, &parts);
 }
 
 // Every length.
 fn say_lengths(rt: &HostRuntime, y: System) {
     say::say_system(rt, b"system", y);
     for room in 0..18 {
-        say_list(rt, y, Lengths(LONG, LONG), room);
+        say_list(rt, y, both(LONG), room);
     }
 }
 
 // Parts that are just long enough for so many columns.
 fn say_just(rt: &HostRuntime, y: System, columns: usize, room: usize) {
-    say_list(rt, y, Lengths(columns, columns), room);
+    say_list(rt, y, both(columns), room);
 }
 
 // Parts of which either has an entry less, or both.
 fn say_short(rt: &HostRuntime, y: System, less: usize, room: usize) {
-    let columns = wrapping_add_usize(less, 1);
-    say_list(rt, y, Lengths(less, columns), room);
-    say_list(rt, y, Lengths(columns, less), room);
-    say_list(rt, y, Lengths(less, less), room);
-    say_list(rt, y, Lengths(less, LONG), room);
-    say_list(rt, y, Lengths(LONG, less), room);
+    let columns = less.wrapping_add(1);
+    say_list(rt, y, lengths(less, columns), room);
+    say_list(rt, y, lengths(columns, less), room);
+    say_list(rt, y, both(less), room);
+    say_list(rt, y, lengths(less, LONG), room);
+    say_list(rt, y, lengths(LONG, less), room);
 }
 
 // One type of which an engine takes one.

@@ -27,17 +27,17 @@ fn broken(w: Recipe) -> bool {
         | (6 < w.typecount)
 }
 
-// The number that a recipe is refused with, for a buffer of `room` bytes; 0 where its file is written.
-pub fn refusal_of(w: Recipe, room: usize) -> usize {
+// The number that a recipe is refused with, for a buffer of `room` bytes; none where its file is written.
+pub fn refusal_of(w: Recipe, room: usize) -> Option<u8> {
     if broken(w) {
-        return 39;
+        return Some(39);
     }
     if largest_top(w.typecount) < w.top {
-        return 40;
+        return Some(40);
     }
     // the platform and each type have 13 bytes
     if room / 13 <= w.typecount {
-        return 30;
+        return Some(30);
     }
-    0
+    None
 }

@@ -1,79 +1,48 @@
 // Many calls, each judged, and counted by what it answered.
 use crate::drawn::drawn_recipe;
-use crate::lent;
+use crate::lent::{Call, called, right_call};
 use making::Recipe;
-use std::num::wrapping_add_usize;
-use system::Answer;
+use system::{Answer, Refusal};
 use trial::buffers::BUFFER_BYTES;
+use trial::lent::front;
 use trial::say;
 
 // How many calls wrote a file, how many were refused 39, 40 and 30, and how many were answered otherwise; a sum over the bytes of the files; and how many
 // were wrong.
 #[derive(Clone, Copy)]
 struct Tally {
-    answers: [usize; 12],
+    answers: [usize; 5],
     sum: u64,
     wrong: usize,
 }
 
-fn no_tally() -> Tally {
-    Tally {
-        answers: [0; 12],
-        sum: 0,
-        wrong: 0,
-    }
-}
-
 // Where an answer is counted.
 fn place_of(a: Answer) -> usize {
-    let code = say::code_of(a);
-    if 1000 < code {
-        return 0;
-    }
-    match code {
-        139 => 1,
-        140 => 2,
-        130 => 3,
+    match a {
+        Ok(Some(_)) => 0,
+        Err(Refusal::Input(39)) => 1,
+        Err(Refusal::Input(40)) => 2,
+        Err(Refusal::Input(30)) => 3,
         _ => 4,
     }
 }
 
-// How many bytes were written.
-fn size_of(a: Answer) -> usize {
-    match a {
-        Answer::Accepted => 0,
-        Answer::Number(n) => n,
-        Answer::Refused(r) => 0,
+// The bytes that were written.
+fn written(c: &Call<BUFFER_BYTES>) -> &[u8] {
+    match c.answer {
+        Ok(Some(n)) => front(&c.bytes, n),
+        _ => b"",
     }
-}
-
-fn wide(byte: u8) -> u64 {
-    byte as u64
 }
 
 // The sum with the bytes of one file more: each byte after 31 times what was before.
-fn summed(sum: u64, bytes: [u8; BUFFER_BYTES], size: usize) -> u64 {
-    let mut all = sum;
-    for i in 0..BUFFER_BYTES {
-        if i < size {
-            all = (all % 4294967296) * 31 + wide(bytes[i]) % 256;
-        }
-    }
-    all % 4294967296
+fn summed(sum: u64, file: &[u8]) -> u64 {
+    file.iter()
+        .fold(sum, |sum, b| (sum % 4294967296) * 31 + u64::from(*b))
+        % 4294967296
 }
 
-fn counted(t: Tally, a: Answer, bytes: [u8; BUFFER_BYTES]) -> Tally {
-    let place = place_of(a);
-    let mut next = t;
-    if place < 12 {
-        next.answers[place] = wrapping_add_usize(t.answers[place], 1);
-    }
-    next.sum = summed(t.sum, bytes, size_of(a));
-    next
-}
-
-fn mismatch(rt: &HostRuntime, t: Tally, w: Recipe, room: usize) -> Tally {
-    say::say(rt, b"mismatch: recipe");
+fn say_recipe(rt: &HostRuntime, w: Recipe) {
     say::say_also(rt, w.seed as usize);
     say::say_also(rt, w.engines);
     say::say_also(rt, w.rule as usize);
@@ -81,79 +50,59 @@ fn mismatch(rt: &HostRuntime, t: Tally, w: Recipe, room: usize) -> Tally {
     say::say_also(rt, w.memorycap as usize);
     say::say_also(rt, w.typecount);
     say::say_also(rt, w.top as usize);
-    say::say_count(rt, b" buffer", room);
-    let mut next = t;
-    next.wrong = wrapping_add_usize(t.wrong, 1);
-    next
 }
 
-// One call.
-fn judged(rt: &HostRuntime, t: Tally, w: Recipe, room: usize) -> Tally {
-    let c = lent::called(w, room, 61);
-    let answer = c.answer;
-    let bytes = c.bytes;
-    let next = counted(t, answer, bytes);
-    if lent::right_call(c, w, room, 61) {
-        return next;
+impl Tally {
+    fn new() -> Tally {
+        Tally {
+            answers: [0; 5],
+            sum: 0,
+            wrong: 0,
+        }
     }
-    mismatch(rt, next, w, room)
+
+    // One call.
+    fn judge(&mut self, rt: &HostRuntime, w: Recipe, room: usize) {
+        let c = called(w, room, 61);
+        if let Some(n) = self.answers.get_mut(place_of(c.answer)) {
+            *n = n.wrapping_add(1);
+        }
+        self.sum = summed(self.sum, written(&c));
+        if !right_call(&c, w, room, 61) {
+            say::say(rt, b"mismatch: recipe");
+            say_recipe(rt, w);
+            say::say_count(rt, b" buffer", room);
+            self.wrong = self.wrong.wrapping_add(1);
+        }
+    }
+
+    // A line for the calls; answers how many of them were wrong.
+    fn say(&self, rt: &HostRuntime, name: &[u8]) -> usize {
+        say::say_numbers(rt, name, &self.answers);
+        say::say_count(rt, b"sum of the bytes", self.sum as usize);
+        self.wrong
+    }
 }
 
 // Buffers of every length from 0 to one more than the longest file.
-fn lengths(rt: &HostRuntime, w: Recipe) -> Tally {
-    let mut all = no_tally();
-    for room in 0..93usize {
-        let next = judged(rt, all, w, room);
-        all = next;
-    }
-    all
-}
-
-// The calls so far, and the seed of the next one.
-#[derive(Clone, Copy)]
-struct Run {
-    seed: u64,
-    tally: Tally,
-}
-
-fn next_drawn(rt: &HostRuntime, r: Run) -> Run {
-    let d = drawn_recipe(r.seed);
-    let w = d.recipe;
-    let tally = r.tally;
-    Run {
-        seed: d.seed,
-        tally: judged(rt, tally, w, d.room),
-    }
-}
-
-// Recipes drawn at the ends of the limits.
-fn ends(rt: &HostRuntime) -> Tally {
-    let mut r = Run {
-        seed: 1,
-        tally: no_tally(),
-    };
-    for i in 0..20000usize {
-        let next = next_drawn(rt, r);
-        r = next;
-    }
-    r.tally
-}
-
-// A line for some calls; answers how many of them were wrong.
-fn say_tally(rt: &HostRuntime, name: &[u8], t: Tally) -> usize {
-    let row = t.answers;
-    say::say_row(rt, name, row, 5);
-    say::say_count(rt, b"sum of the bytes", t.sum as usize);
-    t.wrong
-}
-
 pub fn say_lengths(rt: &HostRuntime, name: &[u8], w: Recipe) -> usize {
+    let mut t = Tally::new();
+    for room in 0..93 {
+        t.judge(rt, w, room);
+    }
     say::say(rt, name);
-    say_tally(rt, b":", lengths(rt, w))
+    t.say(rt, b":")
 }
 
-// The drawn recipes, and how many calls were wrong, among them and before them.
+// Recipes drawn at the ends of the limits, and how many calls were wrong, among them and before them.
 pub fn say_drawn(rt: &HostRuntime, wrong: usize) {
-    let all = wrapping_add_usize(wrong, say_tally(rt, b"drawn:", ends(rt)));
+    let mut t = Tally::new();
+    let mut seed = 1;
+    for _ in 0..20000 {
+        let d = drawn_recipe(seed);
+        t.judge(rt, d.recipe, d.room);
+        seed = d.seed;
+    }
+    let all = wrong.wrapping_add(t.say(rt, b"drawn:"));
     say::say_count(rt, b"mismatches", all);
 }

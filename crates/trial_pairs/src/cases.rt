@@ -8,12 +8,7 @@ use trial::{say, systems};
 fn say_case(rt: &HostRuntime, name: &[u8], y: System) {
     let r = fills::trial_of(y, systems::system_full(0));
     let right = if r.right { 1 } else { 0 };
-    say::say_row(
-        rt,
-        name,
-        [right, r.pairs, r.bound, 0, 0, 0, 0, 0, 0, 0, 0, 0],
-        3,
-    );
+    say::say_numbers(rt, name, &[right, r.pairs, r.bound]);
 }
 
 // One type 1,023 times on 16 engines: U, S, u, s and d.

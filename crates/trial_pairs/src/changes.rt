@@ -1,8 +1,8 @@
 // A file with a byte changed and cut to a size: refused 1 to 10 and 31, without a number, whether the parts are long enough or not. As it is,
 // it is accepted with its number, and refused 11 where one part has no entry, or none has.
-use crate::fills::{LONG, Lengths, filled_over, parts_after};
-use system::Most;
+use crate::fills::{LONG, filled_over, lengths, parts_after};
 use trial::buffers::BUFFER_BYTES;
+use trial::lent::front;
 use trial::{files, say, systems};
 
 // Where the byte stands, the byte, and the size.
@@ -34,22 +34,21 @@ const CHANGES: [Change; 19] = [
 
 // The file of six types of n 1 that cost nothing, the first with q 1, and a seventh type.
 fn seven_types() -> [u8; BUFFER_BYTES] {
-    let y = systems::with_most_at(systems::six_of(16, [1; 6]), 0, Most::AtMost(1));
-    let f = files::file_of(y);
-    let mut bytes = f.bytes;
+    let y = systems::with_most_at(systems::six_of(16, [1; 6]), 0, Some(1));
+    let mut bytes = files::file_of(y).bytes;
     bytes[96] = 2;
     bytes[98] = 10;
     bytes
 }
 
 fn say_answer(rt: &HostRuntime, file: &[u8], rows: usize, predecessors: usize) {
-    let f = filled_over(file, parts_after(b"", 7), Lengths(rows, predecessors));
-    say::say_also(rt, f.code);
+    let f = filled_over(file, &parts_after(b"", 7), lengths(rows, predecessors));
+    say::say_also(rt, say::code_of(f.answer));
 }
 
 // The answers over two long parts, over one of them and none of the other, and over none.
 fn say_answers(rt: &HostRuntime, bytes: &[u8; BUFFER_BYTES], size: usize) {
-    let file = files::first_of(bytes, size);
+    let file = front(bytes, size);
     say_answer(rt, file, LONG, LONG);
     say_answer(rt, file, 0, LONG);
     say_answer(rt, file, LONG, 0);
@@ -58,9 +57,8 @@ fn say_answers(rt: &HostRuntime, bytes: &[u8; BUFFER_BYTES], size: usize) {
 
 fn say_change(rt: &HostRuntime, c: Change) {
     let mut bytes = seven_types();
-    let at = c.0;
-    if at < BUFFER_BYTES {
-        bytes[at] = c.1;
+    if let Some(b) = bytes.get_mut(c.0) {
+        *b = c.1;
     }
     say_answers(rt, &bytes, c.2);
 }
@@ -68,9 +66,7 @@ fn say_change(rt: &HostRuntime, c: Change) {
 // A line of all answers for each change.
 pub fn say_changes(rt: &HostRuntime) {
     say::say(rt, b"changed:");
-    let changes = CHANGES;
-    for i in 0..19 {
-        let c = changes[i];
+    for c in CHANGES {
         say_change(rt, c);
     }
     say::say(rt, b"\n");

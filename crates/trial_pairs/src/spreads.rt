@@ -1,6 +1,5 @@
 // Many drawn systems of one to six types, with d and q, under both rules, and what their fills came to.
 use crate::fills;
-use std::num::wrapping_add_usize;
 use system::System;
 use trial::{say, spread, systems};
 
@@ -18,50 +17,51 @@ struct Tally {
 }
 
 fn plus_if(n: usize, b: bool) -> usize {
-    if b { wrapping_add_usize(n, 1) } else { n }
+    if b { n.wrapping_add(1) } else { n }
 }
 
-fn with_trial(rt: &HostRuntime, t: Tally, y: System, other: System) -> Tally {
-    let r = fills::trial_of(y, other);
-    if !r.right {
-        say::say_system(rt, b"mismatch:", y);
+impl Tally {
+    fn new() -> Tally {
+        Tally {
+            tried: 0,
+            right: 0,
+            none: 0,
+            met: 0,
+            least: 0,
+            pairs: 0,
+            bound: 0,
+        }
     }
-    Tally {
-        tried: wrapping_add_usize(t.tried, 1),
-        right: plus_if(t.right, r.right),
-        none: plus_if(t.none, r.none),
-        met: plus_if(t.met, r.met),
-        least: plus_if(t.least, r.least),
-        pairs: wrapping_add_usize(t.pairs, r.pairs),
-        bound: wrapping_add_usize(t.bound, r.bound),
+
+    // The fills of one system, over parts that another one left.
+    fn judge(&mut self, rt: &HostRuntime, y: System, other: System) {
+        let r = fills::trial_of(y, other);
+        if !r.right {
+            say::say_system(rt, b"mismatch:", y);
+        }
+        self.tried = self.tried.wrapping_add(1);
+        self.right = plus_if(self.right, r.right);
+        self.none = plus_if(self.none, r.none);
+        self.met = plus_if(self.met, r.met);
+        self.least = plus_if(self.least, r.least);
+        self.pairs = self.pairs.wrapping_add(r.pairs);
+        self.bound = self.bound.wrapping_add(r.bound);
     }
 }
 
 // A line for so many systems of up to 16 engines, drawn one after another.
 fn say_drawn(rt: &HostRuntime, name: &[u8], number: usize, typecount: usize, most: usize) {
-    let mut t = Tally {
-        tried: 0,
-        right: 0,
-        none: 0,
-        met: 0,
-        least: 0,
-        pairs: 0,
-        bound: 0,
-    };
+    let mut t = Tally::new();
     let mut seed = typecount as u64;
     let mut other = systems::system_a(3);
-    for i in 0..number {
+    for _ in 0..number {
         let d = spread::drawn_system(seed, 16, typecount, most);
-        let y = d.system;
-        let next = with_trial(rt, t, y, other);
-        t = next;
-        other = y;
+        t.judge(rt, d.system, other);
+        other = d.system;
         seed = d.seed;
     }
-    let row = [
-        t.tried, t.right, t.none, t.met, t.least, t.pairs, t.bound, 0, 0, 0, 0, 0,
-    ];
-    say::say_row(rt, name, row, 7);
+    let row = [t.tried, t.right, t.none, t.met, t.least, t.pairs, t.bound];
+    say::say_numbers(rt, name, &row);
 }
 
 pub fn say_spreads(rt: &HostRuntime) {

@@ -3,70 +3,56 @@
 // Prints what opening and each call answer, as a code of `trial::say`, and then what each engine holds and whether it is out of service.
 use board::{Board, Turn};
 use board_code::{admit, open_board, repack, restore, retire, seat, withdraw};
-use std::num::wrapping_add_usize;
-use system::ENGINE_LIMIT;
 use trial::say;
 use trial::say::code_of;
-use trial::words::byte_of;
 
 // The calls of a list at most.
 const CALLS: usize = 64;
 
-fn number_of(b: u8) -> usize {
-    if b == b'x' {
-        return 255;
-    }
-    if b < b'0' {
-        return 0;
-    }
-    (b - b'0') as usize
+// A call, with its type and its engine.
+#[derive(Clone, Copy)]
+enum Call {
+    Admit(usize),
+    Seat(usize),
+    Retire(usize, usize),
+    Repack,
+    Withdraw(usize),
+    Restore(usize),
 }
 
-// The call that a byte stands for.
-fn called(
-    b: Board,
-    kind: u8,
-    t: usize,
-    e: usize,
-    rows: &mut [u16],
-    predecessors: &mut [u16],
-) -> Turn {
-    if kind == b'a' {
-        return admit(b, t, rows, predecessors);
+// The number at a place of a call's bytes.
+fn number_at(bytes: &[u8], i: usize) -> usize {
+    match bytes.get(i) {
+        None => 0,
+        Some(b'x') => 255,
+        Some(byte) => usize::from(byte.saturating_sub(b'0')),
     }
-    if kind == b's' {
-        return seat(b, t, rows, predecessors);
-    }
-    if kind == b'r' {
-        return retire(b, t, e);
-    }
-    if kind == b'p' {
-        return repack(b, rows, predecessors);
-    }
-    if kind == b'w' {
-        return withdraw(b, e);
-    }
-    restore(b, e)
 }
 
-// The call of a list at a place, where it has one; the board after it.
-fn say_call(
-    rt: &HostRuntime,
-    b: Board,
-    list: &[u8],
-    at: usize,
-    rows: &mut [u16],
-    predecessors: &mut [u16],
-) -> Board {
-    if list.len() <= at {
-        return b;
+impl Call {
+    fn of(bytes: &[u8]) -> Call {
+        let t = number_at(bytes, 1);
+        let e = number_at(bytes, 2);
+        match bytes.first() {
+            Some(b'a') => Call::Admit(t),
+            Some(b's') => Call::Seat(t),
+            Some(b'r') => Call::Retire(t, e),
+            Some(b'p') => Call::Repack,
+            Some(b'w') => Call::Withdraw(e),
+            _ => Call::Restore(e),
+        }
     }
-    let t = number_of(byte_of(list, wrapping_add_usize(at, 1)));
-    let e = number_of(byte_of(list, wrapping_add_usize(at, 2)));
-    let turn = called(b, byte_of(list, at), t, e, rows, predecessors);
-    let answer = turn.answer;
-    say::say_also(rt, code_of(answer));
-    turn.board
+
+    fn made(self, b: Board, rows: &mut [u16], predecessors: &mut [u16]) -> Turn {
+        match self {
+            Call::Admit(t) => admit(b, t, rows, predecessors),
+            Call::Seat(t) => seat(b, t, rows, predecessors),
+            Call::Retire(t, e) => retire(b, t, e),
+            Call::Repack => repack(b, rows, predecessors),
+            Call::Withdraw(e) => withdraw(b, e),
+            Call::Restore(e) => restore(b, e),
+        }
+    }
 }
 
 // All calls of a list; the board after them.
@@ -78,30 +64,20 @@ fn say_calls(
     predecessors: &mut [u16],
 ) -> Board {
     let mut board = b;
-    for i in 0..CALLS {
-        let next = say_call(rt, board, list, i * 4, rows, predecessors);
-        board = next;
+    for bytes in list.chunks(4).take(CALLS) {
+        let turn = Call::of(bytes).made(board, rows, predecessors);
+        say::say_also(rt, code_of(turn.answer));
+        board = turn.board;
     }
     board
 }
 
-// A word for an engine that is out of service.
-fn say_mark(rt: &HostRuntime, out: bool) {
-    if out {
-        say::say(rt, b" out");
-    }
-}
-
-// The engines of a board.
+// The engines of a board, with a word for one that is out of service.
 fn say_engines(rt: &HostRuntime, b: Board) {
-    let y = b.system;
-    let loads = b.loads;
-    let marks = b.marks;
-    for e in 0..ENGINE_LIMIT {
-        let l = loads[e];
-        if e < y.engines {
-            say::say_load(rt, l, y.typecount);
-            say_mark(rt, marks[e]);
+    for (load, out) in b.loads.iter().zip(&b.marks).take(b.system.engines) {
+        say::say_load(rt, *load, b.system.typecount);
+        if *out {
+            say::say(rt, b" out");
         }
     }
 }
@@ -115,8 +91,7 @@ pub fn say_list(
     predecessors: &mut [u16],
 ) {
     let turn = open_board(file);
-    let answer = turn.answer;
-    say::say_also(rt, code_of(answer));
+    say::say_also(rt, code_of(turn.answer));
     let board = say_calls(rt, turn.board, text, rows, predecessors);
     say_engines(rt, board);
 }

@@ -6,17 +6,13 @@
 // document 01's rows, each from the one before it. One of the outside cases, `vector-plan-13`, has a tag 7: refused 2 before request 2026-13, and 8 since.
 #![tactic(auto)]
 
-use trial::input::read_full;
+use trial::cases::each_case;
 
-mod fills;
 mod lent;
 mod lines;
 mod lists;
-mod plans;
 mod runs;
 
 fn main(rt: HostRuntime) {
-    let mut input = [0u8; lines::TEXT_BYTES];
-    let read = read_full(&rt, &mut input);
-    lines::say_cases(&rt, &input[..read]);
+    each_case::<131072, _>(&rt, |line| lines::say_case(&rt, line));
 }

@@ -1,8 +1,5 @@
 // A part of the table in few words: runs of entries that are all the same, as `2x7`, or that rise by one, as `3..9`, and a number that stands for all entries.
-use crate::lent::LONG;
-use std::num::wrapping_add_usize;
 use trial::say;
-use trial::systems::wide;
 
 // The runs of a part that are printed at most; the others have a part in its number alone.
 const SHOWN: usize = 60;
@@ -19,14 +16,14 @@ struct Run {
 
 // The number of some entries with one entry more.
 fn mixed(number: usize, entry: u16) -> usize {
-    ((number % 2147483648) * 65599 + wide(entry) + 1) % 2147483647
+    ((number % 2147483648) * 65599 + usize::from(entry) + 1) % 2147483647
 }
 
 // An entry goes on with a run: it is the same in a run of such, or one more than the last in a run that rises. A single entry may become either.
 fn goes_on(r: Run, value: usize) -> bool {
     let level = r.first == r.last;
-    let rises = !level | (r.length == 1);
-    (level & (value == r.last)) | (rises & (value == wrapping_add_usize(r.last, 1)))
+    let rises = !level || r.length == 1;
+    (level && value == r.last) || (rises && value == r.last.wrapping_add(1))
 }
 
 fn say_run(rt: &HostRuntime, r: Run) {
@@ -48,24 +45,24 @@ fn say_run(rt: &HostRuntime, r: Run) {
 
 // The run with an entry more, or a new one where it does not go on; the old one is then printed.
 fn with_entry(rt: &HostRuntime, r: Run, entry: u16) -> Run {
-    let value = wide(entry);
+    let value = usize::from(entry);
     let mut next = r;
     next.number = mixed(r.number, entry);
     next.last = value;
     if goes_on(r, value) {
-        next.length = wrapping_add_usize(r.length, 1);
+        next.length = r.length.wrapping_add(1);
         return next;
     }
     say_run(rt, r);
     next.first = value;
     next.length = 1;
-    next.before = wrapping_add_usize(r.before, 1);
+    next.before = r.before.wrapping_add(1);
     next
 }
 
 // The run of one entry.
 fn run_of(entry: u16) -> Run {
-    let value = wide(entry);
+    let value = usize::from(entry);
     Run {
         first: value,
         last: value,
@@ -76,16 +73,18 @@ fn run_of(entry: u16) -> Run {
 }
 
 // A line for a part: its first runs, how many there are, and the number of all its entries.
-pub fn say_part(rt: &HostRuntime, name: &[u8], part: &[u16; LONG]) {
+pub fn say_part(rt: &HostRuntime, name: &[u8], part: &[u16]) {
+    let Some((first, rest)) = part.split_first() else {
+        return;
+    };
     say::say(rt, name);
-    let mut run = run_of(part[0]);
-    for i in 1..LONG {
-        let next = with_entry(rt, run, part[i]);
-        run = next;
+    let mut run = run_of(*first);
+    for entry in rest {
+        run = with_entry(rt, run, *entry);
     }
     say_run(rt, run);
     say::say(rt, b" |");
-    say::say_also(rt, wrapping_add_usize(run.before, 1));
+    say::say_also(rt, run.before.wrapping_add(1));
     say::say_also(rt, run.number);
     say::say(rt, b"\n");
 }

@@ -1,41 +1,35 @@
 // Cases that are given: document 01's W1 to W8, system B with data memory under both rules, and plans that a q alone decides. A line for each.
-use crate::right::{Lengths, plan_over, trial_of};
-use brute::search;
-use system::{ENGINE_LIMIT, Most, System};
-use trial::{files, say, systems, tables};
+use crate::right::{LONG, both, planned};
+use planner_code::plan_of;
+use system::System;
+use trial::{files, say, systems};
 
 // A case that is given: the answer, then time, memory and counts of each used engine.
 fn say_case(rt: &HostRuntime, name: &[u8], y: System) {
-    let t = trial_of(y, tables::dirty_table(), Lengths(512, 512), 0, false);
-    let p = t.plan;
-    let a = p.answer;
+    let (plan, _) = planned(y, both(LONG));
     say::say(rt, name);
-    say::say_answer(rt, a);
-    let loads = p.loads;
-    for e in 0..ENGINE_LIMIT {
-        let l = loads[e];
-        if e < p.used {
-            say::say_load(rt, l, p.typecount);
-        }
+    say::say_answer(rt, plan.answer);
+    for load in plan.loads.iter().take(plan.used) {
+        say::say_load(rt, *load, plan.typecount);
     }
     say::say(rt, b"\n");
 }
 
 // The columns at which row 1 says yes.
-fn say_yes(rt: &HostRuntime, rows: &[u16; 512]) {
-    for c in 0..12 {
-        if rows[c] <= 1 {
-            say::say_also(rt, c);
+fn say_yes(rt: &HostRuntime, rows: &[u16; LONG]) {
+    for (column, row) in rows.iter().enumerate().take(12) {
+        if *row <= 1 {
+            say::say_also(rt, column);
         }
     }
     say::say(rt, b"\n");
 }
 
 // The first 13 entries of a part.
-fn say_part(rt: &HostRuntime, name: &[u8], part: &[u16; 512]) {
+fn say_part(rt: &HostRuntime, name: &[u8], part: &[u16; LONG]) {
     say::say(rt, name);
-    for c in 0..13 {
-        say::say_also(rt, search::wide(part[c]));
+    for entry in part.iter().take(13) {
+        say::say_also(rt, usize::from(*entry));
     }
     say::say(rt, b"\n");
 }
@@ -44,18 +38,12 @@ fn say_part(rt: &HostRuntime, name: &[u8], part: &[u16; 512]) {
 // past them.
 fn say_cells(rt: &HostRuntime, y: System) {
     let f = files::file_of(y);
-    let bytes = f.bytes;
-    let mut rows: [u16; 512] = [9; 512];
-    let mut predecessors: [u16; 512] = [9; 512];
-    plan_over(
-        files::first_of(&bytes, f.size),
-        &mut rows,
-        &mut predecessors,
-        Lengths(512, 512),
-    );
+    let mut rows = [9; LONG];
+    let mut predecessors = [9; LONG];
+    plan_of(f.as_slice(), &mut rows, &mut predecessors);
     say::say(rt, b"W1");
     say_yes(rt, &rows);
-    say::say_count(rt, b"W2", search::wide(predecessors[11]));
+    say::say_count(rt, b"W2", usize::from(predecessors[11]));
     say_part(rt, b"A, rows", &rows);
     say_part(rt, b"A, predecessors", &predecessors);
 }
@@ -148,12 +136,12 @@ fn say_other_mosts(rt: &HostRuntime) {
     say_case(
         rt,
         b"A, q 1 of type 1:",
-        systems::with_most_at(a, 0, Most::AtMost(1)),
+        systems::with_most_at(a, 0, Some(1)),
     );
     say_case(
         rt,
         b"A, q 1 of both:",
-        systems::with_most_at(systems::with_most(a, 1), 0, Most::AtMost(1)),
+        systems::with_most_at(systems::with_most(a, 1), 0, Some(1)),
     );
     say_case(rt, b"own, q 2:", systems::with_most(own, 2));
     say_case(rt, b"own, q 1:", systems::with_most(own, 1));

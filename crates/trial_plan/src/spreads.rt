@@ -2,57 +2,44 @@
 // types.
 use crate::right::{right_fill, right_list, right_long, right_short};
 use brute::recovery;
-use std::num::{wrapping_add_usize, wrapping_sub_usize};
 use system::System;
 use trial::spread::DrawnSystem;
 use trial::{say, spread, systems};
 
 // How many systems were tried, planned, and answered wrongly.
-#[derive(Clone, Copy)]
+#[derive(Clone, Copy, Default)]
 struct Tally {
     tried: usize,
     planned: usize,
     wrong: usize,
 }
 
-fn one_if(b: bool) -> usize {
-    if b { 1 } else { 0 }
+impl Tally {
+    fn count(&mut self, planned: bool, right: bool) {
+        self.tried = self.tried.wrapping_add(1);
+        self.planned = self.planned.wrapping_add(usize::from(planned));
+        self.wrong = self.wrong.wrapping_add(usize::from(!right));
+    }
 }
 
 // One system more.
-fn tried(rt: &HostRuntime, t: Tally, y: System, cells: bool) -> Tally {
+fn try_system(rt: &HostRuntime, tally: &mut Tally, y: System, cells: bool) {
     let want = recovery::recovered(y, recovery::ceilings_of(y));
     let columns = recovery::columns_of(y);
-    let fills = !cells || right_fill(y, columns);
-    let plans = right_long(y, want, columns, cells) & right_short(y, columns, cells);
-    let right = fills & plans & right_list(y, want);
+    let right = (!cells || right_fill(y, columns))
+        && right_long(y, want, columns, cells)
+        && right_short(y, columns, cells)
+        && right_list(y, want);
     if !right {
         say::say_system(rt, b"mismatch:", y);
     }
-    Tally {
-        tried: wrapping_add_usize(t.tried, 1),
-        planned: wrapping_add_usize(t.planned, one_if(want.feasible)),
-        wrong: wrapping_add_usize(t.wrong, one_if(!right)),
-    }
-}
-
-fn no_tally() -> Tally {
-    Tally {
-        tried: 0,
-        planned: 0,
-        wrong: 0,
-    }
+    tally.count(want.is_some(), right);
 }
 
 // A line of a spread: the systems tried, planned, refused 12 and answered wrongly.
 fn say_tally(rt: &HostRuntime, name: &[u8], t: Tally) {
-    let refused = wrapping_sub_usize(t.tried, t.planned);
-    say::say_row(
-        rt,
-        name,
-        [t.tried, t.planned, refused, t.wrong, 0, 0, 0, 0, 0, 0, 0, 0],
-        4,
-    );
+    let refused = t.tried.wrapping_sub(t.planned);
+    say::say_numbers(rt, name, &[t.tried, t.planned, refused, t.wrong]);
 }
 
 // The system of one type that a number stands for: rule, m 1 to 3, n 0 to 4, then U, S, u and s 0 to 6; its d and its q are drawn.
@@ -69,41 +56,35 @@ fn one_type(code: usize) -> System {
         seed: code as u64,
         system: systems::with_type(y, each, size, ceiling),
     };
-    let drawn = spread::with_drawn_most(spread::with_drawn_data(d, false));
-    drawn.system
+    spread::with_drawn_most(spread::with_drawn_data(d, false)).system
 }
 
 // All of them, with every cell of one in 64.
 fn one_types(rt: &HostRuntime) -> Tally {
-    let mut t = no_tally();
+    let mut tally = Tally::default();
     for code in 0..72030 {
-        let next = tried(rt, t, one_type(code), code % 64 == 0);
-        t = next;
+        try_system(rt, &mut tally, one_type(code), code % 64 == 0);
     }
-    t
+    tally
 }
 
 // So many systems drawn one after another, with every cell of one in 16.
 fn drawn(
     rt: &HostRuntime,
-    seed: u64,
+    first: u64,
     number: usize,
     engines: usize,
     typecount: usize,
     most: usize,
 ) -> Tally {
-    let mut t = no_tally();
-    let mut at = seed;
-    let mut i: usize = 0;
-    while i < number {
-        let d = spread::drawn_system(at, engines, typecount, most);
-        let y = d.system;
-        let next = tried(rt, t, y, i % 16 == 0);
-        t = next;
-        at = d.seed;
-        i += 1;
+    let mut tally = Tally::default();
+    let mut seed = first;
+    for i in 0..number {
+        let drawn = spread::drawn_system(seed, engines, typecount, most);
+        try_system(rt, &mut tally, drawn.system, i % 16 == 0);
+        seed = drawn.seed;
     }
-    t
+    tally
 }
 
 pub fn say_spreads(rt: &HostRuntime) {

@@ -16,56 +16,27 @@
 // - `q-0`: refusal 31, and what a q is where it is read: at both ends, and above n;
 // - `u-1000001-then-q-0`: 31 among the refusals of other fields, those before it first, and those at the end last;
 // - `kinds-..`: a second kind of engine (tag 6) and the costs there (tag 7): their places, lengths, cuts and numbers; 41 where one stands without the other,
-// between 9 and 10; and
-//   42 for every file of two kinds, from which a system of one kind is wanted;
+//   between 9 and 10; and 42 for every file of two kinds, from which a system of one kind is wanted;
 // - `pace-..`: a C and T (tag 5): its places, lengths and cuts; 43 at both ends of each of its bounds, and in its order among the refusals; in files of one
-// kind and of two, where
-//   it is judged by the first kind's u and U; and what may come after the longest files, which have 229 bytes and 307: nothing;
+//   kind and of two, where it is judged by the first kind's u and U; and what may come after the longest files, which have 229 bytes and 307: nothing;
 // - `place-..-cut`: each of the seven tags as the first field and after each of the seven, its last byte missing, with its own length and with one more: its
-// place (3) is judged before its
-//   length (4), and that before the cut (1);
+//   place (3) is judged before its length (4), and that before the cut (1);
 // - `start-..`: 1 or 2 bytes where a field should start, the first one and after each of the seven tags, with each of the seven tags, right there or not, and
-// with three that are none:
-//   the start's cut (1) is judged before the tag (2), its place (3) and its length (4);
+//   with three that are none: the start's cut (1) is judged before the tag (2), its place (3) and its length (4);
 // - `pending-..`: files that are to be refused at their end, 41 for costs without a second kind or a second kind without costs, 10 for columns far past
-// 4,096, or both, 41 first, and 9 for a second kind without a type; each
-//   also with one more field for every refusal that a field can have after a type (1 to 4, 7, 8, 31, 43), which is told and not the one of the end, and with
-// types up to the sixth,
-//   which change nothing.
+//   4,096, or both, 41 first, and 9 for a second kind without a type; each also with one more field for every refusal that a field can have after a type (1
+//   to 4, 7, 8, 31, 43), which is told and not the one of the end, and with types up to the sixth, which change nothing.
 use crate::show::show;
-use trial::words::{Bytes, after, bytes_in, part, word_end};
+use trial::cases::{Words, each_case};
 
 // The bytes of the text that are read at most.
-pub const TEXT_BYTES: usize = 262144;
+const TEXT_BYTES: usize = 262144;
 
-// A case: where its name ends, the file, and where the next case starts.
-#[derive(Clone, Copy)]
-struct Case {
-    named: usize,
-    file: Bytes,
-    next: usize,
-}
-
-// The case that starts at a place.
-fn case_at(text: &[u8], start: usize) -> Case {
-    let named = word_end(text, start);
-    let ended = word_end(text, after(named));
-    Case {
-        named,
-        file: bytes_in(text, after(named), ended),
-        next: after(ended),
-    }
-}
-
-// All cases of the text: there are fewer of them than bytes.
-pub fn say_cases(rt: &HostRuntime, text: &[u8]) {
-    let mut at: usize = 0;
-    for line in 0..text.len() {
-        if at < text.len() {
-            let c = case_at(text, at);
-            let file = c.file;
-            show(rt, part(text, at, c.named), file);
-            at = c.next;
-        }
-    }
+// All cases of the text.
+pub fn say_cases(rt: &HostRuntime) {
+    each_case::<TEXT_BYTES, _>(rt, |line| {
+        let mut words = Words::of(line);
+        let name = words.word();
+        show(rt, name, words.bytes().as_slice());
+    });
 }

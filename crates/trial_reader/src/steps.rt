@@ -1,10 +1,10 @@
 // The field step at some places of a file: the tag and the length that stand there (0 past the end), whether both are there (`headed`, else `bare`), whether
 // the whole field is (`whole`, else `cut`), where its body starts, the place after it, how long the part is that is handed on as its body, and its bytes.
 // Tag, length, body and next place are also asked for one by one, and `but by parts` is said where one of them is another.
-use crate::bodies::{same_bytes, say_body};
-use std::num::wrapping_add_usize;
+use crate::bodies::say_body;
+use std::array;
 use system::{Cursor, Field};
-use trial::files::first_of;
+use trial::lent::front;
 use trial::say::{say, say_also};
 
 // The bytes of the longest file here: a field of 65,535 bytes, the most that its length can say, and one of 2.
@@ -30,8 +30,10 @@ fn same_by_parts(file: &[u8], at: usize, field: Field, body: &[u8]) -> bool {
     let c = Cursor { at };
     let next = system_code::next_at(file, c);
     let size = system_code::length_at(file, c) as usize;
-    let same = (system_code::tag_at(file, c) == field.tag) & (size == field.size);
-    same & (next.at == field.next.at) & same_bytes(system_code::body_at(file, c), body)
+    (system_code::tag_at(file, c) == field.tag)
+        & (size == field.size)
+        & (next == field.next)
+        & (system_code::body_at(file, c) == body)
 }
 
 // The field step at a place: its answer, and the part of the file that it hands on.
@@ -74,15 +76,10 @@ pub fn steps(rt: &HostRuntime) {
     step(rt, b"step-past-the-end", file, 18446744073709551615);
 }
 
-// A file whose bytes differ from place to place: each is 7 more than the one before it, at every 256th place 8 more, from 255 on to 0 again. So no
-// 256 bytes in a row are
-// those that begin at another place less than 65,536 away.
+// A file whose bytes differ from place to place: each is 7 more than the one before it, at every 256th place 8 more, from 255 on to 0 again. So no 256 bytes
+// in a row are those that begin at another place less than 65,536 away.
 fn varied() -> [u8; FILE_BYTES] {
-    let mut file = [0u8; FILE_BYTES];
-    for i in 0..FILE_BYTES {
-        file[i] = (wrapping_add_usize((i % 65536) * 7, i / 256) % 256) as u8;
-    }
-    file
+    array::from_fn(|i| (((i % 65536) * 7 + i / 256 % 256) % 256) as u8)
 }
 
 // A field of 300 bytes, whose length takes both of its bytes, 1 and 44, and one of 2 after it; then the long field alone, the same one byte short,
@@ -95,17 +92,16 @@ pub fn long_steps(rt: &HostRuntime) {
     all[303] = 9;
     all[304] = 0;
     all[305] = 2;
-    let file = first_of(&all, 308);
+    let file = front(&all, 308);
     step(rt, b"long-at-0", file, 0);
     step(rt, b"long-at-303", file, 303);
-    step(rt, b"long-alone", first_of(file, 303), 0);
-    step(rt, b"long-cut-by-one", first_of(file, 302), 0);
-    step(rt, b"long-cut-after-44", first_of(file, 47), 0);
+    step(rt, b"long-alone", front(file, 303), 0);
+    step(rt, b"long-cut-by-one", front(file, 302), 0);
+    step(rt, b"long-cut-after-44", front(file, 47), 0);
 }
 
-// A field of 65,535 bytes and one of 2 after it; the long field alone, and one byte short; and at place 5, within it, the head of another of 65,535,
-// which ends where the
-// file does, and one byte short.
+// A field of 65,535 bytes and one of 2 after it; the long field alone, and one byte short; and at place 5, within it, the head of another of 65,535, which
+// ends where the file does, and one byte short.
 pub fn longest_steps(rt: &HostRuntime) {
     let mut file = varied();
     file[0] = 7;
@@ -119,8 +115,8 @@ pub fn longest_steps(rt: &HostRuntime) {
     file[65540] = 2;
     step(rt, b"longest-at-0", &file, 0);
     step(rt, b"longest-at-65538", &file, 65538);
-    step(rt, b"longest-alone", first_of(&file, 65538), 0);
-    step(rt, b"longest-cut-by-one", first_of(&file, 65537), 0);
+    step(rt, b"longest-alone", front(&file, 65538), 0);
+    step(rt, b"longest-cut-by-one", front(&file, 65537), 0);
     step(rt, b"longest-at-5", &file, 5);
-    step(rt, b"longest-at-5-cut-by-one", first_of(&file, 65542), 5);
+    step(rt, b"longest-at-5-cut-by-one", front(&file, 65542), 5);
 }

@@ -1,193 +1,147 @@
 // A line for each case, and the lines of its cuts and changes.
-use crate::calls::{AS_LENT, CheckCall, FEWER, RIGHT, WriteCall};
-use crate::text::Case;
-use crate::{calls, text};
-use std::num::{wrapping_add_u8, wrapping_add_usize};
-use system::Answer;
+use crate::calls::{CheckCall, WriteCall, checked, kept_from, written};
+use system::Refusal;
+use trial::cases::Words;
+use trial::lent::{Lengths, front};
 use trial::say::{say, say_also, say_hex, say_number};
-use trial::words::{Bytes, CASE_BYTES, part};
+use trial::words::{Bytes, CASE_BYTES};
 
-fn say_check(rt: &HostRuntime, answer: usize) {
-    match answer {
-        RIGHT => say(rt, b" right"),
-        FEWER => say(rt, b" fewer"),
-        _ => {
-            say(rt, b" no");
-            say_also(rt, answer);
-        }
+// By how much every byte of a sheet is changed, one way after the other.
+const CHANGES: [u8; 4] = [1, 255, 16, 128];
+
+// A case: a file, what is lent, the sheet, and in how many ways every byte of that is changed.
+#[derive(Clone, Copy)]
+struct Case {
+    file: Bytes,
+    lent: Lengths,
+    room: usize,
+    sheet: Bytes,
+    ways: usize,
+}
+
+fn case_in(mut words: Words) -> Case {
+    Case {
+        file: words.bytes(),
+        lent: Lengths {
+            rows: words.number(),
+            predecessors: words.number(),
+        },
+        room: words.number(),
+        sheet: words.bytes(),
+        ways: words.number(),
     }
 }
 
-fn say_table(rt: &HostRuntime, number: usize) {
-    if number == AS_LENT {
-        say(rt, b" lent");
-    } else {
-        say_also(rt, number);
+// The number of a refusal; none is from the state.
+fn say_refusal(rt: &HostRuntime, why: Refusal) {
+    say(rt, b" no");
+    match why {
+        Refusal::Input(n) => say_also(rt, usize::from(n)),
+        Refusal::State(n) => say_also(rt, 500 + usize::from(n)),
+    }
+}
+
+fn say_table(rt: &HostRuntime, changed: Option<usize>) {
+    match changed {
+        None => say(rt, b" lent"),
+        Some(number) => say_also(rt, number),
     }
 }
 
 fn say_checked(rt: &HostRuntime, c: CheckCall) {
-    say_check(rt, c.answer);
-    say_table(rt, c.table);
+    match c.answer {
+        Ok(true) => say(rt, b" fewer"),
+        Ok(false) => say(rt, b" right"),
+        Err(why) => say_refusal(rt, why),
+    }
+    say_table(rt, c.changed);
 }
 
-// The first bytes of a buffer.
-fn say_bytes(rt: &HostRuntime, buffer: [u8; CASE_BYTES], size: usize) {
-    say(rt, b" ");
-    for i in 0..CASE_BYTES {
-        if i < size {
-            say_hex(rt, buffer[i]);
-        }
+fn say_spoiled(rt: &HostRuntime, kept: bool) {
+    if !kept {
+        say(rt, b" spoiled");
     }
 }
 
 // What was written, and what the check says of it over a table of its own.
-fn say_own(rt: &HostRuntime, c: Case, w: WriteCall, size: usize) {
-    let buffer = w.buffer;
-    let file = c.file;
-    let lent = c.lent;
+fn say_own(rt: &HostRuntime, c: &Case, w: &WriteCall, size: usize) {
+    let sheet = front(&w.buffer, size);
     say_also(rt, size);
-    say_bytes(rt, buffer, size);
-    if !calls::kept_from(buffer, size) {
-        say(rt, b" spoiled");
+    say(rt, b" ");
+    for byte in sheet {
+        say_hex(rt, *byte);
     }
-    say_table(rt, w.table);
+    say_spoiled(rt, kept_from(&w.buffer, size));
+    say_table(rt, w.changed);
     say(rt, b" |");
-    say_checked(
-        rt,
-        calls::checked(
-            file,
-            Bytes {
-                bytes: buffer,
-                size,
-            },
-            lent,
-        ),
-    );
+    say_checked(rt, checked(c.file.as_slice(), sheet, c.lent));
 }
 
-fn say_unwritten(rt: &HostRuntime, w: WriteCall, number: usize) {
-    let buffer = w.buffer;
-    say(rt, b" no");
-    say_also(rt, number);
-    if !calls::kept_from(buffer, 0) {
-        say(rt, b" spoiled");
-    }
-    say_table(rt, w.table);
-}
-
-fn say_written(rt: &HostRuntime, c: Case) {
-    let file = c.file;
-    let lent = c.lent;
-    let w = calls::written(file, lent, c.room);
-    let answer = w.answer;
-    match answer {
-        Answer::Accepted => say(rt, b" nothing"),
-        Answer::Number(size) => say_own(rt, c, w, size),
-        Answer::Refused(r) => say_unwritten(rt, w, calls::refusal_number(r)),
+fn say_written(rt: &HostRuntime, c: &Case) {
+    let w = written(c.file.as_slice(), c.lent, c.room);
+    match w.answer {
+        Ok(None) => say(rt, b" nothing"),
+        Ok(Some(size)) => say_own(rt, c, &w, size),
+        Err(why) => {
+            say_refusal(rt, why);
+            say_spoiled(rt, kept_from(&w.buffer, 0));
+            say_table(rt, w.changed);
+        }
     }
 }
 
-// An answer as a letter: r and f for a sheet that is right, the last digit of 32, 33 and 34. The table is filled by a right one only.
-fn say_letter(rt: &HostRuntime, c: CheckCall) {
-    let answer = c.answer;
-    let right = (answer == RIGHT) | (answer == FEWER);
-    if right == (c.table == AS_LENT) {
+// The check of another sheet as a letter: r and f for one that is right, the last digit of 32, 33 and 34. The table is filled by a right one only.
+fn say_letter(rt: &HostRuntime, c: &Case, sheet: &[u8]) {
+    let checked = checked(c.file.as_slice(), sheet, c.lent);
+    if checked.answer.is_ok() != checked.changed.is_some() {
         say(rt, b"!");
         return;
     }
-    match answer {
-        RIGHT => say(rt, b"r"),
-        FEWER => say(rt, b"f"),
-        32 => say(rt, b"2"),
-        33 => say(rt, b"3"),
-        34 => say(rt, b"4"),
-        _ => say(rt, b"?"),
+    match checked.answer {
+        Ok(true) => say(rt, b"f"),
+        Ok(false) => say(rt, b"r"),
+        Err(Refusal::Input(32)) => say(rt, b"2"),
+        Err(Refusal::Input(33)) => say(rt, b"3"),
+        Err(Refusal::Input(34)) => say(rt, b"4"),
+        Err(_) => say(rt, b"?"),
     }
-}
-
-// The sheet with another size, and with a byte changed.
-fn resized(s: Bytes, size: usize) -> Bytes {
-    let bytes = s.bytes;
-    Bytes { bytes, size }
-}
-
-fn changed(s: Bytes, i: usize, more: u8) -> Bytes {
-    let mut next = s;
-    if i < CASE_BYTES {
-        next.bytes[i] = wrapping_add_u8(s.bytes[i], more);
-    }
-    next
 }
 
 // The sheet cut at every place, whole, and with a byte 0 more.
-fn say_cuts(rt: &HostRuntime, c: Case) {
-    let file = c.file;
-    let lent = c.lent;
-    let sheet = c.sheet;
+fn say_cuts(rt: &HostRuntime, c: &Case) {
     say(rt, b"  cut ");
-    for n in 0..CASE_BYTES {
-        if n <= wrapping_add_usize(sheet.size, 1) {
-            say_letter(rt, calls::checked(file, resized(sheet, n), lent));
-        }
+    for n in 0..CASE_BYTES.min(c.sheet.size.saturating_add(2)) {
+        say_letter(rt, c, front(&c.sheet.bytes, n));
     }
     say(rt, b"\n");
 }
 
 // Every byte of the sheet made larger by the same number, past 255 from 0 on.
-fn say_changes(rt: &HostRuntime, c: Case, more: u8) {
-    let file = c.file;
-    let lent = c.lent;
-    let sheet = c.sheet;
+fn say_changes(rt: &HostRuntime, c: &Case, more: u8) {
     say(rt, b"  +");
-    say_number(rt, more as usize);
+    say_number(rt, usize::from(more));
     say(rt, b" ");
-    for i in 0..CASE_BYTES {
-        if i < sheet.size {
-            say_letter(rt, calls::checked(file, changed(sheet, i, more), lent));
-        }
+    for i in 0..CASE_BYTES.min(c.sheet.size) {
+        let mut sheet = c.sheet;
+        sheet.bytes[i] = sheet.bytes[i].wrapping_add(more);
+        say_letter(rt, c, sheet.as_slice());
     }
     say(rt, b"\n");
 }
 
-// In how many ways every byte is changed, and by how much each.
-const WAYS: usize = 4;
-
-const CHANGES: [u8; WAYS] = [1, 255, 16, 128];
-
-fn say_all_changes(rt: &HostRuntime, c: Case) {
-    let changes = CHANGES;
-    for way in 0..WAYS {
-        if way < c.ways {
-            say_changes(rt, c, changes[way]);
-        }
-    }
-}
-
-fn say_case(rt: &HostRuntime, name: &[u8], c: Case) {
-    let file = c.file;
-    let lent = c.lent;
-    let sheet = c.sheet;
-    say(rt, name);
+pub fn say_case(rt: &HostRuntime, line: &[u8]) {
+    let mut words = Words::of(line);
+    say(rt, words.word());
     say(rt, b":");
-    say_checked(rt, calls::checked(file, sheet, lent));
+    let c = case_in(words);
+    say_checked(rt, checked(c.file.as_slice(), c.sheet.as_slice(), c.lent));
     say(rt, b" |");
-    say_written(rt, c);
+    say_written(rt, &c);
     say(rt, b"\n");
     if 0 < c.ways {
-        say_cuts(rt, c);
-        say_all_changes(rt, c);
-    }
-}
-
-// All cases of the text: there are fewer of them than bytes.
-pub fn say_cases(rt: &HostRuntime, text: &[u8]) {
-    let mut at: usize = 0;
-    for line in 0..text.len() {
-        if at < text.len() {
-            let c = text::case_at(text, at);
-            say_case(rt, part(text, at, c.named), c);
-            at = c.next;
+        say_cuts(rt, &c);
+        for more in CHANGES.iter().take(c.ways) {
+            say_changes(rt, &c, *more);
         }
     }
 }

@@ -6,14 +6,14 @@
 // apart from the code, by a model of documents 01 and 02.
 #![tactic(auto)]
 
-use trial::input::read_full;
+use trial::cases::each_case;
 
 mod calls;
 mod lines;
-mod text;
+
+// The bytes of the text that are read at most.
+const TEXT_BYTES: usize = 262144;
 
 fn main(rt: HostRuntime) {
-    let mut input = [0u8; text::TEXT_BYTES];
-    let read = read_full(&rt, &mut input);
-    lines::say_cases(&rt, &input[..read]);
+    each_case::<TEXT_BYTES, _>(&rt, |line| lines::say_case(&rt, line));
 }

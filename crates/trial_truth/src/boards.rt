@@ -7,27 +7,25 @@
 // - `e=`: the words after it are of this engine: `T=` and `M=`, the stored time and memory; `c1=`, the count of type 1; `out`, a mark on it;
 // - `all`: a mark on each of the sixteen.
 use board::Board;
+use board_code::open_board;
 use brute::recovery;
 use loads::EngineLoad;
-use std::num::wrapping_sub_usize;
 use system::{ENGINE_LIMIT, System};
 use system_code::blank_system;
-use trial::changes::Change;
-use trial::words::{after, byte_of, word_end};
-use trial::{changes, systems};
+use trial::changes::{Change, change_of, changed};
+use trial::systems;
 
-// A board, the index of the engine that words are of, and where the next word starts.
+// A board, and the index of the engine that words are of.
 #[derive(Clone, Copy)]
 pub struct Made {
     pub board: Board,
-    pub engine: usize,
-    pub at: usize,
+    engine: usize,
 }
 
 // A board on which nothing stands.
-fn empty(y: System) -> Board {
+fn empty(system: System) -> Board {
     Board {
-        system: y,
+        system,
         loads: [recovery::idle(); ENGINE_LIMIT],
         marks: [false; ENGINE_LIMIT],
     }
@@ -54,102 +52,53 @@ fn stacked() -> System {
     systems::with_data(systems::with_type(systems::with_data(one, 3), 1, 2, 2), 1)
 }
 
-fn unopened() -> Board {
-    let turn = board_code::open_board(b"\x01");
-    turn.board
-}
-
-// The load with another number.
-fn with_load(l: EngineLoad, c: Change) -> EngineLoad {
-    let mut k = l;
-    let what = c.what;
-    let t = c.index;
-    match what {
-        b'T' => k.time = (c.number % 4294967296) as u32,
-        b'M' => k.memory = (c.number % 4294967296) as u32,
+// A load with another number.
+fn change_load(load: &mut EngineLoad, c: Change) {
+    match c.what {
+        b'T' => load.time = (c.number % 4294967296) as u32,
+        b'M' => load.memory = (c.number % 4294967296) as u32,
         _ => {
-            if t < 6 {
-                k.counts[t] = (c.number % 65536) as u16;
+            if let Some(count) = load.counts.get_mut(c.index) {
+                *count = (c.number % 65536) as u16;
             }
         }
     }
-    k
 }
 
-// The board with another number of the engine at index e, or with a mark on it.
-fn with_engine(b: Board, e: usize, c: Change) -> Board {
-    if 16 <= e {
-        return b;
-    }
-    let mut a = b;
-    if c.what == b'o' {
-        a.marks[e] = true;
-        return a;
-    }
-    let l = b.loads[e];
-    a.loads[e] = with_load(l, c);
-    a
-}
-
-fn all_marked(b: Board) -> Board {
-    let mut a = b;
-    a.marks = [true; ENGINE_LIMIT];
-    a
-}
-
-fn with_system(b: Board, c: Change) -> Board {
-    let mut a = b;
-    let y = b.system;
-    a.system = changes::changed(y, c);
-    a
-}
-
-// The board after a word.
-fn after_word(b: Board, e: usize, c: Change) -> Board {
-    let what = c.what;
-    match what {
-        b'A' => empty(systems::system_a(2)),
-        b'H' => with_two(systems::system_a(2), load(8, 6, 2, 0), load(10, 7, 1, 2)),
-        b'D' => with_two(stacked(), load(5, 14, 2, 1), load(2, 8, 1, 0)),
-        b'O' => unopened(),
-        b'e' => b,
-        b'T' | b'M' | b'c' | b'o' => with_engine(b, e, c),
-        b'a' => all_marked(b),
-        _ => with_system(b, c),
-    }
-}
-
-// The engine after a word.
-fn engine_after(e: usize, c: Change) -> usize {
-    if c.what == b'e' {
-        return wrapping_sub_usize(c.number, 1);
-    }
-    e
-}
-
-fn with_word(text: &[u8], m: Made) -> Made {
-    let end = word_end(text, m.at);
-    let c = changes::change_in(text, m.at, end);
-    let b = m.board;
-    Made {
-        board: after_word(b, m.engine, c),
-        engine: engine_after(m.engine, c),
-        at: after(end),
-    }
-}
-
-// The board of at most 64 words from a place on, up to the bar after them.
-pub fn made_at(text: &[u8], start: usize) -> Made {
-    let mut m = Made {
-        board: empty(blank_system()),
-        engine: 0,
-        at: start,
-    };
-    for i in 0..64usize {
-        if byte_of(text, m.at) != b'|' {
-            let next = with_word(text, m);
-            m = next;
+impl Made {
+    // What no word has changed yet.
+    pub fn blank() -> Made {
+        Made {
+            board: empty(blank_system()),
+            engine: 0,
         }
     }
-    m
+
+    // A load or a mark of the engine that words are of, where there is such an engine.
+    fn tell_engine(&mut self, c: Change) {
+        if c.what != b'o' {
+            if let Some(load) = self.board.loads.get_mut(self.engine) {
+                change_load(load, c);
+            }
+        } else if let Some(mark) = self.board.marks.get_mut(self.engine) {
+            *mark = true;
+        }
+    }
+
+    // What a word changes.
+    pub fn tell(&mut self, word: &[u8]) {
+        let c = change_of(word);
+        match c.what {
+            b'A' => self.board = empty(systems::system_a(2)),
+            b'H' => {
+                self.board = with_two(systems::system_a(2), load(8, 6, 2, 0), load(10, 7, 1, 2));
+            }
+            b'D' => self.board = with_two(stacked(), load(5, 14, 2, 1), load(2, 8, 1, 0)),
+            b'O' => self.board = open_board(b"\x01").board,
+            b'e' => self.engine = c.number.wrapping_sub(1),
+            b'T' | b'M' | b'c' | b'o' => self.tell_engine(c),
+            b'a' => self.board.marks = [true; ENGINE_LIMIT],
+            _ => self.board.system = changed(self.board.system, c),
+        }
+    }
 }

@@ -2,71 +2,58 @@
 // answer, and whether
 // numbers that are no type's and no engine's, but would be 1 where they were cut to 8, 16 or 32 bits, are refused 13 and 14.
 use board::{Board, Turn};
-use brute::recovery;
-use system::COLUMN_LIMIT;
-use trial::{say, systems};
+use board_code::{admit, repack, restore, retire, seat, true_board, withdraw};
+use system::{COLUMN_LIMIT, Refusal};
+use trial::lent::Parts;
+use trial::say;
 
-fn same_board(a: Board, b: Board) -> bool {
-    let x = a.system;
-    let y = b.system;
-    let held = a.loads;
-    let wanted = b.loads;
-    let out = a.marks;
-    let marks = b.marks;
-    systems::same_system(x, y)
-        & recovery::same_loads(held, wanted)
-        & recovery::same_marks(out, marks)
-}
+// The table before it is lent.
+const OLD: Parts<COLUMN_LIMIT> = Parts {
+    rows: [9; COLUMN_LIMIT],
+    predecessors: [8; COLUMN_LIMIT],
+};
 
-// Refused, as this code says it, with the board as it was.
-fn refused_as(code: usize, t: Turn, b: Board) -> bool {
-    let a = t.answer;
-    let after = t.board;
-    (say::code_of(a) == code) & same_board(after, b)
+// Numbers that are 1 in 8, in 16 and in 32 bits.
+const WIDE: [usize; 3] = [257, 65537, 4294967297];
+
+// A call is refused so, with the board as it was.
+fn refused(t: Turn, why: Refusal, b: Board) -> bool {
+    t == Turn {
+        answer: Err(why),
+        board: b,
+    }
 }
 
 // Refused 20.
 fn refuses(t: Turn, b: Board) -> bool {
-    refused_as(220, t, b)
+    refused(t, Refusal::State(20), b)
 }
 
-// The table as it was lent: all 9 in the one part, all 8 in the other.
-fn untouched(rows: [u16; COLUMN_LIMIT], predecessors: [u16; COLUMN_LIMIT]) -> bool {
-    let mut same = true;
-    for i in 0..COLUMN_LIMIT {
-        same = same & (rows[i] == 9);
-        same = same & (predecessors[i] == 8);
-    }
-    same
+// The six calls, of type 1 and engine 1, over one table.
+fn six_calls(b: Board, table: &mut Parts<COLUMN_LIMIT>) -> [Turn; 6] {
+    [
+        admit(b, 1, &mut table.rows, &mut table.predecessors),
+        seat(b, 1, &mut table.rows, &mut table.predecessors),
+        repack(b, &mut table.rows, &mut table.predecessors),
+        retire(b, 1, 1),
+        withdraw(b, 1),
+        restore(b, 1),
+    ]
 }
 
-// The two calls that take an engine out of service and back refuse the board, also where the number is no engine's.
-fn both_refuse(b: Board) -> bool {
-    refuses(board_code::withdraw(b, 1), b)
-        & refuses(board_code::restore(b, 1), b)
-        & refuses(board_code::withdraw(b, 0), b)
-        & refuses(board_code::restore(b, 17), b)
-}
-
-// All six calls refuse the board.
+// All six calls refuse the board, those that take an engine out of service and back also where the number is no engine's, and the table is as it was lent.
 fn all_refuse(b: Board) -> bool {
-    let mut rows: [u16; COLUMN_LIMIT] = [9; COLUMN_LIMIT];
-    let mut predecessors: [u16; COLUMN_LIMIT] = [8; COLUMN_LIMIT];
-    let admitted = board_code::admit(b, 1, &mut rows, &mut predecessors);
-    let seated = board_code::seat(b, 1, &mut rows, &mut predecessors);
-    let repacked = board_code::repack(b, &mut rows, &mut predecessors);
-    let retired = board_code::retire(b, 1, 1);
-    refuses(admitted, b)
-        & refuses(seated, b)
-        & refuses(repacked, b)
-        & refuses(retired, b)
-        & both_refuse(b)
-        & untouched(rows, predecessors)
+    let mut table = OLD;
+    let turns = six_calls(b, &mut table);
+    turns.iter().all(|turn| refuses(*turn, b))
+        && refuses(withdraw(b, 0), b)
+        && refuses(restore(b, 17), b)
+        && table == OLD
 }
 
 // Whether the board is called true.
 fn say_truth(rt: &HostRuntime, b: Board) {
-    if board_code::true_board(b) {
+    if true_board(b) {
         say::say(rt, b" true");
     } else {
         say::say(rt, b" untrue");
@@ -86,57 +73,38 @@ pub fn say_board(rt: &HostRuntime, name: &[u8], b: Board) {
 
 // A true board refuses 13 a type of this number and 14 an engine of it, where there are none so large, and both parts of the table stay as they were.
 fn none_numbered(b: Board, n: usize) -> bool {
-    let mut rows: [u16; COLUMN_LIMIT] = [9; COLUMN_LIMIT];
-    let mut predecessors: [u16; COLUMN_LIMIT] = [8; COLUMN_LIMIT];
-    let admitted = board_code::admit(b, n, &mut rows, &mut predecessors);
-    let seated = board_code::seat(b, n, &mut rows, &mut predecessors);
-    refused_as(113, admitted, b)
-        & refused_as(113, seated, b)
-        & refused_as(113, board_code::retire(b, n, 1), b)
-        & refused_as(114, board_code::retire(b, 1, n), b)
-        & refused_as(114, board_code::withdraw(b, n), b)
-        & refused_as(114, board_code::restore(b, n), b)
-        & untouched(rows, predecessors)
+    let mut table = OLD;
+    let no_type = [
+        admit(b, n, &mut table.rows, &mut table.predecessors),
+        seat(b, n, &mut table.rows, &mut table.predecessors),
+        retire(b, n, 1),
+    ];
+    let no_engine = [retire(b, 1, n), withdraw(b, n), restore(b, n)];
+    no_type
+        .iter()
+        .all(|turn| refused(*turn, Refusal::Input(13), b))
+        && no_engine
+            .iter()
+            .all(|turn| refused(*turn, Refusal::Input(14), b))
+        && table == OLD
 }
 
-// Numbers that are 1 in 8, in 16 and in 32 bits.
 fn say_wide(rt: &HostRuntime, b: Board) {
-    if none_numbered(b, 257) & none_numbered(b, 65537) & none_numbered(b, 4294967297) {
+    if WIDE.iter().all(|n| none_numbered(b, *n)) {
         say::say(rt, b" wide 13 14");
     } else {
         say::say(rt, b" WIDE NUMBER TAKEN");
     }
 }
 
-// What withdraw and restore answer for engine 1.
-fn say_moves(rt: &HostRuntime, b: Board) {
-    let withdrawn = board_code::withdraw(b, 1);
-    let restored = board_code::restore(b, 1);
-    let first = withdrawn.answer;
-    let second = restored.answer;
-    say::say_answer(rt, first);
-    say::say_answer(rt, second);
-}
-
 // The six answers on a board that is true, and to numbers far past its types and engines.
 pub fn say_true(rt: &HostRuntime, name: &[u8], b: Board) {
-    let mut rows: [u16; COLUMN_LIMIT] = [9; COLUMN_LIMIT];
-    let mut predecessors: [u16; COLUMN_LIMIT] = [8; COLUMN_LIMIT];
-    let admitted = board_code::admit(b, 1, &mut rows, &mut predecessors);
-    let seated = board_code::seat(b, 1, &mut rows, &mut predecessors);
-    let repacked = board_code::repack(b, &mut rows, &mut predecessors);
-    let retired = board_code::retire(b, 1, 1);
-    let first = admitted.answer;
-    let second = seated.answer;
-    let third = repacked.answer;
-    let fourth = retired.answer;
+    let mut table = OLD;
     say::say(rt, name);
     say_truth(rt, b);
-    say::say_answer(rt, first);
-    say::say_answer(rt, second);
-    say::say_answer(rt, third);
-    say::say_answer(rt, fourth);
-    say_moves(rt, b);
+    for turn in six_calls(b, &mut table) {
+        say::say_answer(rt, turn.answer);
+    }
     say_wide(rt, b);
     say::say(rt, b"\n");
 }

@@ -12,55 +12,19 @@
 // - `a mark at m + 1`: a mark on an engine that the system does not have; `engine 1 marked, holds two`: on one that holds an instance, with the sums of
 //   its load; `marked, time 1`: on one that holds nothing, with a stored time or memory;
 // - `C and T of type 1`: true boards with a C and T; `C and T: C 0`: false by one, of a type or past them.
-use crate::{boards, calls};
-use board::Board;
-use std::num::wrapping_add_usize;
-use trial::words::{after, byte_of, line_end, part, word_end};
+use crate::boards::Made;
+use crate::calls;
+use trial::cases::Words;
 
-// The bytes of the text that are read at most.
-pub const TEXT_BYTES: usize = 16384;
-
-// A case: whether its board is true, the board, where its name starts and ends, and where the next case starts.
-#[derive(Clone, Copy)]
-struct Case {
-    sound: bool,
-    board: Board,
-    start: usize,
-    end: usize,
-    next: usize,
-}
-
-// The case that starts at a place.
-fn case_at(text: &[u8], at: usize) -> Case {
-    let m = boards::made_at(text, after(word_end(text, at)));
-    let b = m.board;
-    let ended = line_end(text, m.at);
-    Case {
-        sound: byte_of(text, at) == b't',
-        board: b,
-        start: wrapping_add_usize(m.at, 2),
-        end: ended,
-        next: after(ended),
-    }
-}
-
-fn say_case(rt: &HostRuntime, name: &[u8], c: Case) {
-    let b = c.board;
-    if c.sound {
-        calls::say_true(rt, name, b);
+// A case, from its line.
+pub fn say_case(rt: &HostRuntime, line: &[u8]) {
+    let mut words = Words::of(line);
+    let sound = words.letter() == b't';
+    let mut made = Made::blank();
+    words.each_until(b"|", |word| made.tell(word));
+    if sound {
+        calls::say_true(rt, words.rest(), made.board);
     } else {
-        calls::say_board(rt, name, b);
-    }
-}
-
-// All cases of the text: there are fewer of them than bytes.
-pub fn say_cases(rt: &HostRuntime, text: &[u8]) {
-    let mut at: usize = 0;
-    for line in 0..text.len() {
-        if at < text.len() {
-            let c = case_at(text, at);
-            say_case(rt, part(text, c.start, c.end), c);
-            at = c.next;
-        }
+        calls::say_board(rt, words.rest(), made.board);
     }
 }

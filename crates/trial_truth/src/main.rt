@@ -7,14 +7,12 @@
 // board on each line of standard input, so that a board more costs no proof; a line for each board.
 #![tactic(auto)]
 
-use trial::input::read_full;
+use trial::cases::each_case;
 
 mod boards;
 mod calls;
 mod lines;
 
 fn main(rt: HostRuntime) {
-    let mut input = [0u8; lines::TEXT_BYTES];
-    let read = read_full(&rt, &mut input);
-    lines::say_cases(&rt, &input[..read]);
+    each_case::<16384, _>(&rt, |line| lines::say_case(&rt, line));
 }

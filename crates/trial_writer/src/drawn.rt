@@ -1,211 +1,187 @@
 // Systems drawn from the numbers at both ends of every limit, in every field, those past the last type too; and for each a buffer that is a byte too
 // short, just long enough, a byte longer, or much longer.
-use std::num::{wrapping_add_usize, wrapping_sub_usize};
-use system::System;
+use system::{System, TYPE_LIMIT};
 use system_code::blank_system;
 use trial::buffers::BUFFER_BYTES;
 use trial::changes::with_number;
 use trial::files;
-use trial::spread::draw;
+use trial::spread::Draws;
 
-// What each number is drawn from: up to its limit, and past it.
-const COUNTS: [usize; 8] = [1, 1, 2, 3, 4, 5, 6, 6];
+// What a number is drawn from: up to its limit, and past it.
+#[derive(Clone, Copy)]
+struct Ends {
+    within: [usize; 8],
+    past: [usize; 4],
+}
 
-const NO_COUNTS: [usize; 4] = [0, 7, 257, 18446744073709551615];
+const COUNTS: Ends = Ends {
+    within: [1, 1, 2, 3, 4, 5, 6, 6],
+    past: [0, 7, 257, 18446744073709551615],
+};
 
-const ENGINES: [usize; 8] = [1, 1, 2, 3, 8, 15, 16, 16];
+const ENGINES: Ends = Ends {
+    within: [1, 1, 2, 3, 8, 15, 16, 16],
+    past: [0, 17, 257, 18446744073709551615],
+};
 
-const NO_ENGINES: [usize; 4] = [0, 17, 257, 18446744073709551615];
+const SECONDS: Ends = Ends {
+    within: [1, 1, 1, 2, 8, 13, 14, 15],
+    past: [0, 7, 257, 18446744073709551615],
+};
 
-const SECONDS: [usize; 8] = [1, 1, 1, 2, 8, 13, 14, 15];
+const RULES: Ends = Ends {
+    within: [0, 1, 0, 1, 0, 1, 0, 1],
+    past: [2, 3, 128, 255],
+};
 
-const RULES: [usize; 8] = [0, 1, 0, 1, 0, 1, 0, 1];
+const SIZES: Ends = Ends {
+    within: [0, 1, 256, 65535, 65536, 658188, 999999, 1000000],
+    past: [1000001, 1000256, 16777216, 4294967295],
+};
 
-const NO_RULES: [usize; 4] = [2, 3, 128, 255];
+const DATA: Ends = Ends {
+    within: [0, 0, 0, 0, 1, 256, 65536, 1000000],
+    past: [1000001, 1000256, 16777216, 4294967295],
+};
 
-const SIZES: [usize; 8] = [0, 1, 256, 65535, 65536, 658188, 999999, 1000000];
+const MOSTS: Ends = Ends {
+    within: [65536, 65536, 65536, 1, 2, 256, 65534, 65535],
+    past: [0, 0, 0, 0],
+};
 
-const NO_SIZES: [usize; 4] = [1000001, 1000256, 16777216, 4294967295];
+const RUNS: Ends = Ends {
+    within: [1, 1, 1, 2, 3, 255, 32768, 65535],
+    past: [0, 65536, 65537, 4294967295],
+};
 
-const DATA: [usize; 8] = [0, 0, 0, 0, 1, 256, 65536, 1000000];
+const PERIODS: Ends = Ends {
+    within: [1, 3, 256, 32768, 65534, 65535, 65535, 65535],
+    past: [0, 65536, 65537, 4294967295],
+};
 
-const MOSTS: [usize; 8] = [65536, 65536, 65536, 1, 2, 256, 65534, 65535];
+const CEILINGS: Ends = Ends {
+    within: [0, 0, 0, 1, 1, 3, 63, 4095],
+    past: [4096, 4351, 65534, 65535],
+};
 
-const NO_MOSTS: [usize; 4] = [0, 0, 0, 0];
-
-const RUNS: [usize; 8] = [1, 1, 1, 2, 3, 255, 32768, 65535];
-
-const PERIODS: [usize; 8] = [1, 3, 256, 32768, 65534, 65535, 65535, 65535];
-
-const NO_TICKS: [usize; 4] = [0, 65536, 65537, 4294967295];
-
-const CEILINGS: [usize; 8] = [0, 0, 0, 1, 1, 3, 63, 4095];
-
-const NO_CEILINGS: [usize; 4] = [4096, 4351, 65534, 65535];
-
-// A system and the length of its buffer, and the seed after them.
+// A system and the length of its buffer, and what is drawn after them.
 #[derive(Clone, Copy)]
 pub struct Drawn {
-    pub seed: u64,
+    pub draws: Draws,
     pub system: System,
     pub room: usize,
 }
 
-// The system with one number drawn, one in 16 past its limit.
-fn with_drawn(d: Drawn, what: u8, t: usize, within: [usize; 8], past: [usize; 4]) -> Drawn {
-    let side = draw(d.seed, 16);
-    let drawn = draw(side.seed, 8);
-    let mut n = within[drawn.value % 8];
-    if side.value == 0 {
-        n = past[drawn.value % 4];
+impl Drawn {
+    // Draws one number of the system, one in 16 past its limit.
+    fn set(&mut self, what: u8, t: usize, ends: &Ends) {
+        let side = self.draws.below(16);
+        let place = self.draws.below(8);
+        let n = if side == 0 {
+            ends.past[place % 4]
+        } else {
+            ends.within[place % 8]
+        };
+        self.system = with_number(self.system, what, t, n);
     }
-    let y = d.system;
-    Drawn {
-        seed: drawn.seed,
-        system: with_number(y, what, t, n),
-        room: d.room,
+
+    fn set_platform(&mut self) {
+        self.set(b'k', 0, &COUNTS);
+        self.set(b'm', 0, &ENGINES);
+        self.set(b'r', 0, &RULES);
+        self.set(b'U', 0, &SIZES);
+        self.set(b'S', 0, &SIZES);
     }
-}
 
-// The type at index t.
-fn with_drawn_type(d: Drawn, t: usize) -> Drawn {
-    let timed = with_drawn(d, b'u', t, SIZES, NO_SIZES);
-    let stored = with_drawn(timed, b's', t, SIZES, NO_SIZES);
-    let limited = with_drawn(stored, b'n', t, CEILINGS, NO_CEILINGS);
-    let stacked = with_drawn(limited, b'd', t, DATA, NO_SIZES);
-    with_drawn(stacked, b'q', t, MOSTS, NO_MOSTS)
-}
-
-fn drawn_platform(seed: u64) -> Drawn {
-    let none = Drawn {
-        seed,
-        system: blank_system(),
-        room: BUFFER_BYTES,
-    };
-    let counted = with_drawn(none, b'k', 0, COUNTS, NO_COUNTS);
-    let powered = with_drawn(counted, b'm', 0, ENGINES, NO_ENGINES);
-    let ruled = with_drawn(powered, b'r', 0, RULES, NO_RULES);
-    let timed = with_drawn(ruled, b'U', 0, SIZES, NO_SIZES);
-    with_drawn(timed, b'S', 0, SIZES, NO_SIZES)
-}
-
-// The system with a second kind of engine: its number, U and S.
-fn with_drawn_second(d: Drawn) -> Drawn {
-    let counted = with_drawn(d, b'x', 0, SECONDS, NO_COUNTS);
-    let timed = with_drawn(counted, b'X', 0, SIZES, NO_SIZES);
-    with_drawn(timed, b'Z', 0, SIZES, NO_SIZES)
-}
-
-// The system with costs there of the type at index t, which one in 16 has not, as long as it is one of the first k, and one in two past them.
-fn with_drawn_there(d: Drawn, t: usize) -> Drawn {
-    let y = d.system;
-    let side = draw(d.seed, 16);
-    let limit = if t < y.typecount { 1 } else { 8 };
-    let given = Drawn {
-        seed: side.seed,
-        system: y,
-        room: d.room,
-    };
-    if side.value < limit {
-        return given;
+    // The type at index t.
+    fn set_type(&mut self, t: usize) {
+        self.set(b'u', t, &SIZES);
+        self.set(b's', t, &SIZES);
+        self.set(b'n', t, &CEILINGS);
+        self.set(b'd', t, &DATA);
+        self.set(b'q', t, &MOSTS);
     }
-    let timed = with_drawn(given, b'v', t, SIZES, NO_SIZES);
-    with_drawn(timed, b'z', t, SIZES, NO_SIZES)
-}
 
-// The system with a C and T of the type at index t, in one of four.
-fn with_drawn_pace(d: Drawn, t: usize) -> Drawn {
-    let y = d.system;
-    let side = draw(d.seed, 4);
-    let given = Drawn {
-        seed: side.seed,
-        system: y,
-        room: d.room,
-    };
-    if side.value != 0 {
-        return given;
+    // A second kind of engine: its number, U and S; none in one of 16.
+    fn set_second(&mut self) {
+        if self.draws.below(16) != 0 {
+            self.set(b'x', 0, &SECONDS);
+            self.set(b'X', 0, &SIZES);
+            self.set(b'Z', 0, &SIZES);
+        }
     }
-    let run = with_drawn(given, b'R', t, RUNS, NO_TICKS);
-    with_drawn(run, b'P', t, PERIODS, NO_TICKS)
-}
 
-// All six.
-fn with_drawn_paces(d: Drawn) -> Drawn {
-    let one = with_drawn_pace(d, 0);
-    let two = with_drawn_pace(one, 1);
-    let three = with_drawn_pace(two, 2);
-    let four = with_drawn_pace(three, 3);
-    let five = with_drawn_pace(four, 4);
-    with_drawn_pace(five, 5)
-}
-
-// All six.
-fn with_drawn_theres(d: Drawn) -> Drawn {
-    let one = with_drawn_there(d, 0);
-    let two = with_drawn_there(one, 1);
-    let three = with_drawn_there(two, 2);
-    let four = with_drawn_there(three, 3);
-    let five = with_drawn_there(four, 4);
-    with_drawn_there(five, 5)
-}
-
-// The length of the buffer: the file's less one, the file's, one more, or all of it.
-fn with_drawn_room(d: Drawn) -> Drawn {
-    let drawn = draw(d.seed, 4);
-    let y = d.system;
-    let f = files::file_of(y);
-    let mut room = BUFFER_BYTES;
-    if drawn.value < 3 {
-        room = wrapping_sub_usize(wrapping_add_usize(f.size, drawn.value), 1);
+    // Costs there of the type at index t, which one in 16 has not, as long as it is one of the first k, and one in two past them.
+    fn set_there(&mut self, t: usize) {
+        let without = if t < self.system.typecount { 1 } else { 8 };
+        if without <= self.draws.below(16) {
+            self.set(b'v', t, &SIZES);
+            self.set(b'z', t, &SIZES);
+        }
     }
-    Drawn {
-        seed: drawn.seed,
-        system: y,
-        room,
-    }
-}
 
-fn drawn_types(none: Drawn) -> Drawn {
-    let one = with_drawn_type(none, 0);
-    let two = with_drawn_type(one, 1);
-    let three = with_drawn_type(two, 2);
-    let four = with_drawn_type(three, 3);
-    let five = with_drawn_type(four, 4);
-    with_drawn_type(five, 5)
+    // A C and T of the type at index t, in one of four.
+    fn set_pace(&mut self, t: usize) {
+        if self.draws.below(4) == 0 {
+            self.set(b'R', t, &RUNS);
+            self.set(b'P', t, &PERIODS);
+        }
+    }
+
+    // The platform and all six types, of one kind of engine, without a C and T.
+    fn new(seed: u64) -> Drawn {
+        let mut d = Drawn {
+            draws: Draws { seed },
+            system: blank_system(),
+            room: BUFFER_BYTES,
+        };
+        d.set_platform();
+        for t in 0..TYPE_LIMIT {
+            d.set_type(t);
+        }
+        d
+    }
+
+    // The same with a C and T for some types.
+    fn with_paces(mut self) -> Drawn {
+        for t in 0..TYPE_LIMIT {
+            self.set_pace(t);
+        }
+        self
+    }
+
+    // The same with two kinds of engine and costs there; one in 16 has costs there alone.
+    fn with_kinds(mut self) -> Drawn {
+        self.set_second();
+        for t in 0..TYPE_LIMIT {
+            self.set_there(t);
+        }
+        self
+    }
+
+    // The same with a length of the buffer: the file's less one, the file's, one more, or all of it.
+    fn with_room(mut self) -> Drawn {
+        let choice = self.draws.below(4);
+        if choice < 3 {
+            let f = files::file_of(self.system);
+            self.room = f.size.wrapping_add(choice).wrapping_sub(1);
+        }
+        self
+    }
 }
 
 pub fn drawn_edges(seed: u64) -> Drawn {
-    with_drawn_room(drawn_types(drawn_platform(seed)))
+    Drawn::new(seed).with_room()
 }
 
-// The same with a C and T for some types.
 pub fn drawn_paces(seed: u64) -> Drawn {
-    with_drawn_room(with_drawn_paces(drawn_types(drawn_platform(seed))))
+    Drawn::new(seed).with_paces().with_room()
 }
 
-// A system with a second kind of engine and costs there; one in 16 has costs there alone.
-fn with_drawn_kinds(d: Drawn) -> Drawn {
-    let y = d.system;
-    let side = draw(d.seed, 16);
-    let mut both = Drawn {
-        seed: side.seed,
-        system: y,
-        room: d.room,
-    };
-    if side.value != 0 {
-        let next = with_drawn_second(both);
-        both = next;
-    }
-    with_drawn_theres(both)
-}
-
-// The same with two kinds of engine.
 pub fn drawn_kinds(seed: u64) -> Drawn {
-    with_drawn_room(with_drawn_kinds(drawn_types(drawn_platform(seed))))
+    Drawn::new(seed).with_kinds().with_room()
 }
 
-// With two kinds, and with a C and T for some types.
 pub fn drawn_both(seed: u64) -> Drawn {
-    let paced = with_drawn_paces(drawn_types(drawn_platform(seed)));
-    with_drawn_room(with_drawn_kinds(paced))
+    Drawn::new(seed).with_paces().with_kinds().with_room()
 }

@@ -5,7 +5,8 @@ use system_code::read_card;
 use trial::buffers::BUFFER_BYTES;
 use trial::changes::with_number;
 use trial::files::File;
-use trial::{files, say};
+use trial::lent::front;
+use trial::say;
 
 fn say_refusal(rt: &HostRuntime, r: Refusal) {
     match r {
@@ -19,12 +20,12 @@ fn say_refusal(rt: &HostRuntime, r: Refusal) {
 
 fn say_answer(rt: &HostRuntime, a: Answer) {
     match a {
-        Answer::Accepted => say::say(rt, b" accepted"),
-        Answer::Number(n) => {
+        Ok(None) => say::say(rt, b" accepted"),
+        Ok(Some(n)) => {
             say::say(rt, b" written");
             say::say_also(rt, n);
         }
-        Answer::Refused(r) => {
+        Err(r) => {
             say::say(rt, b" refused");
             say_refusal(rt, r);
         }
@@ -33,9 +34,7 @@ fn say_answer(rt: &HostRuntime, a: Answer) {
 
 // What was answered, and that the buffer or a round trip is wrong where it is.
 pub fn say_judged(rt: &HostRuntime, y: System, room: usize) {
-    let c = lent::called(y, room, 33);
-    let answer = c.answer;
-    say_answer(rt, answer);
+    say_answer(rt, lent::called(y, room, 33).answer);
     if !rounds::right(y, room) {
         say::say(rt, b" wrong");
     }
@@ -47,52 +46,40 @@ pub fn say_call(rt: &HostRuntime, y: System, room: usize) {
     say::say(rt, b"\n");
 }
 
-// The same for five numbers in one place of the type at index t.
-pub fn say_five(rt: &HostRuntime, y: System, what: u8, t: usize, numbers: [usize; 5]) {
-    for i in 0..5 {
-        let n = numbers[i];
-        say_judged(rt, with_number(y, what, t, n), BUFFER_BYTES);
+// The same for some numbers in one place of the type at index t.
+pub fn say_each(rt: &HostRuntime, y: System, what: u8, t: usize, numbers: &[usize]) {
+    for n in numbers {
+        say_judged(rt, with_number(y, what, t, *n), BUFFER_BYTES);
     }
     say::say(rt, b"\n");
 }
 
-fn say_byte(rt: &HostRuntime, b: u8) {
-    say::say_also(rt, b as usize);
-}
-
-// The bytes of a file as they stand in the buffer, up to the answer's number.
-fn say_bytes(rt: &HostRuntime, bytes: [u8; BUFFER_BYTES], n: usize) {
-    for i in 0..BUFFER_BYTES {
-        if i < n {
-            say_byte(rt, bytes[i]);
-        }
+// The bytes of a file.
+fn say_bytes(rt: &HostRuntime, bytes: &[u8]) {
+    for b in bytes {
+        say::say_also(rt, *b as usize);
     }
     say::say(rt, b"\n");
 }
 
 pub fn say_whole(rt: &HostRuntime, f: File) {
-    let bytes = f.bytes;
-    say_bytes(rt, bytes, f.size);
+    say_bytes(rt, f.as_slice());
 }
 
 pub fn say_file(rt: &HostRuntime, y: System) {
     let c = lent::called(y, BUFFER_BYTES, 33);
-    let answer = c.answer;
-    let bytes = c.bytes;
-    say_answer(rt, answer);
-    if let Answer::Number(n) = answer {
-        say_bytes(rt, bytes, n);
+    say_answer(rt, c.answer);
+    if let Ok(Some(n)) = c.answer {
+        say_bytes(rt, front(&c.bytes, n));
     }
 }
 
 // The same of a buffer of so many bytes, judged; the bytes where it is written, and the end of a line in every case.
 pub fn say_room(rt: &HostRuntime, y: System, room: usize) {
     let c = lent::called(y, room, 33);
-    let answer = c.answer;
-    let bytes = c.bytes;
     say_judged(rt, y, room);
-    if let Answer::Number(n) = answer {
-        say_bytes(rt, bytes, n);
+    if let Ok(Some(n)) = c.answer {
+        say_bytes(rt, front(&c.bytes, n));
     } else {
         say::say(rt, b"\n");
     }
@@ -100,9 +87,7 @@ pub fn say_room(rt: &HostRuntime, y: System, room: usize) {
 
 // What a file reads as.
 fn system_of(f: File) -> System {
-    let bytes = f.bytes;
-    let o = read_card(files::first_of(&bytes, f.size));
-    o.system
+    read_card(f.as_slice()).system
 }
 
 // A file with a tag 3 of d 0: how long it is, and how long the one is that is written for what was read.

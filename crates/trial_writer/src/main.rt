@@ -5,7 +5,7 @@
 // the bytes without it. What is expected was computed apart from the code.
 #![tactic(auto)]
 
-use trial::input::read_full;
+use trial::cases::each_case;
 
 mod cases;
 mod drawn;
@@ -18,8 +18,9 @@ mod sweeps;
 mod zeros;
 
 fn main(rt: HostRuntime) {
-    let mut input = [0u8; cases::TEXT_BYTES];
-    let read = read_full(&rt, &mut input);
-    let wrong = cases::say_cases(&rt, &input[..read]);
+    let mut wrong: usize = 0;
+    each_case::<{ cases::TEXT_BYTES }, _>(&rt, |line| {
+        wrong = wrong.wrapping_add(cases::say_case(&rt, line));
+    });
     sweeps::say_sweeps(&rt, wrong);
 }

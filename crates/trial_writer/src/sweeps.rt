@@ -1,9 +1,9 @@
 // Many calls, each judged, and counted by what it answered.
-use crate::drawn::{drawn_both, drawn_edges, drawn_kinds, drawn_paces};
+use crate::drawn::{Drawn, drawn_both, drawn_edges, drawn_kinds, drawn_paces};
 use crate::{lent, rounds};
-use std::num::wrapping_add_usize;
-use system::{Answer, System};
+use system::{Answer, Refusal, System};
 use trial::buffers::BUFFER_BYTES;
+use trial::lent::front;
 use trial::{say, spread};
 
 // How many calls wrote the system, at 0, and how many were refused with each number, in the order in which they are asked; and how many were wrong.
@@ -13,270 +13,132 @@ struct Tally {
     wrong: usize,
 }
 
-fn no_tally() -> Tally {
-    Tally {
-        answers: [0; 12],
-        wrong: 0,
-    }
-}
-
 // Where an answer is counted: 41 and 43 last, and 9 for one that the writer never gives.
 fn place_of(a: Answer) -> usize {
-    let code = say::code_of(a);
-    if 1000 < code {
-        return 0;
-    }
-    match code {
-        107 => 1,
-        109 => 2,
-        105 => 3,
-        106 => 4,
-        108 => 5,
-        131 => 6,
-        110 => 7,
-        130 => 8,
-        141 => 10,
-        143 => 11,
+    match a {
+        Ok(Some(_)) => 0,
+        Err(Refusal::Input(7)) => 1,
+        Err(Refusal::Input(9)) => 2,
+        Err(Refusal::Input(5)) => 3,
+        Err(Refusal::Input(6)) => 4,
+        Err(Refusal::Input(8)) => 5,
+        Err(Refusal::Input(31)) => 6,
+        Err(Refusal::Input(10)) => 7,
+        Err(Refusal::Input(30)) => 8,
+        Err(Refusal::Input(41)) => 10,
+        Err(Refusal::Input(43)) => 11,
         _ => 9,
     }
 }
 
-fn counted(t: Tally, place: usize) -> Tally {
-    let mut next = t;
-    if place < 12 {
-        next.answers[place] = wrapping_add_usize(t.answers[place], 1);
-    }
-    next
-}
-
-fn mismatch(rt: &HostRuntime, t: Tally, y: System, room: usize) -> Tally {
-    say::say_count(rt, b"mismatch: buffer", room);
-    say::say_count(rt, b"types", y.typecount);
-    say::say_system(rt, b"system", y);
-    let mut next = t;
-    next.wrong = wrapping_add_usize(t.wrong, 1);
-    next
-}
-
-// One call, with its round trips.
-fn judged(rt: &HostRuntime, t: Tally, y: System, room: usize) -> Tally {
-    let c = lent::called(y, room, 61);
-    let answer = c.answer;
-    let next = counted(t, place_of(answer));
-    if rounds::right(y, room) {
-        return next;
-    }
-    mismatch(rt, next, y, room)
-}
-
-// Buffers of every length from 0 on, fewer than `end` and than 309: the longest file of one kind of engine without a C and T has 163 bytes, of two 241, and
-// with them
-// 229 and 307.
-fn lengths(rt: &HostRuntime, y: System, end: usize) -> Tally {
-    let mut all = no_tally();
-    for room in 0..309usize {
-        if room < end {
-            let next = judged(rt, all, y, room);
-            all = next;
+impl Tally {
+    fn new() -> Tally {
+        Tally {
+            answers: [0; 12],
+            wrong: 0,
         }
     }
-    all
-}
 
-// The calls so far, and the seed of the next one.
-#[derive(Clone, Copy)]
-struct Run {
-    seed: u64,
-    tally: Tally,
-}
+    // One call, with its round trips.
+    fn judge(&mut self, rt: &HostRuntime, y: System, room: usize) {
+        let c = lent::called(y, room, 61);
+        if let Some(n) = self.answers.get_mut(place_of(c.answer)) {
+            *n = n.wrapping_add(1);
+        }
+        if !rounds::right(y, room) {
+            say::say_count(rt, b"mismatch: buffer", room);
+            say::say_count(rt, b"types", y.typecount);
+            say::say_system(rt, b"system", y);
+            self.wrong = self.wrong.wrapping_add(1);
+        }
+    }
 
-fn first_run(seed: u64) -> Run {
-    Run {
-        seed,
-        tally: no_tally(),
+    // A line for the calls, with the first numbers of the answers; answers how many of them were wrong.
+    fn say(&self, rt: &HostRuntime, name: &[u8], shown: usize) -> usize {
+        say::say_numbers(rt, name, front(&self.answers, shown));
+        self.wrong
     }
 }
 
-fn next_edges(rt: &HostRuntime, r: Run) -> Run {
-    let d = drawn_edges(r.seed);
-    let y = d.system;
-    let tally = r.tally;
-    Run {
-        seed: d.seed,
-        tally: judged(rt, tally, y, d.room),
+// Buffers of every length from 0 on, fewer than `end`, with a line for them: the longest file of one kind of engine without a C and T has 163 bytes, of two
+// 241, and with them 229 and 307.
+pub fn say_lengths(rt: &HostRuntime, name: &[u8], y: System, end: usize, shown: usize) -> usize {
+    let mut t = Tally::new();
+    for room in 0..end {
+        t.judge(rt, y, room);
+    }
+    t.say(rt, name, shown)
+}
+
+// So many systems, each drawn with the seed that the one before it left, and its number in turn from 0.
+fn sweep<F: Fn(u64, usize) -> Drawn>(rt: &HostRuntime, seed: u64, number: usize, next: F) -> Tally
+    requires { F.IsAlwaysCallable next }
+{
+    let mut t = Tally::new();
+    let mut seed = seed;
+    for i in 0..number {
+        let d = next(seed, i);
+        t.judge(rt, d.system, d.room);
+        seed = d.draws.seed;
+    }
+    t
+}
+
+// The types of the system at a place, 1 to 6 in turn, and their largest n, so that the columns of most systems are within their limit.
+fn in_turn(i: usize) -> (usize, usize) {
+    match i % 6 {
+        0 => (1, 4120),
+        1 => (2, 67),
+        2 => (3, 18),
+        3 => (4, 9),
+        4 => (5, 6),
+        _ => (6, 4),
     }
 }
 
-// Systems drawn at the ends of the limits.
-fn edges(rt: &HostRuntime) -> Tally {
-    let mut r = first_run(1);
-    for i in 0..20000usize {
-        let next = next_edges(rt, r);
-        r = next;
-    }
-    r.tally
-}
-
-// The same with two kinds of engine, or only a part of them.
-fn next_kinds(rt: &HostRuntime, r: Run) -> Run {
-    let d = drawn_kinds(r.seed);
-    let y = d.system;
-    let tally = r.tally;
-    Run {
-        seed: d.seed,
-        tally: judged(rt, tally, y, d.room),
+// A system drawn by crate `trial`, with all of a buffer.
+fn whole(d: spread::DrawnSystem) -> Drawn {
+    Drawn {
+        draws: spread::Draws { seed: d.seed },
+        system: d.system,
+        room: BUFFER_BYTES,
     }
 }
 
-fn kinds(rt: &HostRuntime) -> Tally {
-    let mut r = first_run(3);
-    for i in 0..10000usize {
-        let next = next_kinds(rt, r);
-        r = next;
-    }
-    r.tally
-}
-
-// The same with a C and T for some types, of one kind of engine and of two.
-fn next_paces(rt: &HostRuntime, r: Run) -> Run {
-    let d = drawn_paces(r.seed);
-    let y = d.system;
-    let tally = r.tally;
-    Run {
-        seed: d.seed,
-        tally: judged(rt, tally, y, d.room),
-    }
-}
-
-fn paces(rt: &HostRuntime) -> Tally {
-    let mut r = first_run(5);
-    for i in 0..10000usize {
-        let next = next_paces(rt, r);
-        r = next;
-    }
-    r.tally
-}
-
-fn next_both(rt: &HostRuntime, r: Run) -> Run {
-    let d = drawn_both(r.seed);
-    let y = d.system;
-    let tally = r.tally;
-    Run {
-        seed: d.seed,
-        tally: judged(rt, tally, y, d.room),
-    }
-}
-
-fn both(rt: &HostRuntime) -> Tally {
-    let mut r = first_run(6);
-    for i in 0..10000usize {
-        let next = next_both(rt, r);
-        r = next;
-    }
-    r.tally
-}
-
-// The largest n of k types, so that the columns of most systems are within their limit.
-fn most_of(k: usize) -> usize {
-    match k {
-        1 => 4120,
-        2 => 67,
-        3 => 18,
-        4 => 9,
-        5 => 6,
-        _ => 4,
-    }
-}
-
-fn next_drawn(rt: &HostRuntime, r: Run, k: usize) -> Run {
-    let d = spread::drawn_system(r.seed, 16, k, most_of(k));
-    let y = d.system;
-    let tally = r.tally;
-    Run {
-        seed: d.seed,
-        tally: judged(rt, tally, y, BUFFER_BYTES),
-    }
-}
-
-// Systems of 1 to 6 types in turn, drawn by crate `trial`.
-fn drawn(rt: &HostRuntime) -> Tally {
-    let mut r = first_run(2);
-    for i in 0..6000usize {
-        let next = next_drawn(rt, r, i % 6 + 1);
-        r = next;
-    }
-    r.tally
-}
-
-fn next_mixed(rt: &HostRuntime, r: Run, k: usize) -> Run {
-    let d = spread::drawn_mixed(r.seed, 16, k, most_of(k));
-    let y = d.system;
-    let tally = r.tally;
-    Run {
-        seed: d.seed,
-        tally: judged(rt, tally, y, BUFFER_BYTES),
-    }
+fn drawn_spread(seed: u64, i: usize) -> Drawn {
+    let (k, most) = in_turn(i);
+    whole(spread::drawn_system(seed, 16, k, most))
 }
 
 // The same of two kinds.
-fn mixed(rt: &HostRuntime) -> Tally {
-    let mut r = first_run(4);
-    for i in 0..3000usize {
-        let next = next_mixed(rt, r, i % 6 + 1);
-        r = next;
-    }
-    r.tally
+fn drawn_mixed(seed: u64, i: usize) -> Drawn {
+    let (k, most) = in_turn(i);
+    whole(spread::drawn_mixed(seed, 16, k, most))
 }
 
-// A line for some calls; answers how many of them were wrong.
-fn say_tally(rt: &HostRuntime, name: &[u8], t: Tally) -> usize {
-    let row = t.answers;
-    say::say_row(rt, name, row, 10);
-    t.wrong
-}
-
-// The same with the number of those refused 41.
-fn say_kinds(rt: &HostRuntime, name: &[u8], t: Tally) -> usize {
-    let row = t.answers;
-    say::say_row(rt, name, row, 11);
-    t.wrong
-}
-
-// The same with the number of those refused 43.
-fn say_paces(rt: &HostRuntime, name: &[u8], t: Tally) -> usize {
-    let row = t.answers;
-    say::say_row(rt, name, row, 12);
-    t.wrong
-}
-
-pub fn say_lengths(rt: &HostRuntime, name: &[u8], y: System) -> usize {
-    say_tally(rt, name, lengths(rt, y, 165))
-}
-
-pub fn say_longer(rt: &HostRuntime, name: &[u8], y: System) -> usize {
-    say_kinds(rt, name, lengths(rt, y, 243))
-}
-
-pub fn say_longest(rt: &HostRuntime, name: &[u8], y: System) -> usize {
-    say_paces(rt, name, lengths(rt, y, 309))
-}
-
-// The drawn systems, and how many calls were wrong, among them and before them.
-pub fn say_sweeps(rt: &HostRuntime, wrong: usize) {
-    let ends = wrapping_add_usize(wrong, say_tally(rt, b"ends of the limits:", edges(rt)));
-    let one = wrapping_add_usize(ends, say_tally(rt, b"drawn:", drawn(rt)));
-    let paired = wrapping_add_usize(
-        one,
-        say_kinds(rt, b"ends of the limits, two kinds:", kinds(rt)),
-    );
-    let mixes = wrapping_add_usize(paired, say_kinds(rt, b"drawn, two kinds:", mixed(rt)));
-    let run = wrapping_add_usize(
-        mixes,
-        say_paces(rt, b"ends of the limits, C and T:", paces(rt)),
-    );
-    let all = wrapping_add_usize(
-        run,
-        say_paces(rt, b"ends of the limits, two kinds, C and T:", both(rt)),
-    );
+// The drawn systems, and how many calls were wrong, among them and before them. Of two kinds the number of those refused 41 is shown too, and with a C and T
+// the number of those refused 43.
+pub fn say_sweeps(rt: &HostRuntime, before: usize) {
+    let wrong = [
+        sweep(rt, 1, 20000, |seed, _| drawn_edges(seed)).say(rt, b"ends of the limits:", 10),
+        sweep(rt, 2, 6000, drawn_spread).say(rt, b"drawn:", 10),
+        sweep(rt, 3, 10000, |seed, _| drawn_kinds(seed)).say(
+            rt,
+            b"ends of the limits, two kinds:",
+            11,
+        ),
+        sweep(rt, 4, 3000, drawn_mixed).say(rt, b"drawn, two kinds:", 11),
+        sweep(rt, 5, 10000, |seed, _| drawn_paces(seed)).say(
+            rt,
+            b"ends of the limits, C and T:",
+            12,
+        ),
+        sweep(rt, 6, 10000, |seed, _| drawn_both(seed)).say(
+            rt,
+            b"ends of the limits, two kinds, C and T:",
+            12,
+        ),
+    ];
+    let all = wrong.iter().fold(before, |all, n| all.wrapping_add(*n));
     say::say_count(rt, b"mismatches", all);
 }

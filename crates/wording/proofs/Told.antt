@@ -1,4 +1,6 @@
 -- What a reader finds in the line of a file, from what a cause means; and that the line which the code writes is that one.
+use Rattle.std.proofs.Common.{Result, Ok, Err}
+use Rattle.system.specs.declared.Refusal.{Refusal}
 use Prim.Native.Nat.{ℕ}
 use mathlib.Core.Path.{◌≡◌, refl, sym, ap, subst, ◌∙◌}
 use mathlib.Core.List.{List, []}
@@ -30,8 +32,6 @@ use Rattle.listing.proofs.Lines.{number-told}
 use Rattle.listing.proofs.Text.{LongForAll, long-for-all, one-kind-text}
 use Rattle.causes.specs.declared.Cause.{Cause}
 use Rattle.causes.specs.declared.Cause.TheVariants.{Possible, NoEngine, OneTooLarge, TooMuchTime, TooMuchMemory, TooManyReplicas, NoArrangement}
-use Rattle.causes.specs.declared.CauseAnswer.{CauseAnswer}
-use Rattle.causes.specs.declared.CauseAnswer.TheVariants.{Because, Refused}
 use Rattle.causes.specs.Causes.{told, cause_outcome_of, cause_on, plan_cause}
 use Rattle.causes.specs.Meaning.{Not1, CauseMeans, PlanCausePromises}
 use Rattle.causes.proofs.Means.{same-cause, exists_iff}
@@ -104,17 +104,17 @@ tells-why file = record {
 
 -- main: the line of what the code is answered, over a table that is long enough
 
-unread-line : (a : CauseAnswer) (n : ℕ) → cause_outcome_of a ≡ refused from_input n → answer_line a ≡ refusal_line n
-unread-line (Because c) n o = not-refused c from_input n o
-unread-line (Refused (Input m)) n o = ap refusal_line (cc)
-unread-line (Refused (State m)) n o = ap refusal_line (cc)
+unread-line : (a : Result Cause Refusal) (n : ℕ) → cause_outcome_of a ≡ refused from_input n → answer_line a ≡ refusal_line n
+unread-line (Ok c) n o = not-refused c from_input n o
+unread-line (Err (Input m)) n o = ap refusal_line (cc)
+unread-line (Err (State m)) n o = ap refusal_line (cc)
 
-cause-line : (a : CauseAnswer) (c : Cause) → cause_outcome_of a ≡ told c → answer_line a ≡ cause_line c
-cause-line (Because d) c o = ap cause_line (same-cause d c o)
-cause-line (Refused (Input m)) c o = not-refused c from_input m (sym o)
-cause-line (Refused (State m)) c o = not-refused c from_state m (sym o)
+cause-line : (a : Result Cause Refusal) (c : Cause) → cause_outcome_of a ≡ told c → answer_line a ≡ cause_line c
+cause-line (Ok d) c o = ap cause_line (same-cause d c o)
+cause-line (Err (Input m)) c o = not-refused c from_input m (sym o)
+cause-line (Err (State m)) c o = not-refused c from_state m (sym o)
 
-answer-line : (file : List ℕ) (table : Lent) (a : CauseAnswer) → LongForAll table → cause_outcome_of a ≡ plan_cause (read_file file) table → answer_line a ≡ why_text file
+answer-line : (file : List ℕ) (table : Lent) (a : Result Cause Refusal) → LongForAll table → cause_outcome_of a ≡ plan_cause (read_file file) table → answer_line a ≡ why_text file
 unfolding reading_line
 answer-line file table a size o = go (read_file file) refl o
   where
@@ -122,7 +122,7 @@ answer-line file table a size o = go (read_file file) refl o
     go (unread n) e o = unread-line a n o
     go (opened y) e o = cause-line a _ (o ∙ rw (long-back y (read-limits file y e) table (long-for-all file y table (file-card file y e).0 size)))
 
-pub why-promised : {file : List ℕ} {table after : Lent} {old new : List ℕ} {a : CauseAnswer} {r : ℕ} → LongForAll table → PlanCausePromises (read_file file) table a after
+pub why-promised : {file : List ℕ} {table after : Lent} {old new : List ℕ} {a : Result Cause Refusal} {r : ℕ} → LongForAll table → PlanCausePromises (read_file file) table a after
     → Written (answer_line a) old new r → WhyPromises file old new r
 why-promised {file = file} {table = table} {a = a} size p w = record {
   written = rw (answer-line file table a size p.answers) at w;

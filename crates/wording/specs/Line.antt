@@ -1,5 +1,6 @@
 -- The line that program `why` writes, as the code writes it: `placed`, a cause in words with its number, or a refusal.
-use Rattle.std.specs.Prelude.{ℕ, List, [], ◌∷◌, ◌++◌}
+use Rattle.std.specs.Prelude.{ℕ, List, [], ◌∷◌, ◌++◌, Result, Ok, Err}
+use Rattle.system.specs.declared.Refusal.{Refusal}
 use Rattle.system.specs.Values.{ceilings_of}
 use Rattle.system.specs.Layout.{Reading, read_file, opened, unread}
 use Rattle.partition.specs.Assignment.{engines_to}
@@ -7,8 +8,6 @@ use Rattle.listing.specs.Listing.{decimal, refusal_line}
 use Rattle.listing.specs.Demands.{number_of}
 use Rattle.causes.specs.declared.Cause.{Cause}
 use Rattle.causes.specs.declared.Cause.TheVariants.{Possible, NoEngine, OneTooLarge, TooMuchTime, TooMuchMemory, TooManyReplicas, NoArrangement}
-use Rattle.causes.specs.declared.CauseAnswer.{CauseAnswer}
-use Rattle.causes.specs.declared.CauseAnswer.TheVariants.{Because, Refused}
 use Rattle.causes.specs.Causes.{cause_on}
 
 -- the parts of the line of cause 2: `cause 2: type ` before the type's number, ` fits nowhere` and 0A after it
@@ -33,9 +32,9 @@ cause_line TooManyReplicas = 99 ∷ 97 ∷ 117 ∷ 115 ∷ 101 ∷ 32 ∷ 53 ∷
 cause_line NoArrangement = 99 ∷ 97 ∷ 117 ∷ 115 ∷ 101 ∷ 32 ∷ 54 ∷ 58 ∷ 32 ∷ 101 ∷ 110 ∷ 111 ∷ 117 ∷ 103 ∷ 104 ∷ 32 ∷ 105 ∷ 110 ∷ 32 ∷ 97 ∷ 108 ∷ 108 ∷ 44 ∷ 32 ∷ 98 ∷ 117 ∷ 116 ∷ 32 ∷ 110 ∷ 111 ∷ 32 ∷ 97 ∷ 114 ∷ 114 ∷ 97 ∷ 110 ∷ 103 ∷ 101 ∷ 109 ∷ 101 ∷ 110 ∷ 116 ∷ 32 ∷ 102 ∷ 105 ∷ 116 ∷ 115 ∷ 10 ∷ []
 
 -- the line of what `why_no_plan` answers
-abbrev pub answer_line : CauseAnswer → List ℕ
-answer_line (Because c) = cause_line c
-answer_line (Refused why) = refusal_line (number_of why)
+abbrev pub answer_line : Result Cause Refusal → List ℕ
+answer_line (Ok c) = cause_line c
+answer_line (Err why) = refusal_line (number_of why)
 
 -- both parts of the table are the function's own and long enough, so 11 does not arise: 1 to 10, 31 and 41 to 43, or the cause
 unfoldable pub reading_line : Reading → List ℕ

@@ -8,10 +8,10 @@ ghost use Rattle.wording.specs.Line.{type_line, cause_line, answer_line};
 ghost use Rattle.wording.specs.Meaning.{WhyPromises, ReadPromises};
 
 use buffer::{least, put_bytes};
-use causes::{Cause, CauseAnswer};
+use causes::Cause;
 use causes_code::why_no_plan;
 use listing_code::{put_number, write_refusal};
-use system::{COLUMN_LIMIT, FILE_BYTES};
+use system::{COLUMN_LIMIT, FILE_BYTES, Refusal};
 
 // Writes the line of a type of which not even one instance fits an empty engine.
 fn write_type(out: &mut [u8; 4096], t: usize) -> usize
@@ -42,12 +42,12 @@ fn write_cause(out: &mut [u8; 4096], cause: Cause) -> usize
 }
 
 // Writes the line of an answer.
-fn write_answer(out: &mut [u8; 4096], answer: CauseAnswer) -> usize
+fn write_answer(out: &mut [u8; 4096], answer: Result<Cause, Refusal>) -> usize
     ensures { Written (answer_line answer) out.old out.new result }
 {
     match answer {
-        CauseAnswer::Because(cause) => write_cause(out, cause),
-        CauseAnswer::Refused(why) => write_refusal(out, why),
+        Ok(cause) => write_cause(out, cause),
+        Err(why) => write_refusal(out, why),
     }
 }
 
@@ -58,8 +58,7 @@ pub fn why_of(file: &[u8], out: &mut [u8; 4096]) -> usize
 {
     let mut rows = [0u16; COLUMN_LIMIT];
     let mut predecessors = [0u16; COLUMN_LIMIT];
-    let answer = why_no_plan(file, &mut rows, &mut predecessors);
-    write_answer(out, answer)
+    write_answer(out, why_no_plan(file, &mut rows, &mut predecessors))
 }
 
 // The same for a file of which `read` bytes were read, at most `FILE_BYTES` of them. A longer file has the same line.

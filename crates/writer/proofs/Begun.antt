@@ -1,5 +1,8 @@
 -- A file of which each field keeps its limits is read to its end (`read-to-end`), and by `beginnings` it is a beginning after each of its fields. Its platform, any second kind and
 -- the fields of its types are whole fields by their lengths, and each of them leaves a rest of the file.
+use Rattle.std.proofs.Common.{Option, None, Some}
+use Rattle.system.specs.declared.Costs.{Costs}
+use Rattle.system.specs.declared.Cycle.{Cycle}
 use Prim.Native.Nat.{ℕ, zero, suc, ◌≤◌, ◌<◌}
 use mathlib.Core.Path.{◌≡◌, refl, sym, ap, ◌∙◌, subst}
 use mathlib.Core.List.{List, [], ◌∷◌, ◌++◌, append-nil, append_assoc}
@@ -8,15 +11,7 @@ use native.Mathlib.Omega.{arith}
 use borrow.Author.Tests.{leb-true, leb-false}
 use lib.ListN.{length}
 use lib.Dec.{leb}
-use Rattle.system.specs.declared.Most.{Most}
-use Rattle.system.specs.declared.Most.TheVariants.{NotGiven, AtMost}
-use Rattle.system.specs.declared.Pace.{Pace}
-use Rattle.system.specs.declared.Pace.TheVariants.{Unpaced, Paced}
-use Rattle.system.specs.declared.There.{There}
-use Rattle.system.specs.declared.There.TheVariants.{Absent, Takes}
 use Rattle.system.specs.declared.Kind.{Kind}
-use Rattle.system.specs.declared.Second.{Second}
-use Rattle.system.specs.declared.Second.TheVariants.{OneKind, TwoKinds}
 use Rattle.system.specs.declared.TaskType.{TaskType}
 use Rattle.system.specs.declared.System.{System}
 use Rattle.system.specs.Layout.{read_card}
@@ -60,21 +55,21 @@ joins-data told d = at (has-data told d)
     at (left_out quiet none) = rw (quiet, none) joins-none
     at (given e) = rw e (joins-field 3 0 4 (four_out d) refl)
 
-joins-most : (m : Most) → Joins (most_out m)
-joins-most NotGiven = joins-none
-joins-most (AtMost q) = joins-field 4 0 2 (two_out q) refl
+joins-most : (m : Option ℕ) → Joins (most_out m)
+joins-most None = joins-none
+joins-most (Some q) = joins-field 4 0 2 (two_out q) refl
 
-joins-pace : (x : Pace) → Joins (pace_out x)
-joins-pace Unpaced = joins-none
-joins-pace (Paced c) = joins-field 5 0 8 (four_out c.run ++ four_out c.period) refl
+joins-pace : (x : Option Cycle) → Joins (pace_out x)
+joins-pace None = joins-none
+joins-pace (Some c) = joins-field 5 0 8 (four_out c.run ++ four_out c.period) refl
 
-joins-costs : (x : There) → Joins (costs_out x)
-joins-costs Absent = joins-none
-joins-costs (Takes c) = joins-field 7 0 8 (four_out c.time ++ four_out c.memory) refl
+joins-costs : (x : Option Costs) → Joins (costs_out x)
+joins-costs None = joins-none
+joins-costs (Some c) = joins-field 7 0 8 (four_out c.time ++ four_out c.memory) refl
 
-joins-second : (s : Second) → Joins (second_out s)
-joins-second OneKind = joins-none
-joins-second (TwoKinds k) = joins-field 6 0 9 (k.number ∷ (four_out k.timecap ++ four_out k.memorycap)) refl
+joins-second : (s : Option Kind) → Joins (second_out s)
+joins-second None = joins-none
+joins-second (Some k) = joins-field 6 0 9 (k.number ∷ (four_out k.timecap ++ four_out k.memorycap)) refl
 
 -- what a type has after its own field
 abbrev after : Bool → TaskType → List ℕ
@@ -98,10 +93,10 @@ joins-types told y (suc n) = joins-both (types_out told y n) (type_out (told (su
 platform-field : (y : System) → WholeFields (platform_out y) 1
 platform-field y = a-field 1 0 10 (y.engines ∷ y.rule ∷ (four_out y.timecap ++ four_out y.memorycap)) refl
 
-second-field : (y : System) (k : Kind) → y.second ≡ TwoKinds k → WholeFields (platform_out y ++ second_out y.second) 6
+second-field : (y : System) (k : Kind) → y.second ≡ Some k → WholeFields (platform_out y ++ second_out y.second) 6
 second-field y k is =
-    subst (λ (s : Second). WholeFields (platform_out y ++ second_out s) 6) (sym is)
-    (fields-on (platform_out y) (second_out (TwoKinds k)) 1 6 (platform-field y) (a-field 6 0 9 (k.number ∷ (four_out k.timecap ++ four_out k.memorycap)) refl))
+    subst (λ (s : Option Kind). WholeFields (platform_out y ++ second_out s) 6) (sym is)
+    (fields-on (platform_out y) (second_out (Some k)) 1 6 (platform-field y) (a-field 6 0 9 (k.number ∷ (four_out k.timecap ++ four_out k.memorycap)) refl))
 
 fields-to : (told : ℕ → Bool) (y : System) (t : ℕ) → (last : ℕ) × (WholeFields (up_to_type told y t) last)
 fields-to told y t = joins-both (second_out y.second) (types_out told y t) (joins-second y.second) (joins-types told y t) (platform_out y) 1 (platform-field y)

@@ -1,5 +1,6 @@
 -- The bytes of a file, as the writer's code is described, are document 01's layout byte by byte, without a zero tag 3; a platform has 13 of them, a second kind 12, a type 13, its d 7, its q 5,
 -- its C and T 11, and its u and s on the second kind 11.
+use Rattle.std.proofs.Common.{Option, None, Some}
 use Prim.Native.Nat.{ℕ, ◌+◌, ◌-◌, ◌*◌, ◌≤◌}
 use mathlib.Core.Path.{◌≡◌, refl, ap, ◌∙◌}
 use mathlib.Core.List.{List, [], ◌∷◌, ◌++◌}
@@ -8,17 +9,9 @@ use native.Mathlib.Omega.{arith}
 use borrow.Author.Tests.{eqb-true, eqb-false, eq-eqb, ne_eqb}
 use lib.ListN.{length, take, length-append, length-take}
 use lib.Dec.{eqb}
-use Rattle.system.specs.declared.Most.{Most}
-use Rattle.system.specs.declared.Most.TheVariants.{NotGiven, AtMost}
 use Rattle.system.specs.declared.Cycle.{Cycle}
-use Rattle.system.specs.declared.Pace.{Pace}
-use Rattle.system.specs.declared.Pace.TheVariants.{Unpaced, Paced}
 use Rattle.system.specs.declared.Costs.{Costs}
-use Rattle.system.specs.declared.There.{There}
-use Rattle.system.specs.declared.There.TheVariants.{Absent, Takes}
 use Rattle.system.specs.declared.Kind.{Kind}
-use Rattle.system.specs.declared.Second.{Second}
-use Rattle.system.specs.declared.Second.TheVariants.{OneKind, TwoKinds}
 use Rattle.system.specs.declared.TaskType.{TaskType}
 use Rattle.system.specs.declared.System.{System}
 use Rattle.system.specs.Limits.{type_limit}
@@ -42,23 +35,23 @@ unfolding field_bytes rule_of
 data-some d some = rw (ne_eqb d 0 some)
 
 -- a q that is not given has none, and any other one 5
-pub most-some : (q : ℕ) → length (most_bytes (AtMost q)) ≡ 5
+pub most-some : (q : ℕ) → length (most_bytes (Some q)) ≡ 5
 unfolding field_bytes rule_of
 most-some q = refl
 
 -- C and T that are given have 11
-pub pace-some : (x : Pace) {c : Cycle} → x ≡ Paced c → length (pace_bytes x) ≡ 11
+pub pace-some : (x : Option Cycle) {c : Cycle} → x ≡ Some c → length (pace_bytes x) ≡ 11
 unfolding field_bytes rule_of
-pace-some x {c = c} is = ap (λ (z : Pace). length (pace_bytes z)) is
+pace-some x {c = c} is = ap (λ (z : Option Cycle). length (pace_bytes z)) is
 
 -- a second kind has 12, and u and s there 11, where they are given
-pub second-some : (s : Second) {k : Kind} → s ≡ TwoKinds k → length (second_bytes s) ≡ 12
+pub second-some : (s : Option Kind) {k : Kind} → s ≡ Some k → length (second_bytes s) ≡ 12
 unfolding field_bytes rule_of
-second-some s {k = k} is = ap (λ (x : Second). length (second_bytes x)) is
+second-some s {k = k} is = ap (λ (x : Option Kind). length (second_bytes x)) is
 
-pub costs-some : (x : There) {c : Costs} → x ≡ Takes c → length (costs_bytes x) ≡ 11
+pub costs-some : (x : Option Costs) {c : Costs} → x ≡ Some c → length (costs_bytes x) ≡ 11
 unfolding field_bytes rule_of
-costs-some x {c = c} is = ap (λ (z : There). length (costs_bytes z)) is
+costs-some x {c = c} is = ap (λ (z : Option Costs). length (costs_bytes z)) is
 
 pub type-size : (t : TaskType) → length (type_bytes t) ≡ 13 + length (data_bytes t.data) + length (most_bytes t.most) + length (pace_bytes t.pace) + length (costs_bytes t.there)
 unfolding field_bytes rule_of
@@ -82,21 +75,21 @@ data-longest d = at (eqb d 0) refl
     at true q = omega (arith, data-none d (eqb-true d 0 q))
     at false q = omega (arith, data-some d (eqb-false d 0 q))
 
-pub most-longest : (m : Most) → length (most_bytes m) ≤ 5
-most-longest NotGiven = omega arith
-most-longest (AtMost q) = omega (arith, most-some q)
+pub most-longest : (m : Option ℕ) → length (most_bytes m) ≤ 5
+most-longest None = omega arith
+most-longest (Some q) = omega (arith, most-some q)
 
-pub pace-longest : (p : Pace) → length (pace_bytes p) ≤ 11
-pace-longest Unpaced = omega arith
-pace-longest (Paced c) = omega (arith, pace-some (Paced c) refl)
+pub pace-longest : (p : Option Cycle) → length (pace_bytes p) ≤ 11
+pace-longest None = omega arith
+pace-longest (Some c) = omega (arith, pace-some (Some c) refl)
 
-pub second-longest : (s : Second) → length (second_bytes s) ≤ 12
-second-longest OneKind = omega arith
-second-longest (TwoKinds k) = omega (arith, second-some (TwoKinds k) refl)
+pub second-longest : (s : Option Kind) → length (second_bytes s) ≤ 12
+second-longest None = omega arith
+second-longest (Some k) = omega (arith, second-some (Some k) refl)
 
-pub costs-longest : (x : There) → length (costs_bytes x) ≤ 11
-costs-longest Absent = omega arith
-costs-longest (Takes c) = omega (arith, costs-some (Takes c) refl)
+pub costs-longest : (x : Option Costs) → length (costs_bytes x) ≤ 11
+costs-longest None = omega arith
+costs-longest (Some c) = omega (arith, costs-some (Some c) refl)
 
 type-longest : (t : TaskType) → length (type_bytes t) ≤ 47
 type-longest t = omega (arith, type-size t, data-longest t.data, most-longest t.most, pace-longest t.pace, costs-longest t.there)

@@ -1,4 +1,8 @@
 -- A type's bytes, and each field's, are the layout's of document 01. A number's four bytes agree as quotients and remainders.
+use Rattle.std.proofs.Common.{Option, None, Some}
+use Rattle.system.specs.declared.Kind.{Kind}
+use Rattle.system.specs.declared.Costs.{Costs}
+use Rattle.system.specs.declared.Cycle.{Cycle}
 use Prim.Native.Nat.{ℕ, ◌+◌, ◌-◌, ◌/◌, ◌%◌}
 use mathlib.Core.Path.{◌≡◌, refl, sym, ap, ◌∙◌}
 use mathlib.Core.List.{List, [], ◌∷◌, ◌++◌, append-nil, append_assoc}
@@ -6,14 +10,6 @@ use mathlib.Core.Bool.{false, cond, and-true}
 use native.Mathlib.Omega.{arith}
 use lib.Dec.{eqb}
 use Rattle.buffer.specs.Bytes.{bytes4}
-use Rattle.system.specs.declared.Most.{Most}
-use Rattle.system.specs.declared.Most.TheVariants.{NotGiven, AtMost}
-use Rattle.system.specs.declared.Pace.{Pace}
-use Rattle.system.specs.declared.Pace.TheVariants.{Unpaced, Paced}
-use Rattle.system.specs.declared.There.{There}
-use Rattle.system.specs.declared.There.TheVariants.{Absent, Takes}
-use Rattle.system.specs.declared.Second.{Second}
-use Rattle.system.specs.declared.Second.TheVariants.{OneKind, TwoKinds}
 use Rattle.system.specs.declared.TaskType.{TaskType}
 use Rattle.system.specs.declared.System.{System}
 use Rattle.system.specs.Rules.{rule_of}
@@ -37,25 +33,25 @@ data-out : (d : ℕ) → data_bytes d ≡ data_out false d
 unfolding field_bytes rule_of
 data-out d = λ i. cond (sym (and-true (eqb d 0)) i) [] (3 ∷ 0 ∷ 4 ∷ four-out d i)
 
-most-out : (m : Most) → most_bytes m ≡ most_out m
+most-out : (m : Option ℕ) → most_bytes m ≡ most_out m
 unfolding field_bytes rule_of
-most-out NotGiven = refl
-most-out (AtMost q) = refl
+most-out None = refl
+most-out (Some q) = refl
 
-pace-out : (p : Pace) → pace_bytes p ≡ pace_out p
+pace-out : (p : Option Cycle) → pace_bytes p ≡ pace_out p
 unfolding field_bytes rule_of
-pace-out Unpaced = refl
-pace-out (Paced c) = λ i. 5 ∷ 0 ∷ 8 ∷ (four-out c.run i ++ four-out c.period i)
+pace-out None = refl
+pace-out (Some c) = λ i. 5 ∷ 0 ∷ 8 ∷ (four-out c.run i ++ four-out c.period i)
 
-pub second-out : (s : Second) → second_bytes s ≡ second_out s
+pub second-out : (s : Option Kind) → second_bytes s ≡ second_out s
 unfolding field_bytes rule_of
-second-out OneKind = refl
-second-out (TwoKinds k) = λ i. 6 ∷ 0 ∷ 9 ∷ k.number ∷ (four-out k.timecap i ++ four-out k.memorycap i)
+second-out None = refl
+second-out (Some k) = λ i. 6 ∷ 0 ∷ 9 ∷ k.number ∷ (four-out k.timecap i ++ four-out k.memorycap i)
 
-costs-out : (c : There) → costs_bytes c ≡ costs_out c
+costs-out : (c : Option Costs) → costs_bytes c ≡ costs_out c
 unfolding field_bytes rule_of
-costs-out Absent = refl
-costs-out (Takes c) = λ i. 7 ∷ 0 ∷ 8 ∷ (four-out c.time i ++ four-out c.memory i)
+costs-out None = refl
+costs-out (Some c) = λ i. 7 ∷ 0 ∷ 8 ∷ (four-out c.time i ++ four-out c.memory i)
 
 pub type-out : (t : TaskType) → type_bytes t ≡ type_out false t
 unfolding field_bytes rule_of

@@ -1,4 +1,5 @@
 -- A file of which each field keeps its limits is read to its end, and there 9, 41 and 10 are judged, each where it is due.
+use Rattle.std.proofs.Common.{Option, None, Some}
 use Prim.Native.Nat.{ℕ, ◌+◌, ◌≤◌, ◌<◌}
 use mathlib.Core.Path.{◌≡◌, refl, sym, ap, ◌∙◌, subst}
 use mathlib.Core.Bool.{Bool, true, false}
@@ -8,8 +9,6 @@ use borrow.Author.Tests.{le-leb, eqb-true, eqb-false}
 use lib.ListN.{length}
 use lib.Dec.{leb, eqb}
 use Rattle.system.specs.declared.Kind.{Kind}
-use Rattle.system.specs.declared.Second.{Second}
-use Rattle.system.specs.declared.Second.TheVariants.{OneKind, TwoKinds}
 use Rattle.system.specs.declared.System.{System}
 use Rattle.system.specs.Limits.{engine_limit, platform_fault, second_fault, kinds_fault, columns_fault}
 use Rattle.system.specs.Layout.{opened, unread, end_of, read_card}
@@ -25,10 +24,10 @@ use Rattle.writer.proofs.Tests.{Test, passed, failed, finds-nothing, fails, type
 
 -- intermediate: no field is refused
 
-second-passes : (m : ℕ) (s : Second) → ((k : Kind) → s ≡ TwoKinds k → (1 ≤ k.number) × (m + k.number ≤ 16)) → ((k : Kind) → s ≡ TwoKinds k → (k.timecap ≤ 1000000) × (k.memorycap ≤ 1000000))
+second-passes : (m : ℕ) (s : Option Kind) → ((k : Kind) → s ≡ Some k → (1 ≤ k.number) × (m + k.number ≤ 16)) → ((k : Kind) → s ≡ Some k → (k.timecap ≤ 1000000) × (k.memorycap ≤ 1000000))
     → second_fault m s ≡ 0
-second-passes m OneKind number sizes = refl
-second-passes m (TwoKinds k) number sizes =
+second-passes m None number sizes = refl
+second-passes m (Some k) number sizes =
     let n = number k refl in
     let s = sizes k refl in
     rw (le-leb 1 k.number n.0, le-leb (m + k.number) engine_limit n.1) (sizes-keep k.timecap k.memorycap s.0 s.1)

@@ -1,5 +1,6 @@
 -- Both round trips in plain words: a file is read as the card y exactly where it is a file of y byte by byte and y keeps the limits of a card; so a file gives y exactly where y keeps them and each q
 -- fits its two bytes, its own file being one. The same of systems of one kind of engine, which are the cards without a second kind.
+use Rattle.std.proofs.Common.{Option, None, Some}
 use Prim.Native.Nat.{ℕ, zero, suc, ◌-◌, ◌/◌, ◌≤◌, ◌<◌}
 use mathlib.Core.Path.{◌≡◌, refl, ap, ◌∙◌, subst}
 use mathlib.Core.List.{List, [], ◌∷◌, ◌++◌}
@@ -11,17 +12,9 @@ use lib.ListN.{get_or-map}
 use lib.Dec.{leb, lit<}
 use Rattle.buffer.specs.Bytes.{bytes2}
 use Rattle.buffer.proofs.Laws.{bytes2-small, bytes4-small}
-use Rattle.system.specs.declared.Most.{Most}
-use Rattle.system.specs.declared.Most.TheVariants.{NotGiven, AtMost}
 use Rattle.system.specs.declared.Cycle.{Cycle}
-use Rattle.system.specs.declared.Pace.{Pace}
-use Rattle.system.specs.declared.Pace.TheVariants.{Unpaced, Paced}
 use Rattle.system.specs.declared.Costs.{Costs}
-use Rattle.system.specs.declared.There.{There}
-use Rattle.system.specs.declared.There.TheVariants.{Absent, Takes}
 use Rattle.system.specs.declared.Kind.{Kind}
-use Rattle.system.specs.declared.Second.{Second}
-use Rattle.system.specs.declared.Second.TheVariants.{OneKind, TwoKinds}
 use Rattle.system.specs.declared.TaskType.{TaskType}
 use Rattle.system.specs.declared.System.{System}
 use Rattle.system.specs.Values.{task_of, no_task, ceilings_of}
@@ -71,9 +64,9 @@ record KindFits (k : Kind) : Type 0 where
   time : k.timecap < 4294967296
   memory : k.memorycap < 4294967296
 
-second-bytes : (s : Second) → ((k : Kind) → s ≡ TwoKinds k → KindFits k) → IsBytes (second_out s)
-second-bytes OneKind h i = lit< tt
-second-bytes (TwoKinds k) h i = bytes-head 6 9 (k.number ∷ sizes) (lit< tt) (lit< tt) body i
+second-bytes : (s : Option Kind) → ((k : Kind) → s ≡ Some k → KindFits k) → IsBytes (second_out s)
+second-bytes None h i = lit< tt
+second-bytes (Some k) h i = bytes-head 6 9 (k.number ∷ sizes) (lit< tt) (lit< tt) body i
   where
     sizes : List ℕ
     sizes = four_out k.timecap ++ four_out k.memorycap
@@ -83,14 +76,14 @@ second-bytes (TwoKinds k) h i = bytes-head 6 9 (k.number ∷ sizes) (lit< tt) (l
     body (suc j) = bytes-append (four_out k.timecap) (four_out k.memorycap) (four_bytes k.timecap (h k refl).time) (four_bytes k.memorycap (h k refl).memory) j
 
 -- u, s and d fit four bytes, n and q two, and C and T, and u and s on the second kind, four
-abbrev MostFits : Most → Type 0
-MostFits m = (q : ℕ) → m ≡ AtMost q → q < 65536
+abbrev MostFits : Option ℕ → Type 0
+MostFits m = (q : ℕ) → m ≡ Some q → q < 65536
 
-abbrev PaceFits : Pace → Type 0
-PaceFits x = (c : Cycle) → x ≡ Paced c → (c.run < 4294967296) × (c.period < 4294967296)
+abbrev PaceFits : Option Cycle → Type 0
+PaceFits x = (c : Cycle) → x ≡ Some c → (c.run < 4294967296) × (c.period < 4294967296)
 
-abbrev CostsFit : There → Type 0
-CostsFit x = (c : Costs) → x ≡ Takes c → (c.time < 4294967296) × (c.memory < 4294967296)
+abbrev CostsFit : Option Costs → Type 0
+CostsFit x = (c : Costs) → x ≡ Some c → (c.time < 4294967296) × (c.memory < 4294967296)
 
 record Small (t : TaskType) : Type 0 where
   time : t.time < 4294967296
@@ -108,19 +101,19 @@ data-bytes told d h = at (has-data told d)
     at (left_out quiet none) i = rw (quiet, none) (lit< tt)
     at (given e) i = rw e (bytes-head 3 4 (four_out d) (lit< tt) (lit< tt) (four_bytes d h) i)
 
-most_bytes : (m : Most) → MostFits m → IsBytes (most_out m)
-most_bytes NotGiven h i = lit< tt
-most_bytes (AtMost q) h i = bytes-head 4 2 (two_out q) (lit< tt) (lit< tt) (λ j. bytes2-small q j (h q refl)) i
+most_bytes : (m : Option ℕ) → MostFits m → IsBytes (most_out m)
+most_bytes None h i = lit< tt
+most_bytes (Some q) h i = bytes-head 4 2 (two_out q) (lit< tt) (lit< tt) (λ j. bytes2-small q j (h q refl)) i
 
-pace-bytes : (x : Pace) → PaceFits x → IsBytes (pace_out x)
-pace-bytes Unpaced h i = lit< tt
-pace-bytes (Paced c) h i =
+pace-bytes : (x : Option Cycle) → PaceFits x → IsBytes (pace_out x)
+pace-bytes None h i = lit< tt
+pace-bytes (Some c) h i =
     bytes-head 5 8 (four_out c.run ++ four_out c.period) (lit< tt) (lit< tt)
     (bytes-append (four_out c.run) (four_out c.period) (four_bytes c.run (h c refl).0) (four_bytes c.period (h c refl).1)) i
 
-costs-bytes : (x : There) → CostsFit x → IsBytes (costs_out x)
-costs-bytes Absent h i = lit< tt
-costs-bytes (Takes c) h i =
+costs-bytes : (x : Option Costs) → CostsFit x → IsBytes (costs_out x)
+costs-bytes None h i = lit< tt
+costs-bytes (Some c) h i =
     bytes-head 7 8 (four_out c.time ++ four_out c.memory) (lit< tt) (lit< tt)
     (bytes-append (four_out c.time) (four_out c.memory) (four_bytes c.time (h c refl).0) (four_bytes c.memory (h c refl).1)) i
 
@@ -153,7 +146,7 @@ file-bytes told y l w fit =
     bytes-append (platform_out y) (second_out y.second ++ types_out told y y.typecount) (platform-bytes y l)
     (bytes-append (second_out y.second) (types_out told y y.typecount) (second-bytes y.second kind) (types-bytes told y y.typecount small))
   where
-    kind : (k : Kind) → y.second ≡ TwoKinds k → KindFits k
+    kind : (k : Kind) → y.second ≡ Some k → KindFits k
     kind k is =
         let few = w.second k is in
         let sizes = w.second_sizes.capacities k is in
@@ -183,7 +176,7 @@ bytes-parts (x ∷ a) b p = let rest = bytes-parts a b (λ i. p (suc i)) in (at 
     at more zero = p zero
     at more (suc i) = more i
 
-most-fits : (m : Most) → IsBytes (most_out m) → MostFits m
+most-fits : (m : Option ℕ) → IsBytes (most_out m) → MostFits m
 most-fits m bytes q is = let high : q / 256 < 256 = rw is at (bytes 3) in omega arith
 
 types-fit : (told : ℕ → Bool) (y : System) (n : ℕ) → IsBytes (types_out told y n) → (t : ℕ) → 1 ≤ t → t ≤ n → MostFits (type_no y t).most

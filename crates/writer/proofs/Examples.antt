@@ -2,15 +2,12 @@
 -- A card of two kinds of engine (request 2026-13) is read from its file, refused 42 where one kind is wanted, and written it gives the same bytes.
 -- So does a card of one kind with C and T (request 2026-14), its tag 5 after the tag 4; with a T one less the type's u is too small for its share of an engine, and 43 is said by reader and writer.
 -- All by computation.
+use Rattle.std.proofs.Common.{Some, None}
 use Prim.Native.Nat.{ℕ}
 use mathlib.Core.Path.{◌≡◌, refl}
 use mathlib.Core.List.{List, [], ◌∷◌}
 use lib.ListN.{replicate}
-use Rattle.system.specs.declared.Most.TheVariants.{AtMost}
 use Rattle.system.specs.declared.Cycle.{Cycle}
-use Rattle.system.specs.declared.Pace.TheVariants.{Unpaced, Paced}
-use Rattle.system.specs.declared.There.TheVariants.{Absent, Takes}
-use Rattle.system.specs.declared.Second.TheVariants.{OneKind, TwoKinds}
 use Rattle.system.specs.declared.System.{System}
 use Rattle.system.specs.Values.{no_task}
 use Rattle.system.specs.Limits.{paces_fault, kinds_agree, columns_of}
@@ -29,10 +26,10 @@ replicas =
       memorycap = 200;
       typecount = 2;
       types =
-          record { time = 10; memory = 20; ceiling = 0; «data» = 0; most = AtMost 65535; pace = Unpaced; there = Absent }
-          ∷ record { time = 30; memory = 40; ceiling = 3; «data» = 5; most = AtMost 7; pace = Unpaced; there = Absent }
+          record { time = 10; memory = 20; ceiling = 0; «data» = 0; most = Some 65535; pace = None; there = None }
+          ∷ record { time = 30; memory = 40; ceiling = 3; «data» = 5; most = Some 7; pace = None; there = None }
           ∷ replicate 4 no_task;
-      second = OneKind;
+      second = None;
     }
 
 -- the platform; type 1 and its q; type 2, its d and its q
@@ -64,9 +61,9 @@ kinds =
       memorycap = 200;
       typecount = 1;
       types =
-          record { time = 10; memory = 20; ceiling = 3; «data» = 5; most = AtMost 7; pace = Unpaced; there = Takes (record { time = 6; memory = 9 }) }
+          record { time = 10; memory = 20; ceiling = 3; «data» = 5; most = Some 7; pace = None; there = Some (record { time = 6; memory = 9 }) }
           ∷ replicate 5 no_task;
-      second = TwoKinds (record { number = 2; timecap = 50; memorycap = 300 });
+      second = Some (record { number = 2; timecap = 50; memorycap = 300 });
     }
 
 -- the platform; the second kind; the type, its d, its q, and its u and s there
@@ -101,9 +98,9 @@ runs period =
       memorycap = 200;
       typecount = 1;
       types =
-          record { time = 10; memory = 20; ceiling = 3; «data» = 5; most = AtMost 7; pace = Paced (cycle period); there = Absent }
+          record { time = 10; memory = 20; ceiling = 3; «data» = 5; most = Some 7; pace = Some (cycle period); there = None }
           ∷ replicate 5 no_task;
-      second = OneKind;
+      second = None;
     }
 
 -- the platform; the type, its d, its q, and its C and T

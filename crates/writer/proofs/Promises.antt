@@ -1,4 +1,5 @@
 -- What the call `write_system` promises, from the two laws that say its answer and the buffer: the order of refusals, demand 1, the bytes of an accepted system, and both round trips.
+use Rattle.std.proofs.Common.{None, Ok, Err, Some}
 use Prim.Native.Nat.{ℕ, ◌+◌, ◌≤◌}
 use mathlib.Core.Path.{◌≡◌, refl, sym, ap, ◌∙◌}
 use mathlib.Core.List.{List, [], ◌∷◌, ◌++◌}
@@ -10,13 +11,10 @@ use lib.ListN.{length, take, drop}
 use lib.Seq.{take-append_seam}
 use lib.Dec.{eqb}
 use Rattle.system.specs.declared.System.{System}
-use Rattle.system.specs.declared.Answer.{Answer}
-use Rattle.system.specs.declared.Answer.TheVariants.{Number, Refused}
+use Rattle.system.specs.Outcome.{Answer, Source, accepted, refused, from_input, outcome_of}
 use Rattle.system.specs.declared.Refusal.TheVariants.{Input}
 use Rattle.system.specs.Values.{cleared}
-use Rattle.system.specs.declared.Second.TheVariants.{OneKind}
 use Rattle.system.specs.Layout.{read_card, read_file, opened}
-use Rattle.system.specs.Outcome.{Source, accepted, refused, from_input, outcome_of}
 use Rattle.system.proofs.Laws.{read-card-limits, card-file}
 use Rattle.buffer.specs.Written.{Puts}
 use Rattle.writer.specs.File.{file_of}
@@ -88,7 +86,7 @@ module _ (y : System) (old new : List ℕ) (r : Answer) (six : length y.types �
     written : (MayBeWritten y) × (n ≡ length (file_out y)) × (new ≡ file_out y ++ drop n old)
     written = (may, size ∙ ap length (file-out y inside), file-first ∙ ap (λ (file : List ℕ). file ++ drop n old) (file-out y inside))
 
-    read_back : (z : System) × (read_card (take n new) ≡ opened z) × SameToK y z × (y.second ≡ OneKind → read_file (take n new) ≡ opened z)
+    read_back : (z : System) × (read_card (take n new) ≡ opened z) × SameToK y z × (y.second ≡ None → read_file (take n new) ≡ opened z)
     read_back =
         let front : take n new ≡ file_of y = rw (file-first, size) (take-append_seam (file_of y) (drop (length (file_of y)) old)) in
         let reads : read_card (take n new) ≡ opened (cleared y) = rw front (written-reads y six (fault-none y (length old) no-fault).0) in
@@ -116,15 +114,15 @@ module _ (y : System) (old new : List ℕ) (r : Answer) (six : length y.types �
 -- main: the two exits
 
 module _ (y : System) (old : List ℕ) (six : length y.types ≡ 6) where
-  pub promised-refusal : {fault : ℕ} → fault ≡ write_fault y (length old) → (fault ≡ 0 → ⊥) → WritePromises y old old (Refused (Input fault))
+  pub promised-refusal : {fault : ℕ} → fault ≡ write_fault y (length old) → (fault ≡ 0 → ⊥) → WritePromises y old old (Err (Input fault))
   unfolding write_outcome written_to
   promised-refusal {fault = fault} said some =
       let none : eqb (write_fault y (length old)) 0 ≡ false = rw (← said) (ne_eqb fault 0 some) in
-      write-promises y old old (Refused (Input fault)) six (rw (none, said)) (rw none)
+      write-promises y old old (Err (Input fault)) six (rw (none, said)) (rw none)
 
-  pub promised-file : {new : List ℕ} {n : ℕ} → write_fault y (length old) ≡ 0 → Puts (file_of y) 0 old new n → WritePromises y old new (Number n)
+  pub promised-file : {new : List ℕ} {n : ℕ} → write_fault y (length old) ≡ 0 → Puts (file_of y) 0 old new n → WritePromises y old new (Ok (Some n))
   promised-file {new = new} {n = n} none puts =
       let start : 0 + length (file_of y) ≡ length (file_of y) = zero-add (length (file_of y)) in
-      write-promises y old new (Number n) six
+      write-promises y old new (Ok (Some n)) six
       (ap (λ (m : ℕ). accepted (m ∷ [])) (puts.next ∙ start) ∙ sym (accepts y (length old) none))
       (puts.left ∙ ap (λ (m : ℕ). file_of y ++ drop m old) start ∙ sym (writes-file y old none))

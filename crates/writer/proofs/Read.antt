@@ -2,6 +2,8 @@
 -- A field that was accepted has the bytes that its platform, its second kind, its type, or what belongs to a type is written with, since bytes that were read as a number are that number's bytes.
 -- A platform comes without a second kind, which a tag 6 gives. A type comes without d, q, C and T, and without u and s there. Where a tag 3 follows, it is told; a tag 4 gives q, a tag 5 C
 -- and T, a tag 7 u and s there.
+use Rattle.std.proofs.Common.{None, Some, Option}
+use Rattle.system.specs.declared.Kind.{Kind}
 use Prim.Native.Nat.{ℕ, zero, suc, ◌+◌, ◌-◌, ◌≤◌, ◌<◌}
 use mathlib.Core.Path.{◌≡◌, refl, sym, ap, ap₂, ◌∙◌, subst}
 use mathlib.Core.List.{List, [], ◌∷◌, ◌++◌, append-nil, append_assoc}
@@ -14,11 +16,6 @@ use lib.ListN.{length, get_or, take, drop, length-drop, take-append-drop}
 use lib.Seq.{drop-cons, get_or-drop, get_or-set_same, get_or-set_other}
 use lib.Dec.{leb, eqb, lit<}
 use Rattle.buffer.proofs.Laws.{bytes2-back, bytes4-back}
-use Rattle.system.specs.declared.Most.TheVariants.{NotGiven, AtMost}
-use Rattle.system.specs.declared.Pace.TheVariants.{Unpaced, Paced}
-use Rattle.system.specs.declared.There.TheVariants.{Absent, Takes}
-use Rattle.system.specs.declared.Second.{Second}
-use Rattle.system.specs.declared.Second.TheVariants.{OneKind}
 use Rattle.system.specs.declared.TaskType.{TaskType}
 use Rattle.system.specs.declared.System.{System}
 use Rattle.system.specs.declared.FieldRule.{FieldRule}
@@ -144,11 +141,11 @@ types-set told z next k b t some here others =
     (λ i. type_out (tells-it k b told i) (here i))
 
 -- before the first type: the platform alone, or with a second kind
-file-platform : (told : ℕ → Bool) (z : System) → z.typecount ≡ 0 → z.second ≡ OneKind → file_with told z ≡ platform_out z
+file-platform : (told : ℕ → Bool) (z : System) → z.typecount ≡ 0 → z.second ≡ None → file_with told z ≡ platform_out z
 unfolding types_out
-file-platform told z e one = ap₂ (λ (s : Second) (k : ℕ). platform_out z ++ (second_out s ++ types_out told z k)) one e
+file-platform told z e one = ap₂ (λ (s : Option Kind) (k : ℕ). platform_out z ++ (second_out s ++ types_out told z k)) one e
 
-file-second : (told : ℕ → Bool) (z : System) (n u s : ℕ) → z.typecount ≡ 0 → z.second ≡ OneKind
+file-second : (told : ℕ → Bool) (z : System) (n u s : ℕ) → z.typecount ≡ 0 → z.second ≡ None
     → file_with told (with_second n u s z) ≡ file_with told z ++ (6 ∷ 0 ∷ 9 ∷ n ∷ (four_out u ++ four_out s))
 unfolding types_out
 file-second told z n u s e one =
@@ -196,20 +193,20 @@ written-some told last z n = rw (ne_eqb last 0 n)
 -- a system so far: no type and no second kind before the platform and directly after it, no d directly after a type, no q before the tag 4, no C and T before the tag 5, and no u and s there before the tag 7
 record SoFar (told : ℕ → Bool) (last : ℕ) (z : System) : Type 0 where
   sound : Sound last z
-  start : last ≤ 1 → (z.typecount ≡ 0) × (z.second ≡ OneKind)
+  start : last ≤ 1 → (z.typecount ≡ 0) × (z.second ≡ None)
   quiet : last ≡ 2 → (told z.typecount ≡ false) × ((last_type z).data ≡ 0)
-  free : 1 < last → last < 4 → (last_type z).most ≡ NotGiven
-  idle : 1 < last → last < 5 → (last_type z).pace ≡ Unpaced
-  alone : 1 < last → last < 6 → (last_type z).there ≡ Absent
+  free : 1 < last → last < 4 → (last_type z).most ≡ None
+  idle : 1 < last → last < 5 → (last_type z).pace ≡ None
+  alone : 1 < last → last < 6 → (last_type z).there ≡ None
 
 -- an accepted field adds its bytes to what is written
 record Adds (told : ℕ → Bool) (s : List ℕ) (last : ℕ) (z next : System) : Type 0 where
   tells-now : ℕ → Bool
-  start : byte_at s 0 ≤ 1 → (next.typecount ≡ 0) × (next.second ≡ OneKind)
+  start : byte_at s 0 ≤ 1 → (next.typecount ≡ 0) × (next.second ≡ None)
   quiet : byte_at s 0 ≡ 2 → (tells-now next.typecount ≡ false) × ((last_type next).data ≡ 0)
-  free : 1 < byte_at s 0 → byte_at s 0 < 4 → (last_type next).most ≡ NotGiven
-  idle : 1 < byte_at s 0 → byte_at s 0 < 5 → (last_type next).pace ≡ Unpaced
-  alone : 1 < byte_at s 0 → byte_at s 0 < 6 → (last_type next).there ≡ Absent
+  free : 1 < byte_at s 0 → byte_at s 0 < 4 → (last_type next).most ≡ None
+  idle : 1 < byte_at s 0 → byte_at s 0 < 5 → (last_type next).pace ≡ None
+  alone : 1 < byte_at s 0 → byte_at s 0 < 6 → (last_type next).there ≡ None
   bytes : written tells-now (byte_at s 0) next ≡ written told last z ++ take (field_size s) s
 
 module _ (told : ℕ → Bool) (s : List ℕ) (bytes : IsBytes s) (last : ℕ) (z next : System) (so_far : SoFar told last z) where
@@ -284,7 +281,7 @@ module _ (told : ℕ → Bool) (s : List ℕ) (bytes : IsBytes s) (last : ℕ) (
 
   -- a field of the last type: the type's bytes, and then those of the field
   adds-last : (b : Bool) (t : TaskType) (field : List ℕ) → PastTypes last → 2 < byte_at s 0
-      → (byte_at s 0 < 4 → t.most ≡ NotGiven) → (byte_at s 0 < 5 → t.pace ≡ Unpaced) → (byte_at s 0 < 6 → t.there ≡ Absent)
+      → (byte_at s 0 < 4 → t.most ≡ None) → (byte_at s 0 < 5 → t.pace ≡ None) → (byte_at s 0 < 6 → t.there ≡ None)
       → type_out b t ≡ type_out (told z.typecount) (last_type z) ++ field → field ≡ take (field_size s) s → Adds told s last z (with_last t z)
   adds-last b t field after later free idle alone more is =
       let sound = so_far.sound in
@@ -330,7 +327,7 @@ module _ (told : ℕ → Bool) (s : List ℕ) (bytes : IsBytes s) (last : ℕ) (
       let alone = so_far.alone low (omega arith) in
       let t = with_most n (last_type z) in
       let read : most_of (bytes_from 2 3 s) z ≡ opened next = ap (λ (b : List ℕ). most_of b z) (sym f.body) ∙ e in
-      let q = no-fault (most_fault (AtMost n)) (with_last t z) next read in
+      let q = no-fault (most_fault (Some n)) (with_last t z) next read in
       subst (Adds told s last z) q.1
       (adds-last (told z.typecount) t (4 ∷ 0 ∷ 2 ∷ two_out n) (low, λ w. omega arith) (omega (arith, f.first)) (λ less. absurd (omega (arith, f.first))) (λ less. idle) (λ less. alone)
       (type-limited (told z.typecount) (last_type z) n (so_far.free low high) idle alone)
@@ -344,7 +341,7 @@ module _ (told : ℕ → Bool) (s : List ℕ) (bytes : IsBytes s) (last : ℕ) (
       let alone = so_far.alone low (omega arith) in
       let t = with_pace c p (last_type z) in
       let read : pace_of (bytes_from 8 3 s) z ≡ opened next = ap (λ (b : List ℕ). pace_of b z) (sym f.body) ∙ e in
-      let q = no-fault (pace_fault z.timecap (last_type z).time (Paced (record { run = c; period = p }))) (with_last t z) next read in
+      let q = no-fault (pace_fault z.timecap (last_type z).time (Some (record { run = c; period = p }))) (with_last t z) next read in
       subst (Adds told s last z) q.1
       (adds-last (told z.typecount) t (5 ∷ 0 ∷ 8 ∷ (four_out c ++ four_out p)) (low, λ w. omega arith) (omega (arith, f.first)) (λ less. absurd (omega (arith, f.first)))
       (λ less. absurd (omega (arith, f.first))) (λ less. alone)
@@ -358,7 +355,7 @@ module _ (told : ℕ → Bool) (s : List ℕ) (bytes : IsBytes s) (last : ℕ) (
       let m = word4 s 7 in
       let t = with_costs u m (last_type z) in
       let read : costs_of (bytes_from 8 3 s) z ≡ opened next = ap (λ (b : List ℕ). costs_of b z) (sym f.body) ∙ e in
-      let q = no-fault (costs_fault (Takes (record { time = u; memory = m }))) (with_last t z) next read in
+      let q = no-fault (costs_fault (Some (record { time = u; memory = m }))) (with_last t z) next read in
       subst (Adds told s last z) q.1
       (adds-last (told z.typecount) t (7 ∷ 0 ∷ 8 ∷ (four_out u ++ four_out m)) (low, λ w. omega arith) (omega (arith, f.first)) (λ less. absurd (omega (arith, f.first)))
       (λ less. absurd (omega (arith, f.first))) (λ less. absurd (omega (arith, f.first)))

@@ -1,5 +1,6 @@
 -- The writer's tests, one by one: each says its number exactly where what it asks, in plain words, does not hold; and what tests say one after another.
 -- The platform's fault and the second kind's are taken apart into the number of engines of both kinds, the rule, and the sizes of both.
+use Rattle.std.proofs.Common.{Option, None, Some}
 use Prim.Native.Nat.{ℕ, zero, suc, ◌+◌, ◌-◌, ◌*◌, ◌≤◌, ◌<◌}
 use mathlib.Core.Path.{◌≡◌, refl, sym, ap, subst, ◌∙◌}
 use mathlib.Core.List.{List, [], ◌∷◌, ◌++◌, map, map-append}
@@ -11,17 +12,9 @@ use borrow.Author.Tests.{ltb-true, ltb-false, leb-true, eqb-true, eqb-false, le-
 use lib.ListN.{length, get_or, take, replicate, length-append, length-take, length-replicate}
 use lib.Seq.{take-suc}
 use lib.Dec.{leb, ltb, eqb}
-use Rattle.system.specs.declared.Most.{Most}
-use Rattle.system.specs.declared.Most.TheVariants.{NotGiven, AtMost}
 use Rattle.system.specs.declared.Cycle.{Cycle}
-use Rattle.system.specs.declared.Pace.{Pace}
-use Rattle.system.specs.declared.Pace.TheVariants.{Unpaced, Paced}
 use Rattle.system.specs.declared.Costs.{Costs}
-use Rattle.system.specs.declared.There.{There}
-use Rattle.system.specs.declared.There.TheVariants.{Absent, Takes}
 use Rattle.system.specs.declared.Kind.{Kind}
-use Rattle.system.specs.declared.Second.{Second}
-use Rattle.system.specs.declared.Second.TheVariants.{OneKind, TwoKinds}
 use Rattle.system.specs.declared.TaskType.{TaskType}
 use Rattle.system.specs.declared.System.{System}
 use Rattle.system.specs.Values.{no_task, cleared}
@@ -101,9 +94,9 @@ abbrev pub first_fault : System → ℕ
 first_fault y = cond (not (leb 1 y.engines && leb y.engines engine_limit)) 5 0
 
 -- the number of a second kind's engines is out of its bounds
-abbrev pub kind_over : ℕ → Second → Bool
-kind_over m OneKind = false
-kind_over m (TwoKinds k) = not (kind_counted m k.number)
+abbrev pub kind_over : ℕ → Option Kind → Bool
+kind_over m None = false
+kind_over m (Some k) = not (kind_counted m k.number)
 
 abbrev pub numbers_fault : System → ℕ
 numbers_fault y = or_else (first_fault y) (cond (kind_over y.engines y.second) 5 0)
@@ -112,9 +105,9 @@ abbrev pub rule_fault : System → ℕ
 rule_fault y = cond (not (leb y.rule 1)) 6 0
 
 -- U and S of a second kind
-abbrev pub kind_sizes : Second → ℕ
-kind_sizes OneKind = 0
-kind_sizes (TwoKinds k) = size_fault k.timecap k.memorycap
+abbrev pub kind_sizes : Option Kind → ℕ
+kind_sizes None = 0
+kind_sizes (Some k) = size_fault k.timecap k.memorycap
 
 abbrev pub sizes_fault : System → ℕ
 sizes_fault y = or_else (or_else (size_fault y.timecap y.memorycap) (kind_sizes y.second)) (types_fault (cleared y).types)
@@ -133,13 +126,13 @@ short_fault y room = room_fault (length (file_of y)) room
 
 -- what the test of a second kind finds: 5 by its number, else 8 by its sizes, which is no 5
 
-pub second-apart : (m : ℕ) (s : Second) → second_fault m s ≡ cond (kind_over m s) 5 (kind_sizes s)
-second-apart m OneKind = refl
-second-apart m (TwoKinds k) = refl
+pub second-apart : (m : ℕ) (s : Option Kind) → second_fault m s ≡ cond (kind_over m s) 5 (kind_sizes s)
+second-apart m None = refl
+second-apart m (Some k) = refl
 
-pub sizes-no-five : (s : Second) → eqb (kind_sizes s) 5 ≡ false
-sizes-no-five OneKind = refl
-sizes-no-five (TwoKinds k) = at (not (leb k.timecap size_limit && leb k.memorycap size_limit))
+pub sizes-no-five : (s : Option Kind) → eqb (kind_sizes s) 5 ≡ false
+sizes-no-five None = refl
+sizes-no-five (Some k) = at (not (leb k.timecap size_limit && leb k.memorycap size_limit))
   where
     at : (b : Bool) → eqb (cond b 8 0) 5 ≡ false
     at true = refl
@@ -164,15 +157,15 @@ one-test a b = test_of (not (leb a b)) (λ q h. false≢true (sym (not-true _ q)
 
 -- 41: of each of types 1 to k u and s on the second kind are given exactly where there is one
 
-absent-agree : (k : ℕ) (ts : List TaskType) → ((i : ℕ) → i < k → (get_or ts i no_task).there ≡ Absent) → kinds_agree true k ts ≡ true
+absent-agree : (k : ℕ) (ts : List TaskType) → ((i : ℕ) → i < k → (get_or ts i no_task).there ≡ None) → kinds_agree true k ts ≡ true
 unfolding kinds_agree
 absent-agree k [] none = refl
 absent-agree zero (t ∷ ts) none = refl
 absent-agree (suc k) (t ∷ ts) none =
-    and_both (not (given t.there)) (kinds_agree true k ts) (ap (λ (x : There). not (given x)) (none zero (omega arith))) (absent-agree k ts (λ i h. none (suc i) (omega arith)))
+    and_both (not (given t.there)) (kinds_agree true k ts) (ap (λ (x : Option Costs). not (given x)) (none zero (omega arith))) (absent-agree k ts (λ i h. none (suc i) (omega arith)))
 
 module _ (y : System) (inside : y.typecount ≤ length y.types) where
-  abbrev agree : Second → Type 0
+  abbrev agree : Option Kind → Type 0
   agree s = kinds_agree (is_one_kind s) y.typecount y.types ≡ true
 
   kinds-told : agree y.second → AllOrNone y
@@ -189,7 +182,7 @@ module _ (y : System) (inside : y.typecount ≤ length y.types) where
           absent-agree y.typecount y.types
           (λ i h.
           let same : suc i - 1 ≡ i = omega arith in
-          subst (λ (j : ℕ). (get_or y.types j no_task).there ≡ Absent) same (w.none (one-kind y.second q) (suc i) (omega arith) (omega arith)))
+          subst (λ (j : ℕ). (get_or y.types j no_task).there ≡ None) same (w.none (one-kind y.second q) (suc i) (omega arith) (omega arith)))
       at false q =
           let k = two-kinds y.second q in
           given-kinds y.typecount y.types
@@ -205,16 +198,16 @@ module _ (y : System) (inside : y.typecount ≤ length y.types) where
 -- 5, 6
 
 -- a test of a second kind passes where there is none
-module _ (Asks : Kind → Type 0) {n : ℕ} (test : Second → ℕ) (free : test OneKind ≡ 0) (one : (k : Kind) → Test (Asks k) n (test (TwoKinds k))) where
-  kind-test : (s : Second) → Test ((k : Kind) → s ≡ TwoKinds k → Asks k) n (test s)
-  kind-test OneKind = rw free (passed (λ k is. let z : ◌≡◌ {A = ℕ} 0 1 = cc in absurd (omega arith)))
-  kind-test (TwoKinds j) = asked ((λ p k is. let same : j ≡ k = cc in subst Asks same p), (λ all. all j refl)) (one j)
+module _ (Asks : Kind → Type 0) {n : ℕ} (test : Option Kind → ℕ) (free : test None ≡ 0) (one : (k : Kind) → Test (Asks k) n (test (Some k))) where
+  kind-test : (s : Option Kind) → Test ((k : Kind) → s ≡ Some k → Asks k) n (test s)
+  kind-test None = rw free (passed (λ k is. let z : ◌≡◌ {A = ℕ} 0 1 = cc in absurd (omega arith)))
+  kind-test (Some j) = asked ((λ p k is. let same : j ≡ k = cc in subst Asks same p), (λ all. all j refl)) (one j)
 
 pub engines-test : (y : System) → Test (EnginesWithin y) 5 (numbers_fault y)
 engines-test y =
     asked ((λ h. (h.0.0, h.0.1, h.1)), (λ w. ((w.0, w.1), w.2)))
     (both (omega arith) (both-test 1 y.engines y.engines engine_limit)
-    (kind-test (λ (k : Kind). (1 ≤ k.number) × (y.engines + k.number ≤ 16)) (λ (s : Second). cond (kind_over y.engines s) 5 0) refl
+    (kind-test (λ (k : Kind). (1 ≤ k.number) × (y.engines + k.number ≤ 16)) (λ (s : Option Kind). cond (kind_over y.engines s) 5 0) refl
     (λ k. both-test 1 k.number (y.engines + k.number) engine_limit) y.second))
 
 pub rule-test : (y : System) → Test (y.rule ≤ 1) 6 (rule_fault y)
@@ -243,8 +236,8 @@ module _ (test : TaskType → ℕ) (Asks : TaskType → Type 0) {n : ℕ} (some 
 abbrev pub Within : TaskType → Type 0
 Within t = (t.time ≤ 1000000) × (t.memory ≤ 1000000) × (t.data ≤ 1000000)
 
-abbrev pub CostsWithin : There → Type 0
-CostsWithin x = (c : Costs) → x ≡ Takes c → (c.time ≤ 1000000) × (c.memory ≤ 1000000)
+abbrev pub CostsWithin : Option Costs → Type 0
+CostsWithin x = (c : Costs) → x ≡ Some c → (c.time ≤ 1000000) × (c.memory ≤ 1000000)
 
 abbrev TaskWithin : TaskType → Type 0
 TaskWithin t = Within t × CostsWithin t.there
@@ -261,9 +254,9 @@ type-test t =
     (λ q h. let two = and_both u s (le-leb t.time size_limit h.0) (le-leb t.memory size_limit h.1) in false≢true (sym (not-true _ q) ∙ and_both (u && s) d two (le-leb t.data size_limit h.2)))
     (λ q. let h = sized-task t (rw q) in (h.time, h.memory, h.data))
 
-pub costs-test : (x : There) → Test (CostsWithin x) 8 (costs_fault x)
-costs-test Absent = passed (λ c is. let z : ◌≡◌ {A = ℕ} 0 1 = cc in absurd (omega arith))
-costs-test (Takes d) =
+pub costs-test : (x : Option Costs) → Test (CostsWithin x) 8 (costs_fault x)
+costs-test None = passed (λ c is. let z : ◌≡◌ {A = ℕ} 0 1 = cc in absurd (omega arith))
+costs-test (Some d) =
     asked ((λ p c is. let same : d ≡ c = cc in subst (λ (e : Costs). (e.time ≤ 1000000) × (e.memory ≤ 1000000)) same p), (λ all. all d refl)) (size-test d.time d.memory)
 
 types-test : (k m : ℕ) (ts : List TaskType) → Test ((i : ℕ) → i < k → TaskWithin (get_or ts i no_task)) 8 (types_fault (take k ts ++ replicate m no_task))
@@ -273,7 +266,7 @@ types-test k m ts =
 
 -- U and S of a second kind
 abbrev KindWithin : System → Type 0
-KindWithin y = (k : Kind) → y.second ≡ TwoKinds k → (k.timecap ≤ 1000000) × (k.memorycap ≤ 1000000)
+KindWithin y = (k : Kind) → y.second ≡ Some k → (k.timecap ≤ 1000000) × (k.memorycap ≤ 1000000)
 
 abbrev AllWithin : System → Type 0
 AllWithin y = (((y.timecap ≤ 1000000) × (y.memorycap ≤ 1000000)) × KindWithin y) × ((i : ℕ) → i < y.typecount → TaskWithin (get_or y.types i no_task))
@@ -305,12 +298,12 @@ sizes-test y =
 
 -- 31: q of types 1 to k
 
-abbrev pub Apart : Most → Type 0
-Apart m = (q : ℕ) → m ≡ AtMost q → 1 ≤ q
+abbrev pub Apart : Option ℕ → Type 0
+Apart m = (q : ℕ) → m ≡ Some q → 1 ≤ q
 
-pub most-test : (m : Most) → Test (Apart m) 31 (most_fault m)
-most-test NotGiven = passed (λ q e. let z : ◌≡◌ {A = ℕ} 0 1 = cc in absurd (omega arith))
-most-test (AtMost p) =
+pub most-test : (m : Option ℕ) → Test (Apart m) 31 (most_fault m)
+most-test None = passed (λ q e. let z : ◌≡◌ {A = ℕ} 0 1 = cc in absurd (omega arith))
+most-test (Some p) =
     test_of (eqb p 0) (λ e all. omega (arith, eqb-true p 0 e, all p refl)) (λ e q is. let same : p ≡ q = cc in omega (arith, eqb-false p 0 e))
 
 mosts-test : (k m : ℕ) (ts : List TaskType) → Test ((i : ℕ) → i < k → Apart (get_or ts i no_task).most) 31 (mosts_fault (take k ts ++ replicate m no_task))
@@ -331,7 +324,7 @@ replicas-test y = asked (told, back) (mosts-test y.typecount (type_limit - y.typ
 -- 43: C and T of types 1 to k, with their u and the platform's U
 
 abbrev Runs : ℕ → TaskType → Type 0
-Runs whole t = (c : Cycle) → t.pace ≡ Paced c → PaceWithin whole t.time c
+Runs whole t = (c : Cycle) → t.pace ≡ Some c → PaceWithin whole t.time c
 
 within-limits : (whole u : ℕ) (c : Cycle) → CycleLimits whole u c → PaceWithin whole u c
 within-limits whole u c l = record {
@@ -345,15 +338,15 @@ within-limits whole u c l = record {
 limits-within : (whole u : ℕ) (c : Cycle) → PaceWithin whole u c → CycleLimits whole u c
 limits-within whole u c w = record { some-run = w.run.0; runs = w.runs; period = w.period.1; some-time = w.some; share = w.share }
 
-pub pace-test : (whole u : ℕ) (x : Pace) → Test ((c : Cycle) → x ≡ Paced c → PaceWithin whole u c) 43 (pace_fault whole u x)
-pace-test whole u Unpaced = passed (λ c is. let z : ◌≡◌ {A = ℕ} 0 1 = cc in absurd (omega arith))
-pace-test whole u (Paced d) =
+pub pace-test : (whole u : ℕ) (x : Option Cycle) → Test ((c : Cycle) → x ≡ Some c → PaceWithin whole u c) 43 (pace_fault whole u x)
+pace-test whole u None = passed (λ c is. let z : ◌≡◌ {A = ℕ} 0 1 = cc in absurd (omega arith))
+pace-test whole u (Some d) =
     test_of (not (cycle_keeps whole u d))
     (λ q all.
-    let none : ◌≡◌ {A = ℕ} (cond (not (cycle_keeps whole u d)) 43 0) 0 = cycle-keep whole u (Paced d) (λ c is. limits-within whole u c (all c is)) in
+    let none : ◌≡◌ {A = ℕ} (cond (not (cycle_keeps whole u d)) 43 0) 0 = cycle-keep whole u (Some d) (λ c is. limits-within whole u c (all c is)) in
     let z : ◌≡◌ {A = ℕ} 43 0 = rw q at none in
     omega arith)
-    (λ q c is. within-limits whole u c (cycle-limits whole u (Paced d) c (rw q) is))
+    (λ q c is. within-limits whole u c (cycle-limits whole u (Some d) c (rw q) is))
 
 paces-test : (whole k m : ℕ) (ts : List TaskType) → Test ((i : ℕ) → i < k → Runs whole (get_or ts i no_task)) 43 (paces_fault whole (k + m) (take k ts ++ replicate m no_task))
 paces-test whole k m ts =

@@ -1,5 +1,6 @@
 -- The files of a system, which differ in the zero tags 3 alone: what `told` decides of a type's bytes, and that the file that is told of none is the one without a zero tag 3.
 -- A file with a zero tag 3 is longer.
+use Rattle.std.proofs.Common.{None}
 use Prim.Native.Nat.{ℕ, zero, suc, ◌+◌, ◌≤◌, ◌<◌}
 use mathlib.Core.Path.{◌≡◌, refl, sym, ap, ap₂}
 use mathlib.Core.List.{List, [], ◌∷◌, ◌++◌, append-nil, append_assoc}
@@ -9,9 +10,6 @@ use native.Mathlib.Nat.{le_refl}
 use borrow.Author.Tests.{eqb-true, leb-true, leb-false}
 use lib.ListN.{length, length-append}
 use lib.Dec.{eqb, leb}
-use Rattle.system.specs.declared.Most.TheVariants.{NotGiven}
-use Rattle.system.specs.declared.Pace.TheVariants.{Unpaced}
-use Rattle.system.specs.declared.There.TheVariants.{Absent}
 use Rattle.system.specs.declared.TaskType.{TaskType}
 use Rattle.system.specs.declared.System.{System}
 use Rattle.system.specs.Values.{task_of, with_data, with_most, with_pace, with_costs}
@@ -37,17 +35,17 @@ has-data false d = at (eqb d 0) refl
     at false q = given (rw q)
 
 -- its bytes with a tag 3: those without, and then the field of d; and so with a tag 4, with a tag 5, and with a tag 7
-pub type-given : (t : TaskType) (d : ℕ) → t.data ≡ 0 → t.most ≡ NotGiven → t.pace ≡ Unpaced → t.there ≡ Absent → type_out true (with_data d t) ≡ type_out false t ++ (3 ∷ 0 ∷ 4 ∷ four_out d)
+pub type-given : (t : TaskType) (d : ℕ) → t.data ≡ 0 → t.most ≡ None → t.pace ≡ None → t.there ≡ None → type_out true (with_data d t) ≡ type_out false t ++ (3 ∷ 0 ∷ 4 ∷ four_out d)
 type-given t d none free idle alone = rw (none, free, idle, alone, data-given d)
 
-pub type-limited : (told : Bool) (t : TaskType) (q : ℕ) → t.most ≡ NotGiven → t.pace ≡ Unpaced → t.there ≡ Absent → type_out told (with_most q t) ≡ type_out told t ++ (4 ∷ 0 ∷ 2 ∷ two_out q)
+pub type-limited : (told : Bool) (t : TaskType) (q : ℕ) → t.most ≡ None → t.pace ≡ None → t.there ≡ None → type_out told (with_most q t) ≡ type_out told t ++ (4 ∷ 0 ∷ 2 ∷ two_out q)
 type-limited told t q free idle alone = rw (free, idle, alone, append-nil (data_out told t.data))
 
-pub type-paced : (told : Bool) (t : TaskType) (c p : ℕ) → t.pace ≡ Unpaced → t.there ≡ Absent → type_out told (with_pace c p t) ≡ type_out told t ++ (5 ∷ 0 ∷ 8 ∷ (four_out c ++ four_out p))
+pub type-paced : (told : Bool) (t : TaskType) (c p : ℕ) → t.pace ≡ None → t.there ≡ None → type_out told (with_pace c p t) ≡ type_out told t ++ (5 ∷ 0 ∷ 8 ∷ (four_out c ++ four_out p))
 type-paced told t c p idle alone =
     rw (idle, alone, append-nil (most_out t.most), append_assoc (data_out told t.data) (most_out t.most) (5 ∷ 0 ∷ 8 ∷ (four_out c ++ four_out p)))
 
-pub type-costed : (told : Bool) (t : TaskType) (u s : ℕ) → t.there ≡ Absent → type_out told (with_costs u s t) ≡ type_out told t ++ (7 ∷ 0 ∷ 8 ∷ (four_out u ++ four_out s))
+pub type-costed : (told : Bool) (t : TaskType) (u s : ℕ) → t.there ≡ None → type_out told (with_costs u s t) ≡ type_out told t ++ (7 ∷ 0 ∷ 8 ∷ (four_out u ++ four_out s))
 type-costed told t u s alone =
     let field : List ℕ = 7 ∷ 0 ∷ 8 ∷ (four_out u ++ four_out s) in
     rw (

@@ -2,6 +2,9 @@
 -- a type's d is set by the tag 3 after it, and is 0 where there is none; its q is set by the tag 4 after both, its C and T by the tag 5 after these, and its u and s on the second kind by the tag 7 after them all; none is given
 -- where there is no such tag.
 -- At the end 9, 41 and 10 pass, since the writer asked them.
+use Rattle.std.proofs.Common.{Option, None, Some, Result, Ok}
+use Rattle.system.specs.declared.Costs.{Costs}
+use Rattle.system.specs.declared.Cycle.{Cycle}
 use Prim.Native.Nat.{ℕ, zero, suc, ◌+◌, ◌-◌, ◌≤◌, ◌<◌}
 use mathlib.Core.Path.{◌≡◌, refl, sym, ap, ◌∙◌, subst}
 use mathlib.Core.List.{List, [], ◌∷◌, ◌++◌, append-nil, append_assoc}
@@ -12,20 +15,10 @@ use borrow.Author.Tests.{le-leb, lt-leb, eqb-true, eq-eqb, ne_eqb}
 use lib.ListN.{length, get_or, take, replicate, set, length-append, length-replicate}
 use lib.Seq.{append_snoc, set-append_seam, set-set, get_or-set_same, take-suc, length-take-le}
 use Rattle.buffer.proofs.Laws.{bytes2-read, bytes4-read}
-use Rattle.system.specs.declared.Most.{Most}
-use Rattle.system.specs.declared.Most.TheVariants.{NotGiven, AtMost}
-use Rattle.system.specs.declared.Pace.{Pace}
-use Rattle.system.specs.declared.Pace.TheVariants.{Unpaced, Paced}
-use Rattle.system.specs.declared.There.{There}
-use Rattle.system.specs.declared.There.TheVariants.{Absent, Takes}
 use Rattle.system.specs.declared.Kind.{Kind}
-use Rattle.system.specs.declared.Second.{Second}
-use Rattle.system.specs.declared.Second.TheVariants.{OneKind, TwoKinds}
 use Rattle.system.specs.declared.TaskType.{TaskType}
 use Rattle.system.specs.declared.System.{System}
 use Rattle.system.specs.declared.FieldRule.{FieldRule}
-use Rattle.system.specs.declared.Head.{Head}
-use Rattle.system.specs.declared.Head.TheVariants.{Ruled}
 use Rattle.system.specs.Values.{task_of, with_data, with_most, with_pace, with_costs, no_task, blank, with_platform, with_second, with_type, last_type, with_last, cleared}
 use Rattle.system.specs.Limits.{type_limit, platform_fault, kind_fault, second_fault, type_fault, most_fault, pace_fault, costs_fault, kinds_fault, columns_fault}
 use Rattle.system.specs.Rules.{platform_rule, type_rule, data_rule, most_rule, pace_rule, second_rule, costs_rule, rule_of, follows, may_follow, head_size}
@@ -50,16 +43,16 @@ four-read n = ap (λ (l : List ℕ). word4 l 0) (sym (four-out n)) ∙ bytes4-re
 unless-none : (n : ℕ) (z : System) → n ≡ 0 → unless_fault n z ≡ opened z
 unless-none n z e = rw (eq-eqb n 0 e)
 
-field-ruled : (s : List ℕ) (last : ℕ) (z : System) (r : FieldRule) → head_of s last ≡ Ruled r → field_of s last z ≡ body_of r (body_part s) z
+field-ruled : (s : List ℕ) (last : ℕ) (z : System) (r : FieldRule) → head_of s last ≡ Ok r → field_of s last z ≡ body_of r (body_part s) z
 unfolding field_of ruled_field
-field-ruled s last z r e = ap (λ (h : Head). ruled_field h (body_part s) z) e
+field-ruled s last z r e = ap (λ (h : Result FieldRule ℕ). ruled_field h (body_part s) z) e
 
 -- a platform, at the start
 module _ (y : System) (rest : List ℕ) (z : System) (sound : platform_fault y.engines y.rule y.timecap y.memorycap ≡ 0) where
   abbrev with-platform : System
   with-platform = with_platform y.engines y.rule y.timecap y.memorycap z
 
-  platform-head : head_of (platform_out y ++ rest) 0 ≡ Ruled platform_rule
+  platform-head : head_of (platform_out y ++ rest) 0 ≡ Ok platform_rule
   unfolding rule_of head_of ruled_head
   platform-head = rw (le-leb head_size (length (platform_out y ++ rest)) (omega arith), le-leb 13 (length (platform_out y ++ rest)) (omega arith))
 
@@ -78,12 +71,12 @@ module _ (y : System) (rest : List ℕ) (z : System) (sound : platform_fault y.e
 -- a second kind of engine, after the platform
 module _ (k : Kind) (rest : List ℕ) (z : System) (sound : kind_fault z.engines k.number k.timecap k.memorycap ≡ 0) where
   abbrev second-field : List ℕ
-  second-field = second_out (TwoKinds k) ++ rest
+  second-field = second_out (Some k) ++ rest
 
   abbrev with_second_lem : System
   with_second_lem = with_second k.number k.timecap k.memorycap z
 
-  second_head : head_of second-field 1 ≡ Ruled second_rule
+  second_head : head_of second-field 1 ≡ Ok second_rule
   unfolding rule_of head_of ruled_head
   second_head = rw (le-leb head_size (length second-field) (omega arith), le-leb 12 (length second-field) (omega arith))
 
@@ -104,7 +97,7 @@ module _ (u s n : ℕ) (rest : List ℕ) (last : ℕ) (z : System) (place : may_
   abbrev type-field : List ℕ
   type-field = type_out false (task_of u s n) ++ rest
 
-  type-head : head_of type-field last ≡ Ruled type_rule
+  type-head : head_of type-field last ≡ Ok type_rule
   unfolding rule_of head_of ruled_head
   type-head = rw (le-leb head_size (length type-field) (omega arith), place, le-leb 13 (length type-field) (omega arith))
 
@@ -125,7 +118,7 @@ module _ (d : ℕ) (rest : List ℕ) (z : System) (sound : type_fault (with_data
   abbrev data-field : List ℕ
   data-field = 3 ∷ 0 ∷ 4 ∷ (four_out d ++ rest)
 
-  data_head : head_of data-field 2 ≡ Ruled data_rule
+  data_head : head_of data-field 2 ≡ Ok data_rule
   unfolding rule_of head_of ruled_head
   data_head = rw (le-leb head_size (length data-field) (omega arith), le-leb 7 (length data-field) (omega arith))
 
@@ -142,11 +135,11 @@ module _ (d : ℕ) (rest : List ℕ) (z : System) (sound : type_fault (with_data
       (field-ruled data-field 2 z data_rule data_head ∙ data-body)
 
 -- q of the last type, after it or its d
-module _ (q : ℕ) (rest : List ℕ) (last : ℕ) (z : System) (place : may_follow follows last most_rule.tag ≡ true) (sound : most_fault (AtMost q) ≡ 0) where
+module _ (q : ℕ) (rest : List ℕ) (last : ℕ) (z : System) (place : may_follow follows last most_rule.tag ≡ true) (sound : most_fault (Some q) ≡ 0) where
   abbrev most-field : List ℕ
   most-field = 4 ∷ 0 ∷ 2 ∷ (two_out q ++ rest)
 
-  most-head : head_of most-field last ≡ Ruled most_rule
+  most-head : head_of most-field last ≡ Ok most_rule
   unfolding rule_of head_of ruled_head
   most-head = rw (le-leb head_size (length most-field) (omega arith), place, le-leb 5 (length most-field) (omega arith))
 
@@ -154,7 +147,7 @@ module _ (q : ℕ) (rest : List ℕ) (last : ℕ) (z : System) (place : may_foll
   unfolding body_of most_from
   most-body =
       rw (le-leb 5 (length most-field) (omega arith), bytes2-read q)
-      (unless-none (most_fault (AtMost q)) (with_last (with_most q (last_type z)) z) sound)
+      (unless-none (most_fault (Some q)) (with_last (with_most q (last_type z)) z) sound)
 
   most_step : (f : ℕ) → fields_from (suc f) most-field last z ≡ fields_from f rest 4 (with_last (with_most q (last_type z)) z)
   unfolding fields_from
@@ -169,11 +162,11 @@ module _
     (last : ℕ)
     (z : System)
     (place : may_follow follows last pace_rule.tag ≡ true)
-    (sound : pace_fault z.timecap (last_type z).time (Paced (record { run = c; period = p })) ≡ 0) where
+    (sound : pace_fault z.timecap (last_type z).time (Some (record { run = c; period = p })) ≡ 0) where
   abbrev pace-field : List ℕ
   pace-field = 5 ∷ 0 ∷ 8 ∷ ((four_out c ++ four_out p) ++ rest)
 
-  pace-head : head_of pace-field last ≡ Ruled pace_rule
+  pace-head : head_of pace-field last ≡ Ok pace_rule
   unfolding rule_of head_of ruled_head
   pace-head = rw (le-leb head_size (length pace-field) (omega arith), place, le-leb 11 (length pace-field) (omega arith))
 
@@ -181,7 +174,7 @@ module _
   unfolding body_of pace_from
   pace-body =
       rw (le-leb 11 (length pace-field) (omega arith), four-read c, four-read p)
-      (unless-none (pace_fault z.timecap (last_type z).time (Paced (record { run = c; period = p }))) (with_last (with_pace c p (last_type z)) z) sound)
+      (unless-none (pace_fault z.timecap (last_type z).time (Some (record { run = c; period = p }))) (with_last (with_pace c p (last_type z)) z) sound)
 
   pace-step : (f : ℕ) → fields_from (suc f) pace-field last z ≡ fields_from f rest 5 (with_last (with_pace c p (last_type z)) z)
   unfolding fields_from
@@ -190,11 +183,11 @@ module _
       (field-ruled pace-field last z pace_rule pace-head ∙ pace-body)
 
 -- u and s of the last type on the second kind, after it, its d, its q, or its C and T
-module _ (u s : ℕ) (rest : List ℕ) (last : ℕ) (z : System) (place : may_follow follows last costs_rule.tag ≡ true) (sound : costs_fault (Takes (record { time = u; memory = s })) ≡ 0) where
+module _ (u s : ℕ) (rest : List ℕ) (last : ℕ) (z : System) (place : may_follow follows last costs_rule.tag ≡ true) (sound : costs_fault (Some (record { time = u; memory = s })) ≡ 0) where
   abbrev costs-field : List ℕ
   costs-field = 7 ∷ 0 ∷ 8 ∷ ((four_out u ++ four_out s) ++ rest)
 
-  costs-head : head_of costs-field last ≡ Ruled costs_rule
+  costs-head : head_of costs-field last ≡ Ok costs_rule
   unfolding rule_of head_of ruled_head
   costs-head = rw (le-leb head_size (length costs-field) (omega arith), place, le-leb 11 (length costs-field) (omega arith))
 
@@ -202,7 +195,7 @@ module _ (u s : ℕ) (rest : List ℕ) (last : ℕ) (z : System) (place : may_fo
   unfolding body_of costs_from
   costs-body =
       rw (le-leb 11 (length costs-field) (omega arith), four-read u, four-read s)
-      (unless-none (costs_fault (Takes (record { time = u; memory = s }))) (with_last (with_costs u s (last_type z)) z) sound)
+      (unless-none (costs_fault (Some (record { time = u; memory = s }))) (with_last (with_costs u s (last_type z)) z) sound)
 
   costs-step : (f : ℕ) → fields_from (suc f) costs-field last z ≡ fields_from f rest 7 (with_last (with_costs u s (last_type z)) z)
   unfolding fields_from
@@ -286,20 +279,20 @@ module _ (z : System) (six : length z.types ≡ type_limit) (few : z.typecount <
       }
 
   -- its q
-  abbrev limited : Most → TaskType
+  abbrev limited : Option ℕ → TaskType
   limited m = record { time = t.time; memory = t.memory; ceiling = t.ceiling; «data» = t.data; most = m; pace = t.pace; there = t.there }
 
-  most-comes : (m : Most) → t.most ≡ NotGiven → most_fault m ≡ 0 → (rest : List ℕ) (f tag : ℕ) → length (most_out m ++ rest) ≤ f → MostMay tag
+  most-comes : (m : Option ℕ) → t.most ≡ None → most_fault m ≡ 0 → (rest : List ℕ) (f tag : ℕ) → length (most_out m ++ rest) ≤ f → MostMay tag
       → Comes PaceMay f (most_out m ++ rest) tag (with_type t z) rest (with_type (limited m) z)
-  most-comes NotGiven free sound rest f tag enough place = record {
+  most-comes None free sound rest f tag enough place = record {
     steps = f;
     enough = enough;
     tag = tag;
     place = place.0;
-    goes = let same : t ≡ limited NotGiven = λ i. limited (free i) in ap (λ (x : TaskType). fields_from f rest tag (with_type x z)) same;
+    goes = let same : t ≡ limited None = λ i. limited (free i) in ap (λ (x : TaskType). fields_from f rest tag (with_type x z)) same;
   }
-  most-comes (AtMost q) free sound rest zero tag enough place = absurd (omega arith)
-  most-comes (AtMost q) free sound rest (suc f) tag enough place = record {
+  most-comes (Some q) free sound rest zero tag enough place = absurd (omega arith)
+  most-comes (Some q) free sound rest (suc f) tag enough place = record {
     steps = f;
     enough = omega arith;
     tag = 4;
@@ -308,44 +301,44 @@ module _ (z : System) (six : length z.types ≡ type_limit) (few : z.typecount <
   }
 
   -- its C and T
-  abbrev pacing : Pace → TaskType
+  abbrev pacing : Option Cycle → TaskType
   pacing x = record { time = t.time; memory = t.memory; ceiling = t.ceiling; «data» = t.data; most = t.most; pace = x; there = t.there }
 
-  pace-comes : (x : Pace) → t.pace ≡ Unpaced → pace_fault z.timecap t.time x ≡ 0 → (rest : List ℕ) (f tag : ℕ) → length (pace_out x ++ rest) ≤ f → PaceMay tag
+  pace-comes : (x : Option Cycle) → t.pace ≡ None → pace_fault z.timecap t.time x ≡ 0 → (rest : List ℕ) (f tag : ℕ) → length (pace_out x ++ rest) ≤ f → PaceMay tag
       → Comes CostsMay f (pace_out x ++ rest) tag (with_type t z) rest (with_type (pacing x) z)
-  pace-comes Unpaced idle sound rest f tag enough place = record {
+  pace-comes None idle sound rest f tag enough place = record {
     steps = f;
     enough = enough;
     tag = tag;
     place = place.0;
-    goes = let same : t ≡ pacing Unpaced = λ i. pacing (idle i) in ap (λ (x : TaskType). fields_from f rest tag (with_type x z)) same;
+    goes = let same : t ≡ pacing None = λ i. pacing (idle i) in ap (λ (x : TaskType). fields_from f rest tag (with_type x z)) same;
   }
-  pace-comes (Paced c) idle sound rest zero tag enough place = absurd (omega arith)
-  pace-comes (Paced c) idle sound rest (suc f) tag enough place = record {
+  pace-comes (Some c) idle sound rest zero tag enough place = absurd (omega arith)
+  pace-comes (Some c) idle sound rest (suc f) tag enough place = record {
     steps = f;
     enough = omega arith;
     tag = 5;
     place = (refl, refl);
     goes =
-        pace-step c.run c.period rest tag (with_type t z) place.1 (ap (λ (x : TaskType). pace_fault z.timecap x.time (Paced c)) last_of ∙ sound) f
+        pace-step c.run c.period rest tag (with_type t z) place.1 (ap (λ (x : TaskType). pace_fault z.timecap x.time (Some c)) last_of ∙ sound) f
         ∙ ap (fields_from f rest 5) (last_set (with_pace c.run c.period));
   }
 
   -- its u and s on the second kind
-  abbrev costing : There → TaskType
+  abbrev costing : Option Costs → TaskType
   costing x = record { time = t.time; memory = t.memory; ceiling = t.ceiling; «data» = t.data; most = t.most; pace = t.pace; there = x }
 
-  costs-comes : (x : There) → t.there ≡ Absent → costs_fault x ≡ 0 → (rest : List ℕ) (f tag : ℕ) → length (costs_out x ++ rest) ≤ f → CostsMay tag
+  costs-comes : (x : Option Costs) → t.there ≡ None → costs_fault x ≡ 0 → (rest : List ℕ) (f tag : ℕ) → length (costs_out x ++ rest) ≤ f → CostsMay tag
       → Comes TypeMay f (costs_out x ++ rest) tag (with_type t z) rest (with_type (costing x) z)
-  costs-comes Absent alone sound rest f tag enough place = record {
+  costs-comes None alone sound rest f tag enough place = record {
     steps = f;
     enough = enough;
     tag = tag;
     place = place.0;
-    goes = let same : t ≡ costing Absent = λ i. costing (alone i) in ap (λ (x : TaskType). fields_from f rest tag (with_type x z)) same;
+    goes = let same : t ≡ costing None = λ i. costing (alone i) in ap (λ (x : TaskType). fields_from f rest tag (with_type x z)) same;
   }
-  costs-comes (Takes c) alone sound rest zero tag enough place = absurd (omega arith)
-  costs-comes (Takes c) alone sound rest (suc f) tag enough place = record {
+  costs-comes (Some c) alone sound rest zero tag enough place = absurd (omega arith)
+  costs-comes (Some c) alone sound rest (suc f) tag enough place = record {
     steps = f;
     enough = omega arith;
     tag = 7;
@@ -450,7 +443,7 @@ holding-six y done few = omega (arith, length-append done (replicate (type_limit
 
 -- after the platform and any second kind
 
-abbrev equipped : System → Second → System
+abbrev equipped : System → Option Kind → System
 equipped y s =
     record {
       engines = y.engines;
@@ -462,16 +455,16 @@ equipped y s =
       second = s;
     }
 
-second-comes : (y : System) (s : Second) → second_fault y.engines s ≡ 0 → (rest : List ℕ) (f : ℕ) → length (second_out s ++ rest) ≤ f
-    → Comes TypeMay f (second_out s ++ rest) 1 (equipped y OneKind) rest (equipped y s)
-second-comes y OneKind sound rest f enough = record { steps = f; enough = enough; tag = 1; place = refl; goes = refl }
-second-comes y (TwoKinds k) sound rest zero enough = absurd (omega arith)
-second-comes y (TwoKinds k) sound rest (suc f) enough = record {
+second-comes : (y : System) (s : Option Kind) → second_fault y.engines s ≡ 0 → (rest : List ℕ) (f : ℕ) → length (second_out s ++ rest) ≤ f
+    → Comes TypeMay f (second_out s ++ rest) 1 (equipped y None) rest (equipped y s)
+second-comes y None sound rest f enough = record { steps = f; enough = enough; tag = 1; place = refl; goes = refl }
+second-comes y (Some k) sound rest zero enough = absurd (omega arith)
+second-comes y (Some k) sound rest (suc f) enough = record {
   steps = f;
   enough = omega arith;
   tag = 6;
   place = refl;
-  goes = second-step k rest (equipped y OneKind) sound f;
+  goes = second-step k rest (equipped y None) sound f;
 }
 
 -- at the end it does not matter which field was the last
@@ -542,7 +535,7 @@ module _ (told : ℕ → Bool) (y : System) (six : length y.types ≡ 6) (pass :
       comes-then (second-comes y y.second pass.second (types_out told y k ++ []) f (omega (arith, ap length both)))
       (λ steps tag more place. types-read k (le_refl k) tag place steps [] more) in
       platform-step y (second_out y.second ++ types_out told y k) blank pass.platform f
-      ∙ ap (λ (s : List ℕ). fields_from f s 1 (equipped y OneKind)) (sym both)
+      ∙ ap (λ (s : List ℕ). fields_from f s 1 (equipped y None)) (sym both)
       ∙ p.goes
       ∙ fields_from-nil p.steps p.tag (holding y (take k y.types))
       ∙ ap (end_of p.tag) reads-cleared

@@ -1,9 +1,8 @@
 -- Every file of which each field keeps its limits is read to its end, where it is refused 9, 41 or 10 or opens; and it is, field by field, a beginning in the
 -- sense of system/specs/Fields, whichever zero tags 3
 -- it has. So what is said there of the next field and of the file's end is said of every such file, after each of its fields.
-use Rattle.std.specs.Prelude.{ℕ, suc, ◌≤◌, ◌<◌, List, [], ◌∷◌, ◌++◌, Bool, ◌≡◌, length}
+use Rattle.std.specs.Prelude.{ℕ, suc, ◌≤◌, ◌<◌, List, [], ◌∷◌, ◌++◌, Bool, ◌≡◌, length, Some}
 use Rattle.system.specs.declared.Kind.{Kind}
-use Rattle.system.specs.declared.Second.TheVariants.{TwoKinds}
 use Rattle.system.specs.declared.TaskType.{TaskType}
 use Rattle.system.specs.declared.System.{System}
 use Rattle.system.specs.Layout.{opened, unread, read_card}
@@ -49,6 +48,6 @@ pub record FieldByField (told : ℕ → Bool) (y : System) : Type 0 where
   pub one_byte : (p rest : List ℕ) (last a : ℕ) → WholeFields p last → p ++ rest ≡ file_with told y → read_card (p ++ a ∷ []) ≡ unread 1
   pub two_bytes_lem : (p rest : List ℕ) (last a b : ℕ) → WholeFields p last → p ++ rest ≡ file_with told y → read_card (p ++ a ∷ b ∷ []) ≡ unread 1
   pub platform : Begun (platform_out y) 1
-  pub second : (k : Kind) → y.second ≡ TwoKinds k → Begun (platform_out y ++ second_out y.second) 6
+  pub second : (k : Kind) → y.second ≡ Some k → Begun (platform_out y ++ second_out y.second) 6
   pub own : (t : ℕ) → t < y.typecount → Begun (up_to_type told y t ++ own_out (type_no y (suc t))) 2
   pub types : (t : ℕ) → t ≤ y.typecount → (last : ℕ) × (Begun (up_to_type told y t) last)

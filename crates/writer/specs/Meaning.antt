@@ -1,19 +1,13 @@
 -- What a written system means, in plain words: document 01's layout byte by byte, the limits number by number, and what reads back.
 -- None of these words stands in the definitions by which the writer's code is described, so that code and statement cannot be wrong together.
-use Rattle.std.specs.Prelude.{ℕ, zero, suc, ◌+◌, ◌*◌, ◌/◌, ◌%◌, ◌≤◌, ◌<◌, List, [], ◌∷◌, ◌++◌, Bool, false, not, cond, ◌&&◌, ◌≡◌, ◌↔◌, length, get_or, take, drop, eqb}
-use Rattle.system.specs.declared.Most.{Most}
-use Rattle.system.specs.declared.Most.TheVariants.{NotGiven, AtMost}
-use Rattle.system.specs.declared.Pace.{Pace}
-use Rattle.system.specs.declared.Pace.TheVariants.{Unpaced, Paced}
-use Rattle.system.specs.declared.There.{There}
-use Rattle.system.specs.declared.There.TheVariants.{Absent, Takes}
-use Rattle.system.specs.declared.Second.{Second}
-use Rattle.system.specs.declared.Second.TheVariants.{OneKind, TwoKinds}
+use Rattle.std.specs.Prelude.{ℕ, zero, suc, ◌+◌, ◌*◌, ◌/◌, ◌%◌, ◌≤◌, ◌<◌, List, [], ◌∷◌, ◌++◌, Bool, false, not, cond, ◌&&◌, ◌≡◌, ◌↔◌, length, get_or, take, drop, eqb, Option, None, Some}
+use Rattle.system.specs.declared.Kind.{Kind}
+use Rattle.system.specs.declared.Costs.{Costs}
+use Rattle.system.specs.declared.Cycle.{Cycle}
 use Rattle.system.specs.declared.TaskType.{TaskType}
 use Rattle.system.specs.declared.System.{System}
-use Rattle.system.specs.declared.Answer.{Answer}
+use Rattle.system.specs.Outcome.{Answer, Outcome, Source, accepted, refused, from_input, outcome_of}
 use Rattle.system.specs.Layout.{read_card, read_file, opened}
-use Rattle.system.specs.Outcome.{Outcome, Source, accepted, refused, from_input, outcome_of}
 use Rattle.partition.specs.OwnWords.{no_type}
 use Rattle.partition.specs.Plain.{type_no, ceiling_no, PacesWithin, LimitsOut, SecondWithin, SecondSizes, AllOrNone, CardOut}
 use Rattle.writer.specs.Writing.{write_outcome, written_to}
@@ -36,23 +30,23 @@ abbrev pub data_out : Bool → ℕ → List ℕ
 data_out told d = cond (eqb d 0 && not told) [] (3 ∷ 0 ∷ 4 ∷ four_out d)
 
 -- q: tag 4, length 2, q; nothing where it is not given
-abbrev pub most_out : Most → List ℕ
-most_out NotGiven = []
-most_out (AtMost q) = 4 ∷ 0 ∷ 2 ∷ two_out q
+abbrev pub most_out : Option ℕ → List ℕ
+most_out None = []
+most_out (Some q) = 4 ∷ 0 ∷ 2 ∷ two_out q
 
 -- request 2026-14: tag 5, length 8, C and T; nothing where they are not given
-abbrev pub pace_out : Pace → List ℕ
-pace_out Unpaced = []
-pace_out (Paced c) = 5 ∷ 0 ∷ 8 ∷ (four_out c.run ++ four_out c.period)
+abbrev pub pace_out : Option Cycle → List ℕ
+pace_out None = []
+pace_out (Some c) = 5 ∷ 0 ∷ 8 ∷ (four_out c.run ++ four_out c.period)
 
 -- request 2026-13: tag 6, length 9, the second kind's number, U and S; and tag 7, length 8, u and s there; nothing where they are not given
-abbrev pub second_out : Second → List ℕ
-second_out OneKind = []
-second_out (TwoKinds k) = 6 ∷ 0 ∷ 9 ∷ k.number ∷ (four_out k.timecap ++ four_out k.memorycap)
+abbrev pub second_out : Option Kind → List ℕ
+second_out None = []
+second_out (Some k) = 6 ∷ 0 ∷ 9 ∷ k.number ∷ (four_out k.timecap ++ four_out k.memorycap)
 
-abbrev pub costs_out : There → List ℕ
-costs_out Absent = []
-costs_out (Takes c) = 7 ∷ 0 ∷ 8 ∷ (four_out c.time ++ four_out c.memory)
+abbrev pub costs_out : Option Costs → List ℕ
+costs_out None = []
+costs_out (Some c) = 7 ∷ 0 ∷ 8 ∷ (four_out c.time ++ four_out c.memory)
 
 -- type t, counted from 1: tag 2, length 10, u, s, n; then its d, its q, its C and T, and last its u and s on the second kind
 abbrev pub type_out : Bool → TaskType → List ℕ
@@ -106,7 +100,7 @@ pub record GivenOneKind (y : System) : Type 0 where
 
 -- each q of types 1 to k fits the two bytes of its field, as every q of the code does, which has 16 bits
 abbrev pub ReplicasFit : System → Type 0
-ReplicasFit y = (t q : ℕ) → 1 ≤ t → t ≤ y.typecount → (type_no y t).most ≡ AtMost q → q < 65536
+ReplicasFit y = (t q : ℕ) → 1 ≤ t → t ≤ y.typecount → (type_no y t).most ≡ Some q → q < 65536
 
 -- "reads as itself, types past k, which are not judged, as 0": z is y, but 0 past k
 pub record SameToK (y z : System) : Type 0 where
@@ -137,7 +131,7 @@ pub record SizesWithin (y : System) : Type 0 where
 
 -- 31: no q of types 1 to k is 0
 abbrev pub ReplicasWithin : System → Type 0
-ReplicasWithin y = (t q : ℕ) → 1 ≤ t → t ≤ y.typecount → (type_no y t).most ≡ AtMost q → 1 ≤ q
+ReplicasWithin y = (t q : ℕ) → 1 ≤ t → t ≤ y.typecount → (type_no y t).most ≡ Some q → 1 ≤ q
 
 -- 10: the columns of types 1 to n
 unfoldable pub columns_to : System → ℕ → ℕ
@@ -178,7 +172,7 @@ pub record WritePromises (y : System) (old new : List ℕ) (r : Answer) : Type 0
   pub order : WritesInOrder y (length old) (outcome_of r)
   pub as_lent : (s : Source) (n : ℕ) → outcome_of r ≡ refused s n → new ≡ old
   pub writes : (n : ℕ) → outcome_of r ≡ accepted (n ∷ []) → (MayBeWritten y) × (n ≡ length (file_out y)) × (new ≡ file_out y ++ drop n old)
-  pub reads_back : (n : ℕ) → outcome_of r ≡ accepted (n ∷ []) → (z : System) × (read_card (take n new) ≡ opened z) × SameToK y z × (y.second ≡ OneKind → read_file (take n new) ≡ opened z)
+  pub reads_back : (n : ℕ) → outcome_of r ≡ accepted (n ∷ []) → (z : System) × (read_card (take n new) ≡ opened z) × SameToK y z × (y.second ≡ None → read_file (take n new) ≡ opened z)
   pub comes_back : (file : List ℕ) (told : ℕ → Bool) → IsBytes file → read_card file ≡ opened y → file ≡ file_with told y → NoZero told y
       → length file ≤ length old
       → (outcome_of r ≡ accepted (length file ∷ [])) × (new ≡ file ++ drop (length file) old)

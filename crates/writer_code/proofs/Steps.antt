@@ -1,30 +1,32 @@
 -- The steps of the writer's loops over a system's types, which the functions' proofs cite.
+use Rattle.std.proofs.Common.{Option, Some, None}
+use Rattle.std.specs.Prelude.{is_some}
 use Prim.Native.Nat.{ℕ, zero, suc, ◌+◌, ◌≤◌, ◌<◌}
-use mathlib.Core.Path.{◌≡◌, refl, sym, ◌∙◌}
+use mathlib.Core.Bool.{Bool, true, false, not, cond}
+use mathlib.Core.Path.{◌≡◌, refl, sym, ap, ◌∙◌}
 use mathlib.Core.List.{List, [], ◌∷◌, ◌++◌}
 use native.Mathlib.Omega.{arith}
 use native.Mathlib.Numerals.{add-one}
-use borrow.Author.Tests.{ne_eqb}
-use lib.ListN.{length, get_or, take, drop, length-append, drop_of_length-le}
-use lib.Seq.{take-suc, drop-cons}
-use lib.Dec.{lit<}
+use lib.ListN.{length, get_or, take, length-append}
+use lib.Seq.{take-suc}
+use lib.Dec.{eqb, lit<}
 use Rattle.system.specs.declared.TaskType.{TaskType}
-use Rattle.system.specs.declared.System.{System}
+use Rattle.system.specs.declared.Kind.{Kind}
+use Rattle.system.specs.declared.Costs.{Costs}
+use Rattle.system.specs.declared.Cycle.{Cycle}
 use Rattle.system.specs.declared.FieldRule.{FieldRule}
-use Rattle.system.specs.declared.RuleFound.{RuleFound}
-use Rattle.system.specs.declared.RuleFound.TheVariants.{Known}
 use Rattle.system.specs.Rules.{field_rules, rule_of}
 use Rattle.system.proofs.Laws.{OneOf, a-platform, a-type, a-data, a-most, a-pace, a_second, a-costs, rule_of-known}
-use Rattle.system.specs.Values.{cleared}
-use Rattle.system.specs.Limits.{platform_fault, second_fault, kinds_fault}
-use Rattle.writer.specs.File.{type_bytes, types_bytes}
-use Rattle.writer.specs.Writing.{or_else, count_fault, engines_fault, types_limits, system_fault}
+use Rattle.system.specs.Limits.{most_fault}
+use Rattle.system.proofs.Within.{first_fault}
+use Rattle.buffer.specs.Bytes.{bytes4}
+use Rattle.writer.specs.File.{found_size, field_bytes, data_bytes, most_bytes, pace_bytes, second_bytes, costs_bytes, type_bytes, types_bytes}
+use Rattle.writer.specs.Writing.{or_else, task_fault, types_fault, mosts_fault}
 use Rattle.writer.proofs.Bytes.{types_more, types-size}
-use Rattle.writer.proofs.Faults.{first_of}
 
 -- A rule's body is short
 
-pub body-short : (tag : ℕ) {found : RuleFound} {r : FieldRule} → found ≡ rule_of field_rules tag → found ≡ Known r → r.body < 65536
+pub body-short : (tag : ℕ) {found : Option FieldRule} {r : FieldRule} → found ≡ rule_of field_rules tag → found ≡ Some r → r.body < 65536
 body-short tag {r = r} look known = at (rule_of-known tag r (sym look ∙ known)).which
   where
     at : OneOf r → r.body < 65536
@@ -36,56 +38,50 @@ body-short tag {r = r} look known = at (rule_of-known tag r (sym look ∙ known)
     at (a_second w) = rw w (lit< tt)
     at (a-costs w) = rw w (lit< tt)
 
--- One test after another: this one finds a fault, or what comes after it decides
+-- The types that are judged by a test, one after the other
 
-module _ (fault test later : ℕ) (said : fault ≡ test) where
-  pub or-first : (fault ≡ 0 → ⊥) → fault ≡ or_else test later
-  or-first some = rw (← said, ne_eqb fault 0 some)
+pub types-listed : (ts : List TaskType) → first_fault task_fault ts ≡ types_fault ts
+unfolding types_fault
+types-listed [] = refl
+types-listed (t ∷ ts) = ap (or_else (task_fault t)) (types-listed ts)
 
-  pub or-on : fault ≡ 0 → {z : ℕ} → z ≡ later → z ≡ or_else test later
-  or-on none e = e ∙ rw (← said, none)
+abbrev pub most_said : TaskType → ℕ
+most_said t = most_fault t.most
 
--- A system's tests, one law for each answer
+pub mosts-listed : (ts : List TaskType) → first_fault most_said ts ≡ mosts_fault ts
+unfolding mosts_fault
+mosts-listed [] = refl
+mosts-listed (t ∷ ts) = ap (or_else (most_said t)) (mosts-listed ts)
 
-module _ (y : System) {counted : ℕ} (a : counted ≡ count_fault y.typecount) where
-  pub fault-of-count : (counted ≡ 0 → ⊥) → counted ≡ system_fault y
-  unfolding system_fault
-  fault-of-count some = or-first _ _ _ a some
+-- The bytes of a field that may be given
 
-  module _ (few : counted ≡ 0) {kinds : ℕ} (b : kinds ≡ kinds_fault y) where
-    pub fault-of-kinds : (kinds ≡ 0 → ⊥) → kinds ≡ system_fault y
-    unfolding system_fault
-    fault-of-kinds some = or-on _ _ _ a few (or-first _ _ _ b some)
+pub data-sized : (d : ℕ) → cond (not (eqb d 0)) (found_size (rule_of field_rules 3)) 0 ≡ length (data_bytes d)
+unfolding field_bytes rule_of
+data-sized d = at (eqb d 0)
+  where
+    at : (b : Bool) → cond (not b) (found_size (rule_of field_rules 3)) 0 ≡ length (cond b [] (field_bytes 3 (bytes4 d)))
+    at true = refl
+    at false = refl
 
-    module _
-        (agree : kinds ≡ 0)
-        {equipped : ℕ}
-        (c : equipped ≡ engines_fault (platform_fault y.engines y.rule y.timecap y.memorycap) (second_fault y.engines y.second)) where
-      pub fault-of-engines : (equipped ≡ 0 → ⊥) → equipped ≡ system_fault y
-      unfolding system_fault
-      fault-of-engines some = or-on _ _ _ a few (or-on _ _ _ b agree (or-first _ _ _ c some))
+pub most-sized : (m : Option ℕ) {b : Bool} → b ≡ is_some m → cond b (found_size (rule_of field_rules 4)) 0 ≡ length (most_bytes m)
+unfolding field_bytes rule_of
+most-sized None e = rw e
+most-sized (Some q) e = rw e
 
-      pub fault-of-types : equipped ≡ 0 → {limits : ℕ} → limits ≡ types_limits y.timecap (cleared y).types → limits ≡ system_fault y
-      unfolding system_fault
-      fault-of-types keeps e = or-on _ _ _ a few (or-on _ _ _ b agree (or-on _ _ _ c keeps e))
+pub pace-sized : (p : Option Cycle) {b : Bool} → b ≡ is_some p → cond b (found_size (rule_of field_rules 5)) 0 ≡ length (pace_bytes p)
+unfolding field_bytes rule_of
+pace-sized None e = rw e
+pace-sized (Some c) e = rw e
 
--- The types that are judged by a test: this one is at fault, or the others decide, or none is left
+pub second-sized : (s : Option Kind) {b : Bool} → b ≡ is_some s → cond b (found_size (rule_of field_rules 6)) 0 ≡ length (second_bytes s)
+unfolding field_bytes rule_of
+second-sized None e = rw e
+second-sized (Some k) e = rw e
 
-module _ (test : TaskType → ℕ) (ts : List TaskType) (i : ℕ) where
-  first_step : (d : TaskType) → i < length ts → first_of test (drop i ts) ≡ or_else (test (get_or ts i d)) (first_of test (drop (i + 1) ts))
-  unfolding first_of
-  first_step d h = rw (add-one i, drop-cons ts i d h)
-
-  pub first-faulty : (d : TaskType) (fault all : ℕ) → i < length ts → fault ≡ test (get_or ts i d) → (fault ≡ 0 → ⊥) → first_of test (drop i ts) ≡ all → fault ≡ all
-  first-faulty d fault all h e some inv =
-      or-first fault (test (get_or ts i d)) (first_of test (drop (i + 1) ts)) e some ∙ sym (first_step d h) ∙ inv
-
-  pub first_on : (d : TaskType) (fault all : ℕ) → i < length ts → fault ≡ test (get_or ts i d) → fault ≡ 0 → first_of test (drop i ts) ≡ all → first_of test (drop (i + 1) ts) ≡ all
-  first_on d fault all h e none inv = or-on fault (test (get_or ts i d)) (first_of test (drop (i + 1) ts)) e none refl ∙ sym (first_step d h) ∙ inv
-
-  pub first-end : (all : ℕ) → length ts ≤ i → first_of test (drop i ts) ≡ all → 0 ≡ all
-  unfolding first_of
-  first-end all h inv = rw (drop_of_length-le ts h) at inv
+pub costs-sized : (there : Option Costs) {b : Bool} → b ≡ is_some there → cond b (found_size (rule_of field_rules 7)) 0 ≡ length (costs_bytes there)
+unfolding field_bytes rule_of
+costs-sized None e = rw e
+costs-sized (Some c) e = rw e
 
 -- The types that are written: one more, which is among the first k
 

@@ -3,4 +3,4 @@ use Rattle.answers.proofs.Checked.{zeros-long, check-promised}
 use Rattle.answers_code.proofs.check_of.Goals as goal
 
 pub returns : goal.returns
-returns c = check-promised zeros-long c.check_sheet-answer.ensures c.write_answer.ensures
+returns c = check-promised zeros-long c.check_sheet.ensures c.write_answer.ensures

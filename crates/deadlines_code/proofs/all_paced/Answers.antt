@@ -1,36 +1,19 @@
--- `all_paced`: the answers.
-use mathlib.Core.Path.{◌≡◌, refl, sym, ◌∙◌}
-use lib.ListN.{length, drop}
-use native.Mathlib.Omega.{arith}
-use borrow.Author.Rules.{rules}
-use Rattle.system.specs.Limits.{type_limit}
-use Rattle.deadlines_code.proofs.Steps.{paced-found, paced-more, paced-end}
+-- One test for each type and its count.
+use Rattle.std.proofs.Common.{rules}
+use Prim.Native.Nat.{ℕ}
+use mathlib.Core.Path.{◌∙◌}
+use mathlib.Core.Bool.{◌||◌}
+use borrow.Author.Tests.{tests}
+use lib.Dec.{eqb}
+use Rattle.std.proofs.lemmas.Iterator.{YieldsList-from_slice, YieldsList-from_zip}
+use Rattle.std.proofs.lemmas.Iterator.Search.{all_from_yields_List}
+use Rattle.system.specs.declared.TaskType.{TaskType}
+use Rattle.deadlines.specs.Engine.{paced_type}
+use Rattle.deadlines_code.proofs.Steps.{paced-zip}
 use Rattle.deadlines_code.proofs.all_paced.Goals as goal
-
-pub loop-i-init : goal.loop-i-init
-loop-i-init c = (omega arith, refl)
-
-pub returns-then-counts-i : goal.returns-then-counts-i
-returns-then-counts-i c =
-    let l = c.loop-i in
-    let a = c.args in
-    let lt : length a.types ≡ type_limit = search rules in
-    let ln : length a.counts ≡ type_limit = search rules in
-    sym (paced-found a.types a.counts l.i (omega arith) (omega arith) c.paced_type.result c.paced_type.ensures c.if-counts-i.true) ∙ l.invariant.1
-
-pub loop-i-preserved : goal.loop-i-preserved
-loop-i-preserved c =
-    let l = c.loop-i in
-    let a = c.args in
-    let lt : length a.types ≡ type_limit = search rules in
-    let ln : length a.counts ≡ type_limit = search rules in (
-      omega arith,
-      sym (paced-more a.types a.counts l.i (omega arith) (omega arith) c.paced_type.result c.paced_type.ensures c.if-counts-i.false) ∙ l.invariant.1,
-    )
 
 pub returns : goal.returns
 returns c =
-    let l = c.loop-i in
-    let a = c.args in
-    let lt : length a.types ≡ type_limit = search rules in
-    sym (paced-end a.types (drop l.i a.counts) l.i (omega arith)) ∙ l.invariant.1
+    all_from_yields_List (λ (p : TaskType × ℕ). eqb p.1 0 || paced_type p.0) c.all.new.self _ _ c.all.ensures.ran
+    (YieldsList-from_zip (YieldsList-from_slice c.args.types cc) (YieldsList-from_slice c.args.counts cc)) (λ x b q k. search (rules, tests))
+    ∙ paced-zip c.args.types c.args.counts

@@ -1,53 +1,52 @@
 -- `jobs_of`: the answers.
 use Prim.Native.Nat.{◌+◌, ◌≤◌}
-use mathlib.Core.Path.{◌≡◌, refl, ◌∙◌}
-use lib.ListN.{length, get_or}
+use mathlib.Core.Path.{◌≡◌, refl, ap, ap₂, ◌∙◌}
+use lib.ListN.{length}
 use native.Mathlib.Omega.{arith}
 use borrow.Author.Rules.{rules}
-use Rattle.system.specs.Limits.{type_limit}
+use Rattle.std.specs.Iterator.Adapters.{zip_first, zip_second}
+use Rattle.std.specs.Slice.Iter.{iter_rest}
+use Rattle.std.proofs.lemmas.Iterator.{empty_from_Zip}
 use Rattle.deadlines.specs.Engine.{instances, jobs_of}
-use Rattle.deadlines_code.proofs.Steps.{instances-turn, instances-end, length-wrote, jobs-more, jobs-done}
+use Rattle.deadlines_code.proofs.Steps.{instances-next, jobs-more, instances-none, jobs-done, length-wrote}
 use Rattle.deadlines_code.proofs.jobs_of.Goals as goal
 
-pub loop-i-init : goal.loop-i-init
-loop-i-init c = (omega arith, search rules, omega arith, refl)
+pub loop-t-init : goal.loop-t-init
+loop-t-init c =
+    let lt : length c.args.types ≡ 6 = search rules in
+    let ln : length c.args.counts ≡ 6 = search rules in
+    let ts : iter_rest (zip_first c.into_iter-t-iterator.result) ≡ c.args.types = cc in
+    let ns : iter_rest (zip_second c.into_iter-t-iterator.result) ≡ c.args.counts = cc in
+    (refl, omega (arith, ap length ts, ap length ns), omega (arith, ap instances ns), ap₂ jobs_of ts ns)
 
 pub with_jobs-next-requires : goal.with_jobs-next-requires
 with_jobs-next-requires c =
-    let a = c.args in
-    let i = c.loop-i.i in
-    let ln : length a.counts ≡ type_limit = search rules in
-    omega (arith, instances-turn a.counts i (omega arith), c.requires)
+    let s = c.in-Some.ensures.steps in
+    omega (arith, instances-next _ _ _ _ _ _ s.0 s.1, c.loop-t.invariant.2, c.requires)
 
 pub overflow_add-at : goal.overflow_add-at
 overflow_add-at c =
-    let x = c.args.counts in
-    let i = c.loop-i.i in
-    let ln : length x ≡ type_limit = search rules in
-    omega (arith, instances-turn x i (omega arith), c.requires)
+    let s = c.in-Some.ensures.steps in
+    record { fits = omega (arith, instances-next _ _ _ _ _ _ s.0 s.1, c.loop-t.invariant.2, c.requires) }
 
-pub loop-i-preserved : goal.loop-i-preserved
-loop-i-preserved c =
-    let a = c.args in
-    let l = c.loop-i in
-    let lt : length a.types ≡ type_limit = search rules in
-    let ln : length a.counts ≡ type_limit = search rules in
-    let n = get_or a.counts l.i 0 in
-    let turn = instances-turn a.counts l.i (omega arith) in
-    let fits : l.at + n ≤ length l.jobs = omega (arith, turn, c.requires) in
-    let job = c.job_of_type-job in
+pub loop-t-preserved : goal.loop-t-preserved
+loop-t-preserved c =
+    let l = c.loop-t in
+    let s = c.in-Some.ensures.steps in
+    let n = c.in-Some.count.now in
+    let turn = instances-next _ _ _ _ _ _ s.0 s.1 in
+    let fits : l.at + n ≤ length l.jobs = omega (arith, turn, l.invariant.0, l.invariant.2, c.requires) in
+    let job = c.job_of_type in
     let next = c.with_jobs-next in (
-      omega arith,
-      length-wrote l.jobs next.result l.at n job.result next.ensures fits ∙ l.invariant.1,
-      omega (arith, turn),
-      jobs-more a.types a.counts l.i l.at l.jobs (jobs_of a.types a.counts) l.invariant.3 (omega arith) (omega arith) next.result job.result job.ensures next.ensures fits,
+      length-wrote l.jobs next.result l.at n job.result next.ensures fits ∙ l.invariant.0,
+      omega (arith, ap length s.0, ap length s.1, l.invariant.1),
+      omega (arith, turn, l.invariant.2),
+      jobs-more _ _ _ _ _ n s.0 s.1 l.at l.jobs (jobs_of c.args.types c.args.counts) l.invariant.3 next.result job.result job.ensures next.ensures fits,
     )
 
 pub returns : goal.returns
 returns c =
-    let a = c.args in
-    let l = c.loop-i in
-    let lt : length a.types ≡ type_limit = search rules in
-    let ln : length a.counts ≡ type_limit = search rules in
-    let all : l.at ≡ instances a.counts = omega (arith, instances-end a.counts l.i (omega arith)) in
-    jobs-done a.types a.counts l.i l.at l.jobs (jobs_of a.types a.counts) l.invariant.3 (omega arith) all
+    let l = c.loop-t in
+    let none = empty_from_Zip l.t-iterator c.next.new.self c.next.result c.in-None.is c.next.ensures.steps l.invariant.1 in
+    jobs-done (iter_rest (zip_first l.t-iterator)) (iter_rest (zip_second l.t-iterator)) c.args.counts l.at l.jobs (jobs_of c.args.types c.args.counts) none.0 l.invariant.3
+    (omega (arith, l.invariant.2, instances-none (iter_rest (zip_second l.t-iterator)) none.1))

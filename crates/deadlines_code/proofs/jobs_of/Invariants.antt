@@ -1,19 +1,19 @@
 -- The loop's invariant: the jobs written so far and those of the types that are left make all, and so do their numbers.
-use Prim.Native.Nat.{◌+◌, ◌-◌, ◌≤◌}
+use Prim.Native.Nat.{◌+◌}
 use mathlib.Core.Path.{◌≡◌}
 use mathlib.Core.List.{◌++◌}
-use lib.ListN.{length, take, drop}
-use Rattle.system.specs.Limits.{type_limit}
+use lib.ListN.{length, take}
+use Rattle.std.specs.Iterator.Adapters.{zip_first, zip_second}
+use Rattle.std.specs.Slice.Iter.{iter_rest}
 use Rattle.runs.specs.Run.{job_limit}
 use Rattle.deadlines.specs.Engine.{instances, jobs_of}
 use Rattle.deadlines_code.proofs.jobs_of.Given as goal
 
-abbrev pub invariant-loop-i : goal.invariant-loop-i
-invariant-loop-i l =
-    (l.i ≤ type_limit)
-    × (length l.jobs ≡ job_limit)
-    × (l.at + instances (drop l.i l.counts) ≡ instances l.counts)
-    × (take l.at l.jobs ++ jobs_of (drop l.i l.types) (drop l.i l.counts) ≡ jobs_of l.types l.counts)
-
-abbrev pub decreases-loop-i : goal.decreases-loop-i
-decreases-loop-i l = type_limit - l.i
+abbrev pub invariant-loop-t : goal.invariant-loop-t
+invariant-loop-t l =
+    let ts = iter_rest (zip_first l.t-iterator) in
+    let ns = iter_rest (zip_second l.t-iterator) in
+    (length l.jobs ≡ job_limit)
+    × (length ts ≡ length ns)
+    × (l.at + instances ns ≡ instances l.fn.counts)
+    × (take l.at l.jobs ++ jobs_of ts ns ≡ jobs_of l.fn.types l.fn.counts)

@@ -1,12 +1,8 @@
--- `letter`: in `_` the place is behind all 26 bytes of the words.
-use Prim.Native.Nat.{◌≤◌}
-use mathlib.Core.Path.{sym}
-use native.Mathlib.Omega.{arith}
-use lib.ListN.{get_or-eq_default}
-use Rattle.listing.proofs.Laws.{words}
+-- `letter`: what stands at the place, or 0.
+use Rattle.std.proofs.Common.{◌∙◌, ap, ℕ, Option}
+use Rattle.std.specs.Option.{unwrap_or}
+use native.Mathlib.Nat.{le_refl}
 use Rattle.listing_code.proofs.letter.Goals as goal
 
-pub returns-in_default : goal.returns-in_default
-returns-in_default c =
-    let behind : 26 ≤ c.args.place = omega arith in
-    sym (get_or-eq_default words 0 behind)
+pub returns : goal.returns
+returns c = c.unwrap_or.ensures ∙ ap (λ (b : Option ℕ). unwrap_or b 0) c.copied.ensures ∙ c.get.ensures.lookup.4 (le_refl c.args.place) 0

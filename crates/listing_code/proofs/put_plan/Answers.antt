@@ -10,4 +10,4 @@ returns c =
     let engines = c in
     let head = engines in
     let args = head.args in
-    (puts_then (omega arith) (rw (line-parts engines_word args.used) at head.put_entry-next.ensures.0) engines.put_engines.ensures.0, omega arith)
+    (puts_then (omega arith) (rw (line-parts engines_word args.p.used) at head.put_entry-next.ensures.0) engines.put_engines.ensures.0, omega arith)

@@ -1,17 +1,18 @@
 -- `put_refusal`: one line, whichever list the refusal is from.
+use Rattle.std.proofs.Common.{ℕ, ◌≡◌, []}
+use mathlib.Core.Logic.{◌⊎◌, inl, inr}
 use native.Mathlib.Omega.{arith}
-use Rattle.listing.specs.Listing.{refused_word, listing_of}
+use Rattle.system.specs.declared.Refusal.{Refusal}
+use Rattle.system.specs.declared.Refusal.TheVariants.{Input, State}
+use Rattle.system.specs.Outcome.{refusal_of}
+use Rattle.listing.specs.Listing.{refused_word, refusal_line, listing_of}
 use Rattle.listing.proofs.Laws.{line-parts}
 use Rattle.listing_code.proofs.put_refusal.Goals as goal
 
-pub returns-in-Input : goal.returns-in-Input
+number-listed : (why : Refusal) (n : ℕ) → (why ≡ Input n) ⊎ (why ≡ State n) → listing_of (refusal_of why) 0 0 [] ≡ refusal_line n
 unfolding listing_of
-returns-in-Input c =
-    let line = c in
-    (rw line.in-Input.is (rw (line-parts refused_word _) at line.put_entry.ensures.0), omega arith)
+number-listed why n (inl is) = rw is
+number-listed why n (inr is) = rw is
 
-pub returns-in-State : goal.returns-in-State
-unfolding listing_of
-returns-in-State c =
-    let line = c in
-    (rw line.in-State.is (rw (line-parts refused_word _) at line.put_entry-in-State.ensures.0), omega arith)
+pub returns : goal.returns
+returns c = (rw (number-listed c.args.why c.in-Input.n c.in-Input.is) (rw (line-parts refused_word _) at c.put_entry.ensures.0), omega arith)

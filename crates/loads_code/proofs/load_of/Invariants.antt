@@ -1,5 +1,5 @@
 -- The loop's invariant: the counts made, followed by the load of the rest of the column over the types left, are the load.
-use Prim.Native.Nat.{◌-◌, ◌≤◌}
+use Prim.Native.Nat.{◌≤◌}
 use mathlib.Core.Path.{◌≡◌}
 use mathlib.Core.List.{◌++◌}
 use lib.ListN.{length, take, drop}
@@ -9,7 +9,7 @@ use Rattle.loads.proofs.Steps.{ceilings}
 use Rattle.loads_code.proofs.load_of.Given as goal
 
 abbrev pub invariant-loop-i : goal.invariant-loop-i
-invariant-loop-i l = (l.i ≤ type_limit) × (length l.counts ≡ type_limit) × (take l.i l.counts ++ load_of (ceilings (drop l.i l.types)) l.rest ≡ load_of (ceilings l.types) l.column)
-
-abbrev pub decreases-loop-i : goal.decreases-loop-i
-decreases-loop-i l = type_limit - l.i
+invariant-loop-i l =
+    (l.i ≤ type_limit)
+    × (length l.counts ≡ type_limit)
+    × (take l.i l.counts ++ load_of (ceilings (drop l.i l.fn.y.types)) l.rest ≡ load_of (ceilings l.fn.y.types) l.column)

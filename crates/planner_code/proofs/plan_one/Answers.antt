@@ -1,54 +1,59 @@
 -- `planner_code::plan_one`. Each way out is the one that the plan is defined to take there (the laws of Exits), from what the callees ensure of the file, of what is lent and of the placement;
 -- a plan that is the one defined keeps the demands.
+use Rattle.std.proofs.Common.{Ok, Err, Option}
 use mathlib.Core.Path.{◌≡◌, sym, ap, ◌∙◌}
 use mathlib.Core.Bool.{true}
 use mathlib.Core.List.{List}
 use Prim.Native.Nat.{ℕ}
+use borrow.Author.Rules.{rules}
 use borrow.Author.Tests.{not-true, not-false}
-use Rattle.system.specs.declared.Answer.TheVariants.{Accepted}
 use Rattle.system.specs.declared.Opened.{Opened}
 use Rattle.system.specs.Values.{ceilings_of}
 use Rattle.system.specs.Limits.{keeps_limits}
 use Rattle.system.specs.Layout.{opened, read_file, Reads}
 use Rattle.system.specs.Outcome.{checked_of}
-use Rattle.system.proofs.Laws.{limits_of, read-keeps-limits, reads-opened}
+use Rattle.system.proofs.Laws.{limits_of, read-keeps-limits}
 use Rattle.loads.proofs.Order.{within-refl}
 use Rattle.partition.specs.Assignment.{numbers_from}
 use Rattle.partition.specs.Lent.{lent}
 use Rattle.table.proofs.Placed.{may-place-on-all}
+use Rattle.table.proofs.Reading.{ok-opens}
 use Rattle.planner.proofs.Exits.{unread-plans, lent-plans, none-plans, placed-plans}
 use Rattle.planner.proofs.Cases.{lent-passed}
 use Rattle.planner.proofs.Demands.{promises-of}
 use Rattle.planner_code.proofs.plan_one.Goals as goal
 
-pub returns-in_default : goal.returns-in_default
-returns-in_default c =
+pub returns-in_err-read : goal.returns-in_err-read
+returns-in_err-read c =
     let r = c.read_system-read in
-    promises-of c.args.file.now _ _ _ _ (rw c.refused_plan.ensures
-    (unread-plans (read_file c.args.file.now) r.result r.ensures (lent c.args.rows.now c.args.predecessors.now) c.args.room c.in_default.not-Accepted))
+    let file = c.args.file.now in
+    let told : c.from_residual.result ≡ Err c.in_err-read.field-0.0 = search rules in
+    rw told (promises-of file _ _ _ _ (unread-plans (read_file file) r.result r.ensures (lent c.args.rows.now c.args.predecessors.now) c.args.room _ c.in_err-read.was))
 
 -- the file reads as the system, which keeps the limits
-module _ (file : List ℕ) (r : Opened) (reads : Reads (read_file file) r) (is-accepted : r.answer ≡ Accepted) where
+module _ (file : List ℕ) (r : Opened) (reads : Reads (read_file file) r) {v : Option ℕ} (is-accepted : r.answer ≡ Ok v) where
   is-opened : read_file file ≡ opened r.system
-  is-opened = reads-opened (read_file file) r reads is-accepted
+  is-opened = ok-opens (read_file file) r reads is-accepted
 
   keeps : keeps_limits r.system ≡ true
   keeps = read-keeps-limits file r.system is-opened
 
-pub lent_check-check-requires : goal.lent_check-check-requires
-lent_check-check-requires c = (limits_of _ (keeps c.args.file.now c.read_system-read.result c.read_system-read.ensures c.in-Accepted.is)).columns
+pub lent_check-requires : goal.lent_check-requires
+lent_check-requires c = (limits_of _ (keeps c.args.file.now c.read_system-read.result c.read_system-read.ensures c.in_ok-read.was)).columns
 
 -- 11 or 15
-pub returns-in-Fails : goal.returns-in-Fails
-returns-in-Fails c =
+pub returns-in_err-lent_check : goal.returns-in_err-lent_check
+returns-in_err-lent_check c =
     let file = c.args.file.now in
     let r = c.read_system-read in
-    promises-of file _ _ _ _ (rw c.refused_plan-in-Fails.ensures
-    (lent-plans (read_file file) r.result.system (is-opened file r.result r.ensures c.in-Accepted.is) (lent c.args.rows.now c.args.predecessors.now) c.args.room c.in-Fails.why
-    (ap checked_of (sym c.in-Fails.is) ∙ c.lent_check-check.ensures)))
+    let told : c.from_residual-in_err-lent_check.result ≡ Err c.in_err-lent_check.field-0.0 = search rules in
+    rw told
+    (promises-of file _ _ _ _
+    (lent-plans (read_file file) r.result.system (is-opened file r.result r.ensures c.in_ok-read.was) (lent c.args.rows.now c.args.predecessors.now) c.args.room _
+    (ap checked_of (sym c.in_err-lent_check.was) ∙ c.lent_check.ensures)))
 
 pub engines_to-engines-requires : goal.engines_to-engines-requires
-engines_to-engines-requires c = (limits_of _ (keeps c.args.file.now c.read_system-read.result c.read_system-read.ensures c.in-Accepted.is)).engines
+engines_to-engines-requires c = (limits_of _ (keeps c.args.file.now c.read_system-read.result c.read_system-read.ensures c.in_ok-read.was)).engines
 
 pub place-placement-requires : goal.place-placement-requires
 place-placement-requires c =
@@ -56,8 +61,8 @@ place-placement-requires c =
     let y = r.result.system in
     let parts = lent c.args.rows.now c.args.predecessors.now in
     let engines = c.engines_to-engines.ensures in
-    let passed = ap checked_of (sym c.in_default-check.is) ∙ c.lent_check-check.ensures in
-    may-place-on-all y _ _ parts (keeps c.args.file.now r.result r.ensures c.in-Accepted.is) engines.0 engines.1 (lent-passed y parts c.args.room passed).0
+    let passed = ap checked_of (sym c.in_ok-lent_check.was) ∙ c.lent_check.ensures in
+    may-place-on-all y _ _ parts (keeps c.args.file.now r.result r.ensures c.in_ok-read.was) engines.0 engines.1 (lent-passed y parts c.args.room passed).0
     (rw c.ceilings_of.ensures (within-refl (ceilings_of y)))
 
 -- all instances are placed: what the table and the placement are
@@ -66,12 +71,12 @@ returns-then-not-placement c =
     let file = c.args.file.now in
     let r = c.read_system-read in
     let parts = lent c.args.rows.now c.args.predecessors.now in
-    let passed = ap checked_of (sym c.in_default-check.is) ∙ c.lent_check-check.ensures in
+    let passed = ap checked_of (sym c.in_ok-lent_check.was) ∙ c.lent_check.ensures in
     let p = c.place-placement in
     let table_is = rw c.engines_to-engines.ensures.1 at p.ensures.0 in
     let placement-is = rw (c.engines_to-engines.ensures.1, c.ceilings_of.ensures) at p.ensures.1 in
-    promises-of file _ _ _ _ (rw (c.refused_plan-then-not-placement.ensures, table_is)
-    (none-plans (read_file file) r.result.system (is-opened file r.result r.ensures c.in-Accepted.is) parts c.args.room passed _ placement-is (not-true _ c.if-not-placement.true)))
+    promises-of file _ _ _ _ (rw table_is
+    (none-plans (read_file file) r.result.system (is-opened file r.result r.ensures c.in_ok-read.was) parts c.args.room passed _ placement-is (not-true _ c.if-not-placement.true)))
 
 pub returns : goal.returns
 unfolding numbers_from
@@ -79,9 +84,9 @@ returns c =
     let file = c.args.file.now in
     let r = c.read_system-read in
     let parts = lent c.args.rows.now c.args.predecessors.now in
-    let passed = ap checked_of (sym c.in_default-check.is) ∙ c.lent_check-check.ensures in
+    let passed = ap checked_of (sym c.in_ok-lent_check.was) ∙ c.lent_check.ensures in
     let p = c.place-placement in
     let table_is = rw c.engines_to-engines.ensures.1 at p.ensures.0 in
     let placement-is = rw (c.engines_to-engines.ensures.1, c.ceilings_of.ensures) at p.ensures.1 in
     promises-of file _ _ _ _ (rw table_is
-    (placed-plans (read_file file) r.result.system (is-opened file r.result r.ensures c.in-Accepted.is) parts c.args.room passed _ placement-is (not-false _ c.if-not-placement.false)))
+    (placed-plans (read_file file) r.result.system (is-opened file r.result r.ensures c.in_ok-read.was) parts c.args.room passed _ placement-is (not-false _ c.if-not-placement.false)))

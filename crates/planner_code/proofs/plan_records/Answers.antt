@@ -5,5 +5,5 @@ use Rattle.planner_code.proofs.plan_records.Goals as goal
 
 pub returns : goal.returns
 returns c =
-    let p = c.plan_for-plan.ensures.whole in
-    record { answer = p.answers; used = p.uses; records = c.records_of-records.ensures ∙ ap₂ records_with p.numbers p.places; left = p.leaves_table }
+    let p = rw (← c.plan_from-plan.ensures) at c.plan_for.ensures.whole in
+    record { answer = p.answers; used = p.uses; records = c.records_of.ensures ∙ ap₂ records_with p.numbers p.places; left = p.leaves_table }

@@ -1,17 +1,15 @@
 -- Each answer is that of the definition: a file that was refused, a part too short, both parts filled for the first of two kinds, and both parts filled.
+use Rattle.std.proofs.Common.{Option, None, Some, Err}
 use Prim.Native.Nat.{◌≤◌}
 use mathlib.Core.Path.{◌≡◌, refl, sym, ap, subst, ◌∙◌}
 use native.Mathlib.Nat.{le_refl}
 use borrow.Author.Rules.{rules}
-use Rattle.system.specs.declared.Answer.TheVariants.{Accepted}
 use lib.ListN.{length}
 use Rattle.system.specs.declared.Kind.{Kind}
-use Rattle.system.specs.declared.Second.{Second}
-use Rattle.system.specs.declared.Second.TheVariants.{OneKind, TwoKinds}
 use Rattle.system.specs.declared.System.{System}
 use Rattle.system.specs.Limits.{columns}
 use Rattle.system.specs.Layout.{read_card}
-use Rattle.system.specs.Outcome.{from_input, passes, checked_of}
+use Rattle.system.specs.Outcome.{from_input, outcome_of, passes, checked_of}
 use Rattle.system.proofs.Checks.{check-passed}
 use Rattle.system.proofs.Laws.{card-of, card-limits, limits-keep}
 use Rattle.system.proofs.CardLaws.{first-columns, first-keeps}
@@ -21,32 +19,32 @@ use Rattle.table.proofs.Meaning.{file-fills}
 use Rattle.table.proofs.Reading.{read-card, parts-room, fill-refused, fill-short, fill_done, fill-two}
 use Rattle.table_code.proofs.fill_table.Goals as goal
 
-pub returns-in_default : goal.returns-in_default
-returns-in_default c =
+pub returns-in_err-opened : goal.returns-in_err-opened
+returns-in_err-opened c =
     let r = c.read_card-opened in
     let parts = lent c.args.rows.now c.args.predecessors.now in
-    file-fills c.args.file.now _ parts _ (fill-refused (read_card c.args.file.now) r.result r.ensures parts c.in_default.not-Accepted)
+    let told : c.from_residual.result ≡ Err c.in_err-opened.field-0.0 = search rules in
+    let both = fill-refused (read_card c.args.file.now) r.result r.ensures parts c.in_err-opened.was in
+    file-fills c.args.file.now _ parts _ (ap outcome_of told ∙ both.0, both.1)
 
 -- the file opened, and its card keeps the limits
-pub table_check-check-requires : goal.table_check-check-requires
-table_check-check-requires c =
+pub table_check-requires : goal.table_check-requires
+table_check-requires c =
     let r = c.read_card-opened in
-    let accepted : r.result.answer ≡ Accepted = search rules in
-    (card-of _ (read-card c.args.file.now r.result r.ensures accepted)).columns
+    (card-of _ (read-card c.args.file.now r.result r.ensures c.in_ok-opened.was)).columns
 
-pub returns-in-Fails : goal.returns-in-Fails
-returns-in-Fails c =
+pub returns-in_err-table_check : goal.returns-in_err-table_check
+returns-in_err-table_check c =
     let r = c.read_card-opened in
     let parts = lent c.args.rows.now c.args.predecessors.now in
-    let accepted : r.result.answer ≡ Accepted = search rules in
-    file-fills c.args.file.now _ parts _
-    (fill-short (read_card c.args.file.now) r.result r.ensures parts accepted c.in-Fails.why
-    (ap checked_of (sym c.in-Fails.is) ∙ c.table_check-check.ensures))
+    let told : c.from_residual-in_err-table_check.result ≡ Err c.in_err-table_check.field-0.0 = search rules in
+    let both = fill-short (read_card c.args.file.now) r.result r.ensures parts c.in_ok-opened.was _ (ap checked_of (sym c.in_err-table_check.was) ∙ c.table_check.ensures) in
+    file-fills c.args.file.now _ parts _ (ap outcome_of told ∙ both.0, both.1)
 
 -- where there is not one kind, there are two
-other-kind : (s : Second) → (s ≡ OneKind → ⊥) → (k : Kind) × (s ≡ TwoKinds k)
-other-kind OneKind e = absurd (e refl)
-other-kind (TwoKinds k) e = (k, refl)
+other-kind : (s : Option Kind) → (s ≡ None → ⊥) → (k : Kind) × (s ≡ Some k)
+other-kind None e = absurd (e refl)
+other-kind (Some k) e = (k, refl)
 
 -- the check passed, so that both parts have an entry for each column
 has-room : (y : System) (table : Lent) → passes ≡ table_check y table → (columns y ≤ length table.rows) × (columns y ≤ length table.predecessors)
@@ -56,22 +54,20 @@ pub fill_parts-requires : goal.fill_parts-requires
 fill_parts-requires c =
     let r = c.read_card-opened in
     let y = r.result.system in
-    let accepted : r.result.answer ≡ Accepted = search rules in
-    let room = has-room y (lent c.args.rows.now c.args.predecessors.now) (ap checked_of (sym c.in_default-check.is) ∙ c.table_check-check.ensures) in
-    let (k, two) = other-kind y.second c.in_default-second.not-OneKind in
+    let room = has-room y (lent c.args.rows.now c.args.predecessors.now) (ap checked_of (sym c.in_ok-table_check.was) ∙ c.table_check.ensures) in
+    let (k, two) = other-kind y.second c.in_default.not-None in
     rw (c.first_kind.ensures, first-columns y)
-    (first-keeps y k (read-card c.args.file.now r.result r.ensures accepted) two, le_refl y.engines, room.0, room.1)
+    (first-keeps y k (read-card c.args.file.now r.result r.ensures c.in_ok-opened.was) two, le_refl y.engines, room.0, room.1)
 
-pub returns-in_default-second : goal.returns-in_default-second
-returns-in_default-second c =
+pub returns-in_default : goal.returns-in_default
+returns-in_default c =
     let r = c.read_card-opened in
     let parts = lent c.args.rows.now c.args.predecessors.now in
     let done = c.fill_parts in
-    let accepted : r.result.answer ≡ Accepted = search rules in
-    let (k, two) = other-kind r.result.system.second c.in_default-second.not-OneKind in
+    let (k, two) = other-kind r.result.system.second c.in_default.not-None in
     let left : lent done.new.rows done.new.predecessors ≡ filled_to c.first_kind.result r.result.system.engines parts = λ i. lent (done.ensures.0 i) (done.ensures.1 i) in
     file-fills c.args.file.now _ parts _
-    (fill-two (read_card c.args.file.now) r.result r.ensures parts accepted k two (ap checked_of (sym c.in_default-check.is) ∙ c.table_check-check.ensures)
+    (fill-two (read_card c.args.file.now) r.result r.ensures parts c.in_ok-opened.was k two (ap checked_of (sym c.in_ok-table_check.was) ∙ c.table_check.ensures)
     (lent done.new.rows done.new.predecessors)
     (subst (λ (z : System). lent done.new.rows done.new.predecessors ≡ filled_to z r.result.system.engines parts) c.first_kind.ensures left))
 
@@ -80,20 +76,18 @@ pub fill_parts-requires-2 : goal.fill_parts-requires-2
 fill_parts-requires-2 c =
     let r = c.read_card-opened in
     let y = r.result.system in
-    let accepted : r.result.answer ≡ Accepted = search rules in
-    let one : y.second ≡ OneKind = search rules in
-    let room = has-room y (lent c.args.rows.now c.args.predecessors.now) (ap checked_of (sym c.in_default-check.is) ∙ c.table_check-check.ensures) in
-    (limits-keep y (card-limits y (card-of y (read-card c.args.file.now r.result r.ensures accepted)) one), le_refl y.engines, room.0, room.1)
+    let one : y.second ≡ None = search rules in
+    let room = has-room y (lent c.args.rows.now c.args.predecessors.now) (ap checked_of (sym c.in_ok-table_check.was) ∙ c.table_check.ensures) in
+    (limits-keep y (card-limits y (card-of y (read-card c.args.file.now r.result r.ensures c.in_ok-opened.was)) one), le_refl y.engines, room.0, room.1)
 
 pub returns : goal.returns
 returns c =
     let r = c.read_card-opened in
     let parts = lent c.args.rows.now c.args.predecessors.now in
     let done = c.fill_parts-2 in
-    let accepted : r.result.answer ≡ Accepted = search rules in
-    let one : r.result.system.second ≡ OneKind = search rules in
+    let one : r.result.system.second ≡ None = search rules in
     file-fills c.args.file.now _ parts _
-    (fill_done (read_card c.args.file.now) r.result r.ensures parts accepted one (ap checked_of (sym c.in_default-check.is) ∙ c.table_check-check.ensures)
+    (fill_done (read_card c.args.file.now) r.result r.ensures parts c.in_ok-opened.was one (ap checked_of (sym c.in_ok-table_check.was) ∙ c.table_check.ensures)
     (lent done.new.rows done.new.predecessors)
     (λ i. lent (done.ensures.0 i) (done.ensures.1 i))
     done.result

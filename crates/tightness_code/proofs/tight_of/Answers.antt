@@ -8,4 +8,4 @@ use Rattle.tightness_code.proofs.tight_of.Goals as goal
 pub returns : goal.returns
 returns c =
     let whole = length-replicate {A = ℕ} 8192 0 in
-    tight-promised (omega (arith, whole)) c.count_assignments-answer.ensures c.write_answer.ensures
+    tight-promised (omega (arith, whole)) c.count_assignments.ensures c.write_answer.ensures

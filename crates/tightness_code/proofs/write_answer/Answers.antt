@@ -1,8 +1,8 @@
 -- `write_answer`: the line of each kind of answer.
 use Rattle.tightness_code.proofs.write_answer.Goals as goal
 
-pub returns-in-Counted : goal.returns-in-Counted
-returns-in-Counted c = rw c.in-Counted.is c.write_counts.ensures
+pub returns-in-Ok : goal.returns-in-Ok
+returns-in-Ok c = rw c.in-Ok.is c.write_counts.ensures
 
-pub returns-in-Refused : goal.returns-in-Refused
-returns-in-Refused c = rw c.in-Refused.is c.write_refusal.ensures.written
+pub returns-in-Err : goal.returns-in-Err
+returns-in-Err c = rw c.in-Err.is c.write_refusal.ensures.written

@@ -12,16 +12,16 @@ pub put_report-requires : goal.put_report-requires
 put_report-requires c =
     let over = c in
     let a = over.args in
-    let within = ran-within a.y a.counts a.ticks c.in-Ran.report.idle _ (sym over.run_over-answer.ensures ∙ ap run_outcome_of c.in-Ran.is) in
+    let within = ran-within a.y a.counts a.ticks c.in-Ok.report.idle _ (sym over.run_over.ensures ∙ ap run_outcome_of c.in-Ok.is) in
     (within.0, within.1, search rules)
 
-pub returns-in-Refused : goal.returns-in-Refused
-returns-in-Refused c =
+pub returns-in-Err : goal.returns-in-Err
+returns-in-Err c =
     let over = c in
     let a = over.args in
-    rw (sym over.run_over-answer.ensures ∙ ap run_outcome_of c.in-Refused.is, refused-line (jobs_of a.y.types a.counts) a.counts a.ticks a.from c.in-Refused.why) (written (omega (arith, c.put_refusal.ensures.1)) c.put_refusal.auto.out c.put_refusal.ensures.0)
+    rw (sym over.run_over.ensures ∙ ap run_outcome_of c.in-Err.is, refused-line (jobs_of a.y.types a.counts) a.counts a.ticks a.from c.in-Err.why) (written (omega (arith, c.put_refusal.ensures.1)) c.put_refusal.auto.out c.put_refusal.ensures.0)
 
-pub returns-in-Ran : goal.returns-in-Ran
-returns-in-Ran c =
+pub returns-in-Ok : goal.returns-in-Ok
+returns-in-Ok c =
     let over = c in
-    rw (sym over.run_over-answer.ensures ∙ ap run_outcome_of c.in-Ran.is) (written (omega (arith, c.put_report.ensures.1)) c.put_report.auto.out c.put_report.ensures.0)
+    rw (sym over.run_over.ensures ∙ ap run_outcome_of c.in-Ok.is) (written (omega (arith, c.put_report.ensures.1)) c.put_report.auto.out c.put_report.ensures.0)

@@ -29,10 +29,6 @@ pub returns-then-engine-y : goal.returns-then-engine-y
 unfolding engine_with
 returns-then-engine-y c = rw c.if-engine-y.true c.write_counts.ensures
 
--- UNMATCHED slice-aggregate-put-bytes
--- slice-aggregate-put-bytes : tie.Need-slice-aggregate-put-bytes
--- slice-aggregate-put-bytes c = search rules
-
 pub returns : goal.returns
 unfolding engine_with
 returns c = rw c.if-engine-y.false (written (omega (arith, c.put_bytes.ensures.next)) c.put_bytes.auto.out c.put_bytes.ensures)

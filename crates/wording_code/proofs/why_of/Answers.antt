@@ -8,4 +8,4 @@ use Rattle.wording_code.proofs.why_of.Goals as goal
 pub returns : goal.returns
 returns c =
     let whole = length-replicate {A = ℕ} 4096 0 in
-    why-promised (omega (arith, whole), omega (arith, whole)) c.why_no_plan-answer.ensures c.write_answer.ensures
+    why-promised (omega (arith, whole), omega (arith, whole)) c.why_no_plan.ensures c.write_answer.ensures

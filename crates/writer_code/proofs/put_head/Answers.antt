@@ -9,15 +9,15 @@ use Rattle.writer_code.proofs.put_head.Goals as goal
 pub returns-in_default : goal.returns-in_default
 returns-in_default c =
     let args = c.args in
-    let found = c.rule_of-found.ensures in
+    let found = c.rule_of.ensures in
     rw (← found, c.in_default.is) (puts_none args.at args.out.now)
 
 pub overflow_cast-rule : goal.overflow_cast-rule
 overflow_cast-rule c =
-    let short = body-short c.args.tag c.rule_of-found.ensures c.in-Known.is in
+    let short = body-short c.args.tag c.rule_of.ensures c.in-Some.is in
     record { fits = short }
 
 pub returns : goal.returns
 returns c =
     let room : c.args.at ≤ length c.args.out.now = omega (arith, c.requires) in
-    rw (← c.rule_of-found.ensures, c.in-Known.is) (puts_then room c.put_byte-next.ensures c.put_two.ensures)
+    rw (← c.rule_of.ensures, c.in-Some.is) (puts_then room c.put_byte-next.ensures c.put_two.ensures)

@@ -15,12 +15,12 @@ returns-in_default c =
 
 pub put_head-headed-requires : goal.put_head-headed-requires
 put_head-headed-requires c =
-    omega (arith, c.requires, pace-some c.args.pace c.in-Paced.is)
+    omega (arith, c.requires, pace-some c.args.pace c.in-Some.is)
 
 pub put_four-run-requires : goal.put_four-run-requires
 unfolding rule_of
 put_four-run-requires c =
-    omega (arith, c.requires, pace-some c.args.pace c.in-Paced.is, c.put_head-headed.ensures.next, c.put_head-headed.auto.out)
+    omega (arith, c.requires, pace-some c.args.pace c.in-Some.is, c.put_head-headed.ensures.next, c.put_head-headed.auto.out)
 
 pub put_four-requires : goal.put_four-requires
 unfolding rule_of
@@ -28,7 +28,7 @@ put_four-requires c =
     omega (
       arith,
       c.requires,
-      pace-some c.args.pace c.in-Paced.is,
+      pace-some c.args.pace c.in-Some.is,
       c.put_head-headed.ensures.next,
       c.put_head-headed.auto.out,
       c.put_four-run.ensures.next,
@@ -39,4 +39,4 @@ pub returns : goal.returns
 unfolding field_bytes rule_of
 returns c =
     let room : c.args.at ≤ length c.args.out.now = omega (arith, c.requires) in
-    rw c.in-Paced.is (puts_then room (puts_then room c.put_head-headed.ensures c.put_four-run.ensures) c.put_four.ensures)
+    rw c.in-Some.is (puts_then room (puts_then room c.put_head-headed.ensures c.put_four-run.ensures) c.put_four.ensures)

@@ -15,16 +15,16 @@ returns-in_default c =
 
 pub put_head-headed-requires : goal.put_head-headed-requires
 put_head-headed-requires c =
-    omega (arith, c.requires.1, second-some c.args.second c.in-TwoKinds.is)
+    omega (arith, c.requires.1, second-some c.args.second c.in-Some.is)
 
 pub overflow_cast-k : goal.overflow_cast-k
 overflow_cast-k c =
-    record { fits = omega (arith, c.requires.0 _ c.in-TwoKinds.is) }
+    record { fits = omega (arith, c.requires.0 _ c.in-Some.is) }
 
 pub put_byte-counted-requires : goal.put_byte-counted-requires
 unfolding rule_of
 put_byte-counted-requires c =
-    omega (arith, c.requires.1, second-some c.args.second c.in-TwoKinds.is, c.put_head-headed.ensures.next, c.put_head-headed.auto.out)
+    omega (arith, c.requires.1, second-some c.args.second c.in-Some.is, c.put_head-headed.ensures.next, c.put_head-headed.auto.out)
 
 pub put_four-timed-requires : goal.put_four-timed-requires
 unfolding rule_of
@@ -32,7 +32,7 @@ put_four-timed-requires c =
     omega (
       arith,
       c.requires.1,
-      second-some c.args.second c.in-TwoKinds.is,
+      second-some c.args.second c.in-Some.is,
       c.put_head-headed.ensures.next,
       c.put_head-headed.auto.out,
       c.put_byte-counted.ensures.next,
@@ -45,7 +45,7 @@ put_four-requires c =
     omega (
       arith,
       c.requires.1,
-      second-some c.args.second c.in-TwoKinds.is,
+      second-some c.args.second c.in-Some.is,
       c.put_head-headed.ensures.next,
       c.put_head-headed.auto.out,
       c.put_byte-counted.ensures.next,
@@ -59,4 +59,4 @@ unfolding field_bytes rule_of
 returns c =
     let room : c.args.at ≤ length c.args.out.now = omega (arith, c.requires.1) in
     let first = puts_then room c.put_head-headed.ensures c.put_byte-counted.ensures in
-    rw c.in-TwoKinds.is (puts_then room (puts_then room first c.put_four-timed.ensures) c.put_four.ensures)
+    rw c.in-Some.is (puts_then room (puts_then room first c.put_four-timed.ensures) c.put_four.ensures)

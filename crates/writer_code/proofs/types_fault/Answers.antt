@@ -1,34 +1,38 @@
 -- `types_fault`: the first type at fault decides; past the last there is none.
-use Prim.Native.Nat.{◌<◌}
-use mathlib.Core.Path.{sym}
+use Prim.Native.Nat.{ℕ}
 use native.Mathlib.Omega.{arith}
 use borrow.Author.Rules.{rules}
+use mathlib.Core.Path.{◌≡◌, refl, ap, ◌∙◌}
 use lib.ListN.{length}
 use Rattle.system.specs.Values.{no_task}
-use Rattle.writer.specs.Writing.{task_fault, types_fault}
-use Rattle.writer.proofs.Faults.{types-first}
-use Rattle.writer_code.proofs.Steps.{first-faulty, first_on, first-end}
+use Rattle.system.specs.Limits.{type_limit}
+use Rattle.system.specs.Outcome.{within}
+use Rattle.system.proofs.Within.{handed_on, item_refused, item_passed, items_passed}
+use Rattle.writer.specs.Writing.{task_fault}
+use Rattle.writer_code.proofs.Steps.{types-listed}
 use Rattle.writer_code.proofs.types_fault.Goals as goal
 
-pub loop-i-init : goal.loop-i-init
-loop-i-init c = (search rules, search rules, sym (types-first c.args.types))
+pub loop-t-init : goal.loop-t-init
+loop-t-init c = refl
 
-pub returns-then-fault-ne0 : goal.returns-then-fault-ne0
-returns-then-fault-ne0 c =
-    let l = c.loop-i in
+pub returns-in_err-task_fault : goal.returns-in_err-task_fault
+returns-in_err-task_fault c =
     let ts = c.args.types in
-    let inside : l.i < length ts = omega (arith, l.invariant.0) in
-    first-faulty task_fault ts l.i no_task c.task_fault-fault.result (types_fault ts) inside c.task_fault-fault.ensures c.if-fault-ne0.true l.invariant.2
+    let l = c.loop-t in
+    let six : length ts ≡ type_limit = search rules in
+    handed_on _ c.from_residual.ensures.1
+    (item_refused task_fault ts l.t-index l.invariant no_task _ (omega arith) c.in_err-task_fault.ensures ∙ ap (λ (n : ℕ). within n) (types-listed ts))
 
-pub loop-i-preserved : goal.loop-i-preserved
-loop-i-preserved c =
-    let l = c.loop-i in
+pub loop-t-preserved : goal.loop-t-preserved
+loop-t-preserved c =
     let ts = c.args.types in
-    let inside : l.i < length ts = omega (arith, l.invariant.0) in
-    (l.invariant.0, search rules, first_on task_fault ts l.i no_task c.task_fault-fault.result (types_fault ts) inside c.task_fault-fault.ensures c.if-fault-ne0.false l.invariant.2)
+    let l = c.loop-t in
+    let six : length ts ≡ type_limit = search rules in
+    item_passed task_fault ts l.t-index l.invariant no_task (omega arith) c.in_ok-task_fault.ensures
 
 pub returns : goal.returns
 returns c =
-    let l = c.loop-i in
     let ts = c.args.types in
-    first-end task_fault ts l.i (types_fault ts) (omega (arith, l.invariant.0)) l.invariant.2
+    let l = c.loop-t in
+    let six : length ts ≡ type_limit = search rules in
+    items_passed task_fault ts l.t-index l.invariant (omega arith) ∙ ap (λ (n : ℕ). within n) (types-listed ts)

@@ -8,28 +8,28 @@ use Rattle.board.proofs.Exits.{checks-fail, checks-pass, newcomer-passed, newcom
 use Rattle.board.proofs.Promises.{admit-promises}
 use Rattle.board_code.proofs.calls.admit.Goals as goal
 
-pub returns-in-Fails : goal.returns-in-Fails
+pub returns-in-Err : goal.returns-in-Err
 unfolding admit_of
-returns-in-Fails c =
+returns-in-Err c =
     let a = c.args in
     let table = lent a.rows.now a.predecessors.now in
     let p = admit-promises a.b a.t table c.refuse.result table
-    (checks-fail a.b table _ c.refuse.result (check_newcomer a.b a.t (length a.rows.now) (length a.predecessors.now)) c.in-Fails.why
-    (ap checked_of (sym c.in-Fails.is) ∙ c.check_newcomer-check.ensures)
+    (checks-fail a.b table _ c.refuse.result (check_newcomer a.b a.t (length a.rows.now) (length a.predecessors.now)) c.in-Err.why
+    (ap checked_of (sym c.in-Err.is) ∙ c.check_newcomer.ensures)
     c.refuse.ensures.0
     c.refuse.ensures.1) in
     record { does = p.0; admit_promises = p.1 }
 
 pub first_engine-requires : goal.first_engine-requires
 first_engine-requires c =
-    newcomer-passed _ _ (lent c.args.rows.now c.args.predecessors.now) (ap checked_of (sym c.in_default.is) ∙ c.check_newcomer-check.ensures)
+    newcomer-passed _ _ (lent c.args.rows.now c.args.predecessors.now) (ap checked_of (sym c.in_default.is) ∙ c.check_newcomer.ensures)
 
 pub no_engine-requires : goal.no_engine-requires
 no_engine-requires c =
     let a = c.args in
     let table = lent a.rows.now a.predecessors.now in
     let passed : passes ≡ check_newcomer a.b a.t (length a.rows.now) (length a.predecessors.now) =
-    ap checked_of (sym c.in_default.is) ∙ c.check_newcomer-check.ensures in
+    ap checked_of (sym c.in_default.is) ∙ c.check_newcomer.ensures in
     (newcomer-passed a.b a.t table passed, newcomer-long a.b a.t table passed)
 
 pub returns-in_default-first_engine : goal.returns-in_default-first_engine
@@ -41,7 +41,7 @@ returns-in_default-first_engine c =
     let after = lent n.new.rows n.new.predecessors in
     let p = admit-promises a.b a.t table n.result after
     (checks-pass a.b table _ n.result (check_newcomer a.b a.t (length a.rows.now) (length a.predecessors.now)) after
-    (ap checked_of (sym c.in_default.is) ∙ c.check_newcomer-check.ensures)
+    (ap checked_of (sym c.in_default.is) ∙ c.check_newcomer.ensures)
     (admitted-nowhere a.b a.t table (first_engine a.b a.t) n.result after
     (sym c.in_default-first_engine.is ∙ c.first_engine.ensures)
     n.ensures)) in
@@ -50,8 +50,8 @@ returns-in_default-first_engine c =
 pub join-requires : goal.join-requires
 join-requires c =
     let a = c.args in
-    let n = newcomer-passed a.b a.t (lent a.rows.now a.predecessors.now) (ap checked_of (sym c.in_default.is) ∙ c.check_newcomer-check.ensures) in
-    let t = found-takes a.b a.t c.in-Engine.e n.is_true (sym c.in-Engine.is ∙ c.first_engine.ensures) in
+    let n = newcomer-passed a.b a.t (lent a.rows.now a.predecessors.now) (ap checked_of (sym c.in_default.is) ∙ c.check_newcomer.ensures) in
+    let t = found-takes a.b a.t c.in-Some.e n.is_true (sym c.in-Some.is ∙ c.first_engine.ensures) in
     (n, t.0, t.1)
 
 pub returns : goal.returns
@@ -61,9 +61,9 @@ returns c =
     let table = lent a.rows.now a.predecessors.now in
     let p = admit-promises a.b a.t table c.join.result table
     (checks-pass a.b table _ c.join.result (check_newcomer a.b a.t (length a.rows.now) (length a.predecessors.now)) table
-    (ap checked_of (sym c.in_default.is) ∙ c.check_newcomer-check.ensures)
-    (admitted-joins a.b a.t table (first_engine a.b a.t) c.join.result c.in-Engine.e
-    (sym c.in-Engine.is ∙ c.first_engine.ensures)
+    (ap checked_of (sym c.in_default.is) ∙ c.check_newcomer.ensures)
+    (admitted-joins a.b a.t table (first_engine a.b a.t) c.join.result c.in-Some.e
+    (sym c.in-Some.is ∙ c.first_engine.ensures)
     c.join.ensures.0
     c.join.ensures.1)) in
     record { does = p.0; admit_promises = p.1 }

@@ -14,28 +14,28 @@ use Rattle.board.proofs.Exits.{checks-fail, checks-pass, newcomer-passed, newcom
 use Rattle.board.proofs.Promises.{seat-promises}
 use Rattle.board_code.proofs.calls.seat.Goals as goal
 
-pub returns-in-Fails : goal.returns-in-Fails
+pub returns-in-Err : goal.returns-in-Err
 unfolding seat_of
-returns-in-Fails c =
+returns-in-Err c =
     let a = c.args in
     let table = lent a.rows.now a.predecessors.now in
     let p = seat-promises a.b a.t table c.refuse.result table
-    (checks-fail a.b table _ c.refuse.result (check_newcomer a.b a.t (length a.rows.now) (length a.predecessors.now)) c.in-Fails.why
-    (ap checked_of (sym c.in-Fails.is) ∙ c.check_newcomer-check.ensures)
+    (checks-fail a.b table _ c.refuse.result (check_newcomer a.b a.t (length a.rows.now) (length a.predecessors.now)) c.in-Err.why
+    (ap checked_of (sym c.in-Err.is) ∙ c.check_newcomer.ensures)
     c.refuse.ensures.0
     c.refuse.ensures.1) in
     record { does = p.0; seat_promises = p.1 }
 
 pub with_newcomer-counts-requires : goal.with_newcomer-counts-requires
 with_newcomer-counts-requires c =
-    newcomer-passed _ _ (lent c.args.rows.now c.args.predecessors.now) (ap checked_of (sym c.in_default.is) ∙ c.check_newcomer-check.ensures)
+    newcomer-passed _ _ (lent c.args.rows.now c.args.predecessors.now) (ap checked_of (sym c.in_default.is) ∙ c.check_newcomer.ensures)
 
 pub reseat-requires : goal.reseat-requires
 reseat-requires c =
     let a = c.args in
     let table = lent a.rows.now a.predecessors.now in
     let passed : passes ≡ check_newcomer a.b a.t (length a.rows.now) (length a.predecessors.now) =
-    ap checked_of (sym c.in_default.is) ∙ c.check_newcomer-check.ensures in
+    ap checked_of (sym c.in_default.is) ∙ c.check_newcomer.ensures in
     let n = newcomer-passed a.b a.t table passed in (
       n.is_true,
       newcomer-long a.b a.t table passed,
@@ -51,6 +51,6 @@ returns c =
     let after = lent r.new.rows r.new.predecessors in
     let p = seat-promises a.b a.t table r.result after
     (checks-pass a.b table _ r.result (check_newcomer a.b a.t (length a.rows.now) (length a.predecessors.now)) after
-    (ap checked_of (sym c.in_default.is) ∙ c.check_newcomer-check.ensures)
+    (ap checked_of (sym c.in_default.is) ∙ c.check_newcomer.ensures)
     (subst (λ (x : List ℕ). Does (reseated a.b x table) r.result after) c.with_newcomer-counts.ensures r.ensures)) in
     record { does = p.0; seat_promises = p.1 }

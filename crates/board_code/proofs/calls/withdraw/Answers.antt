@@ -9,20 +9,20 @@ use Rattle.board.proofs.Exits.{checks-fail, checks-pass, withdraw-passed}
 use Rattle.board.proofs.Promises.{withdraw-promises}
 use Rattle.board_code.proofs.calls.withdraw.Goals as goal
 
-pub returns-in-Fails : goal.returns-in-Fails
+pub returns-in-Err : goal.returns-in-Err
 unfolding withdraw_of
-returns-in-Fails c =
+returns-in-Err c =
     let a = c.args in
     let p = withdraw-promises a.b a.e c.refuse.result
-    (checks-fail a.b (lent [] []) _ c.refuse.result (check_withdraw a.b a.e) c.in-Fails.why
-    (ap checked_of (sym c.in-Fails.is) ∙ c.check_withdraw-check.ensures)
+    (checks-fail a.b (lent [] []) _ c.refuse.result (check_withdraw a.b a.e) c.in-Err.why
+    (ap checked_of (sym c.in-Err.is) ∙ c.check_withdraw.ensures)
     c.refuse.ensures.0
     c.refuse.ensures.1) in
     record { does = p.0; withdraw_promises = p.1 }
 
 pub move_engine-requires : goal.move_engine-requires
 move_engine-requires c =
-    let on = withdraw-passed c.args.b c.args.e (ap checked_of (sym c.in_default.is) ∙ c.check_withdraw-check.ensures) in
+    let on = withdraw-passed c.args.b c.args.e (ap checked_of (sym c.in_default.is) ∙ c.check_withdraw.ensures) in
     engine-in _ on.is_true _ on.known
 
 pub returns : goal.returns
@@ -31,6 +31,6 @@ returns c =
     let a = c.args in
     let p = withdraw-promises a.b a.e c.move_engine.result
     (checks-pass a.b (lent [] []) _ c.move_engine.result (check_withdraw a.b a.e) (lent [] [])
-    (ap checked_of (sym c.in_default.is) ∙ c.check_withdraw-check.ensures)
+    (ap checked_of (sym c.in_default.is) ∙ c.check_withdraw.ensures)
     (record { answer = ap outcome_of c.move_engine.ensures.0; board = c.move_engine.ensures.1; table = refl })) in
     record { does = p.0; withdraw_promises = p.1 }

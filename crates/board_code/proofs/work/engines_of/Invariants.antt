@@ -8,7 +8,7 @@ use Rattle.board.proofs.Steps.{free}
 use Rattle.board_code.proofs.work.engines_of.Given as goal
 
 abbrev pub invariant-loop-i : goal.invariant-loop-i
-invariant-loop-i l = (l.i ≤ l.i-end) × (l.i-end ≤ engine_limit) × (l.count ≤ l.i) × (length l.numbers ≡ engine_limit) × (take l.count l.numbers ≡ passing (free l.marks) (engines_to l.i))
+invariant-loop-i l = (l.i ≤ l.i-end) × (l.i-end ≤ engine_limit) × (l.count ≤ l.i) × (length l.numbers ≡ engine_limit) × (take l.count l.numbers ≡ passing (free l.b.marks) (engines_to l.i))
 
 abbrev pub decreases-loop-i : goal.decreases-loop-i
 decreases-loop-i l = l.i-end - l.i

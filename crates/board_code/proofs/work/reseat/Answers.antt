@@ -9,20 +9,20 @@ use Rattle.board.proofs.Ready.{may-place}
 use Rattle.board.proofs.Exits.{reseated-placed, reseated-none}
 use Rattle.board_code.proofs.work.reseat.Goals as goal
 
-pub engines_of-engines-requires : goal.engines_of-engines-requires
-engines_of-engines-requires c = c.requires.0
+pub engines_of-requires : goal.engines_of-requires
+engines_of-requires c = c.requires.0
 
 pub place-found-requires : goal.place-found-requires
 place-found-requires c =
     let a = c.args in
-    let on = c.engines_of-engines in
+    let on = c.engines_of in
     may-place a.b c.requires.0 on.result _ (lent a.rows.now a.predecessors.now) on.ensures.0 on.ensures.1 c.requires.1 c.requires.2
 
 pub returns-then-not-found : goal.returns-then-not-found
 returns-then-not-found c =
     let a = c.args in
     let p = c.place-found in
-    let on = c.engines_of-engines.ensures.1 in
+    let on = c.engines_of.ensures.1 in
     let parts = lent a.rows.now a.predecessors.now in
     reseated-none a.b a.counts p.result (p.ensures.1 ∙ ap (λ (es : List ℕ). placement a.b.system es a.counts) on) parts _ _
     (p.ensures.0 ∙ ap (λ (es : List ℕ). filled a.b.system es parts) on)
@@ -34,7 +34,7 @@ pub returns : goal.returns
 returns c =
     let a = c.args in
     let p = c.place-found in
-    let on = c.engines_of-engines.ensures.1 in
+    let on = c.engines_of.ensures.1 in
     let parts = lent a.rows.now a.predecessors.now in
     reseated-placed a.b a.counts p.result (p.ensures.1 ∙ ap (λ (es : List ℕ). placement a.b.system es a.counts) on) parts _ _
     (p.ensures.0 ∙ ap (λ (es : List ℕ). filled a.b.system es parts) on)

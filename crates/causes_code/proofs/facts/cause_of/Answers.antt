@@ -6,33 +6,34 @@ use Rattle.causes_code.proofs.facts.cause_of.Goals as goal
 pub returns-then-engines-holds_none : goal.returns-then-engines-holds_none
 returns-then-engines-holds_none c = out-1 c.args.y c.args.engines c.args.counts c.args.placed (rw c.holds_none.ensures at c.if-engines-holds_none.true)
 
-pub returns-then-t-gt0 : goal.returns-then-t-gt0
-returns-then-t-gt0 c =
-    out-2 c.args.y c.args.engines c.args.counts c.args.placed (rw c.holds_none.ensures at c.if-engines-holds_none.false) _ c.lowest_unfit-t.ensures c.if-t-gt0.true
+pub returns-in-Some : goal.returns-in-Some
+returns-in-Some c =
+    let found = rw c.in-Some.is at c.lowest_unfit.ensures in
+    out-2 c.args.y c.args.engines c.args.counts c.args.placed (rw c.holds_none.ensures at c.if-engines-holds_none.false) c.in-Some.t found.0 found.1
 
-pub returns-then-time_short : goal.returns-then-time_short
-returns-then-time_short c =
-    out-3 c.args.y c.args.engines c.args.counts c.args.placed (rw c.holds_none.ensures at c.if-engines-holds_none.false) (rw c.lowest_unfit-t.ensures at c.if-t-gt0.false)
-    (sym c.time_short.ensures ∙ c.if-time_short.true)
+pub returns-then-time : goal.returns-then-time
+returns-then-time c =
+    out-3 c.args.y c.args.engines c.args.counts c.args.placed (rw c.holds_none.ensures at c.if-engines-holds_none.false) (rw c.in_default.is at c.lowest_unfit.ensures)
+    (rw c.sums_of-sums.ensures at (sym c.short-time.ensures) ∙ c.if-time.true)
 
-pub returns-then-memory_short : goal.returns-then-memory_short
-returns-then-memory_short c =
-    out-4 c.args.y c.args.engines c.args.counts c.args.placed (rw c.holds_none.ensures at c.if-engines-holds_none.false) (rw c.lowest_unfit-t.ensures at c.if-t-gt0.false)
-    (sym c.time_short.ensures ∙ c.if-time_short.false) (sym c.memory_short.ensures ∙ c.if-memory_short.true)
+pub returns-then-memory : goal.returns-then-memory
+returns-then-memory c =
+    out-4 c.args.y c.args.engines c.args.counts c.args.placed (rw c.holds_none.ensures at c.if-engines-holds_none.false) (rw c.in_default.is at c.lowest_unfit.ensures)
+    (rw c.sums_of-sums.ensures at (sym c.short-time.ensures) ∙ c.if-time.false) (rw c.sums_of-sums.ensures at (sym c.short-memory.ensures) ∙ c.if-memory.true)
 
 pub returns-then-replicas_short : goal.returns-then-replicas_short
 returns-then-replicas_short c =
-    out-5 c.args.y c.args.engines c.args.counts c.args.placed (rw c.holds_none.ensures at c.if-engines-holds_none.false) (rw c.lowest_unfit-t.ensures at c.if-t-gt0.false)
-    (sym c.time_short.ensures ∙ c.if-time_short.false) (sym c.memory_short.ensures ∙ c.if-memory_short.false) (sym c.replicas_short.ensures ∙ c.if-replicas_short.true)
+    out-5 c.args.y c.args.engines c.args.counts c.args.placed (rw c.holds_none.ensures at c.if-engines-holds_none.false) (rw c.in_default.is at c.lowest_unfit.ensures)
+    (rw c.sums_of-sums.ensures at (sym c.short-time.ensures) ∙ c.if-time.false) (rw c.sums_of-sums.ensures at (sym c.short-memory.ensures) ∙ c.if-memory.false) (sym c.replicas_short.ensures ∙ c.if-replicas_short.true)
 
 pub returns-then-placed : goal.returns-then-placed
 returns-then-placed c =
-    out-0 c.args.y c.args.engines c.args.counts c.args.placed (rw c.holds_none.ensures at c.if-engines-holds_none.false) (rw c.lowest_unfit-t.ensures at c.if-t-gt0.false)
-    (sym c.time_short.ensures ∙ c.if-time_short.false) (sym c.memory_short.ensures ∙ c.if-memory_short.false) (sym c.replicas_short.ensures ∙ c.if-replicas_short.false)
+    out-0 c.args.y c.args.engines c.args.counts c.args.placed (rw c.holds_none.ensures at c.if-engines-holds_none.false) (rw c.in_default.is at c.lowest_unfit.ensures)
+    (rw c.sums_of-sums.ensures at (sym c.short-time.ensures) ∙ c.if-time.false) (rw c.sums_of-sums.ensures at (sym c.short-memory.ensures) ∙ c.if-memory.false) (sym c.replicas_short.ensures ∙ c.if-replicas_short.false)
     c.if-placed.true
 
 pub returns : goal.returns
 returns c =
-    out-6 c.args.y c.args.engines c.args.counts c.args.placed (rw c.holds_none.ensures at c.if-engines-holds_none.false) (rw c.lowest_unfit-t.ensures at c.if-t-gt0.false)
-    (sym c.time_short.ensures ∙ c.if-time_short.false) (sym c.memory_short.ensures ∙ c.if-memory_short.false) (sym c.replicas_short.ensures ∙ c.if-replicas_short.false)
+    out-6 c.args.y c.args.engines c.args.counts c.args.placed (rw c.holds_none.ensures at c.if-engines-holds_none.false) (rw c.in_default.is at c.lowest_unfit.ensures)
+    (rw c.sums_of-sums.ensures at (sym c.short-time.ensures) ∙ c.if-time.false) (rw c.sums_of-sums.ensures at (sym c.short-memory.ensures) ∙ c.if-memory.false) (sym c.replicas_short.ensures ∙ c.if-replicas_short.false)
     c.if-placed.false

@@ -9,8 +9,8 @@ use Rattle.causes_code.proofs.facts.over_most.Goals as goal
 
 pub overflow_mul-result : goal.overflow_mul-result
 overflow_mul-result c =
-    let q : Fits w16 c.in-AtMost.q = search rules in
-    record { fits = omega (arith, mul-le-mul {n₁ = c.in-AtMost.q} {m₁ = c.args.engines} {n₂ = 2 ^ 16} {m₂ = 16} (omega arith) c.requires) }
+    let q : Fits w16 c.in-Some.q = search rules in
+    record { fits = omega (arith, mul-le-mul {n₁ = c.in-Some.q} {m₁ = c.args.engines} {n₂ = 2 ^ 16} {m₂ = 16} (omega arith) c.requires) }
 
-pub returns-in-AtMost : goal.returns-in-AtMost
-returns-in-AtMost c = rw c.in-AtMost.is
+pub returns-in-Some : goal.returns-in-Some
+returns-in-Some c = rw c.in-Some.is

@@ -1,82 +1,82 @@
 -- Each way out is the one that the call is defined to take there (the laws of FromFile), from what the callees ensure.
+use Rattle.std.proofs.Common.{Option, Ok, Err}
 use Prim.Native.Nat.{ℕ}
-use mathlib.Core.Path.{◌≡◌, sym, ap, ◌∙◌}
+use mathlib.Core.Path.{◌≡◌, sym, ◌∙◌}
 use mathlib.Core.List.{List}
-use mathlib.Core.Bool.{Bool, true, false}
+use mathlib.Core.Bool.{true}
 use native.Mathlib.Omega.{arith}
-use borrow.Author.Tests.{leb-true, not-true, not-false}
-use lib.Dec.{leb}
+use borrow.Author.Tests.{leb-true}
+use borrow.Author.Rules.{rules}
 use Rattle.system.specs.declared.System.{System}
 use Rattle.system.specs.declared.Opened.{Opened}
-use Rattle.system.specs.declared.Refusal.{Refusal}
-use Rattle.system.specs.declared.Answer.TheVariants.{Refused}
 use Rattle.system.specs.Limits.{columns, keeps_limits}
+use Rattle.system.specs.Values.{ceilings_of}
 use Rattle.system.specs.Inner.{columns_within}
-use Rattle.system.specs.Layout.{opened, read_file, Reads}
-use Rattle.system.proofs.Laws.{limits_of, read-keeps-limits, opened-unless}
-use Rattle.counting.specs.declared.Total.{Total}
+use Rattle.system.specs.Layout.{read_file, Reads}
+use Rattle.system.proofs.Laws.{limits_of, read-keeps-limits}
+use Rattle.partition.specs.Listing.{instances}
 use Rattle.counting.specs.Counts.{total_count, greatest}
-use Rattle.counting.specs.Walk.{total_of}
-use Rattle.counting.proofs.FromFile.{many-promises, short-promises, counted-promises}
-use Rattle.counting.proofs.Turns.{power-within}
+use Rattle.counting.proofs.FromFile.{ok-opens, unread-promises, many-promises, short-promises, counted-promises}
+use Rattle.counting.proofs.Turns.{past-said, within-said}
 use Rattle.counting_code.proofs.calls.count_assignments.Goals as goal
 
--- the file reads as the system, which keeps the limits
-is-opened : (file : List ℕ) (r : Opened) → Reads (read_file file) r → ((why : Refusal) → r.answer ≡ Refused why → ⊥) → read_file file ≡ opened r.system
-is-opened file r reads other = opened-unless (read_file file) r reads other
-
-keeps : (file : List ℕ) (r : Opened) → Reads (read_file file) r → ((why : Refusal) → r.answer ≡ Refused why → ⊥) → keeps_limits r.system ≡ true
-keeps file r reads other = read-keeps-limits file r.system (is-opened file r reads other)
-
--- whether the total is within 64 bits
-within-is : (y : System) (t : Total) → t ≡ total_of y → (b : Bool) → t.within ≡ b → leb (total_count y) greatest ≡ b
-within-is y t e b is = sym (ap (λ (u : Total). u.within) e) ∙ is
+-- the file reads as a system that keeps the limits
+keeps : (file : List ℕ) (r : Opened) → Reads (read_file file) r → {v : Option ℕ} → r.answer ≡ Ok v → keeps_limits r.system ≡ true
+keeps file r reads e = read-keeps-limits file r.system (ok-opens (read_file file) r reads e)
 
 -- the columns
 columns-are : (y : System) (n : ℕ) → keeps_limits y ≡ true → n ≡ columns_within y.types → n ≡ columns y
 columns-are y n keeping e = omega (arith, e, (limits_of y keeping).columns)
 
-pub total_of-total-requires : goal.total_of-total-requires
-total_of-total-requires c = keeps c.args.file.now c.read_system-opened.result c.read_system-opened.ensures c.in_default.not-Refused
+-- the file is refused
+pub returns-in_err-opened : goal.returns-in_err-opened
+returns-in_err-opened c =
+    let r = c.read_system-opened in
+    let told : c.from_residual.result ≡ Err c.in_err-opened.field-0.0 = search rules in
+    rw told (unread-promises c.args.file.now c.args.part.now r.result r.ensures c.in_err-opened.field-0.0 c.in_err-opened.was)
+
+pub total_of-requires : goal.total_of-requires
+total_of-requires c = let r = c.read_system-opened in keeps c.args.file.now r.result r.ensures c.in_ok-opened.was
 
 -- 37
-pub returns-then-not-total : goal.returns-then-not-total
-returns-then-not-total c =
-    let told = c.total_of-total in
-    let y = c.read_system-opened.result.system in
-    many-promises c.args.file.now c.args.part.now y (is-opened c.args.file.now c.read_system-opened.result c.read_system-opened.ensures c.in_default.not-Refused)
-    (within-is y told.result told.ensures false (not-true told.result.within c.if-not-total.true))
+pub returns-in_default : goal.returns-in_default
+returns-in_default c =
+    let r = c.read_system-opened in
+    let y = r.result.system in
+    many-promises c.args.file.now c.args.part.now y (ok-opens (read_file c.args.file.now) r.result r.ensures c.in_ok-opened.was)
+    (past-said y.engines (instances (ceilings_of y)) (sym c.in_default.is ∙ c.total_of.ensures))
 
 -- 38
 pub returns-then-part-columns : goal.returns-then-part-columns
 returns-then-part-columns c =
-    let told = c.total_of-total in
-    let y = c.read_system-opened.result.system in
-    let passed = within-is y told.result told.ensures true (not-false told.result.within c.if-not-total.false) in
-    let all = columns-are y c.columns_within-columns.result (keeps c.args.file.now c.read_system-opened.result c.read_system-opened.ensures c.in_default.not-Refused) c.columns_within-columns.ensures in
-    short-promises c.args.file.now c.args.part.now y (is-opened c.args.file.now c.read_system-opened.result c.read_system-opened.ensures c.in_default.not-Refused) passed
+    let r = c.read_system-opened in
+    let y = r.result.system in
+    let said = within-said y.engines (instances (ceilings_of y)) c.in-Some.total (sym c.in-Some.is ∙ c.total_of.ensures) in
+    let all = columns-are y c.columns_within-columns.result (keeps c.args.file.now r.result r.ensures c.in_ok-opened.was) c.columns_within-columns.ensures in
+    short-promises c.args.file.now c.args.part.now y (ok-opens (read_file c.args.file.now) r.result r.ensures c.in_ok-opened.was) said.0
     (omega (arith, c.if-part-columns.true, all))
 
 pub count_good-requires : goal.count_good-requires
 count_good-requires c =
-    let told = c.total_of-total in
-    let y = c.read_system-opened.result.system in
+    let r = c.read_system-opened in
+    let y = r.result.system in
+    let said = within-said y.engines (instances (ceilings_of y)) c.in-Some.total (sym c.in-Some.is ∙ c.total_of.ensures) in
+    let keeping = keeps c.args.file.now r.result r.ensures c.in_ok-opened.was in
     record {
-      limits = keeps c.args.file.now c.read_system-opened.result c.read_system-opened.ensures c.in_default.not-Refused;
-      all = columns-are y c.columns_within-columns.result (keeps c.args.file.now c.read_system-opened.result c.read_system-opened.ensures c.in_default.not-Refused) c.columns_within-columns.ensures;
+      limits = keeping;
+      all = columns-are y c.columns_within-columns.result keeping c.columns_within-columns.ensures;
       halves = omega (arith, c.if-part-columns.false);
-      small = leb-true (total_count y) greatest (within-is y told.result told.ensures true (not-false told.result.within c.if-not-total.false));
+      small = leb-true (total_count y) greatest said.0;
     }
 
 -- both numbers
 pub returns : goal.returns
 returns c =
-    let told = c.total_of-total in
-    let y = c.read_system-opened.result.system in
-    let passed = within-is y told.result told.ensures true (not-false told.result.within c.if-not-total.false) in
-    let total : told.result.value ≡ total_count y = ap (λ (t : Total). t.value) (told.ensures ∙ sym (power-within y.engines _ (leb-true (total_count y) greatest passed))) in
-    let all = columns-are y c.columns_within-columns.result (keeps c.args.file.now c.read_system-opened.result c.read_system-opened.ensures c.in_default.not-Refused) c.columns_within-columns.ensures in
-    counted-promises c.args.file.now c.args.part.now y (is-opened c.args.file.now c.read_system-opened.result c.read_system-opened.ensures c.in_default.not-Refused) passed
+    let r = c.read_system-opened in
+    let y = r.result.system in
+    let said = within-said y.engines (instances (ceilings_of y)) c.in-Some.total (sym c.in-Some.is ∙ c.total_of.ensures) in
+    let all = columns-are y c.columns_within-columns.result (keeps c.args.file.now r.result r.ensures c.in_ok-opened.was) c.columns_within-columns.ensures in
+    counted-promises c.args.file.now c.args.part.now y (ok-opens (read_file c.args.file.now) r.result r.ensures c.in_ok-opened.was) said.0
     (omega (arith, c.if-part-columns.false, all))
-    c.count_good.result told.result.value c.count_good.new.part
-    c.count_good.ensures.0 total c.count_good.ensures.1
+    c.count_good.result c.in-Some.total c.count_good.new.part
+    c.count_good.ensures.0 said.1 c.count_good.ensures.1

@@ -10,8 +10,8 @@ abbrev pub invariant-loop-t : goal.invariant-loop-t
 invariant-loop-t l =
     (l.t ≤ 6)
     × (length l.strides ≡ 6)
-    × (l.stride ≡ stride_at (ceilings l.types) l.t)
-    × ((i : ℕ) → i < l.t → get_or l.strides i 0 ≡ stride_at (ceilings l.types) i)
+    × (l.stride ≡ stride_at (ceilings l.fn.y.types) l.t)
+    × ((i : ℕ) → i < l.t → get_or l.strides i 0 ≡ stride_at (ceilings l.fn.y.types) i)
 
 abbrev pub decreases-loop-t : goal.decreases-loop-t
 decreases-loop-t l = 6 - l.t

@@ -1,31 +1,31 @@
 -- `power`: the answers.
-use Prim.Native.Nat.{ℕ, ◌*◌, ◌^◌, ◌≤◌}
+use Rattle.std.proofs.Common.{None}
+use Prim.Native.Nat.{ℕ, ◌^◌}
 use mathlib.Core.Path.{◌≡◌, sym, ap, ◌∙◌}
 use native.Mathlib.Nat.{pow-zero, pow-suc}
 use native.Mathlib.Numerals.{add-one}
 use native.Mathlib.Omega.{arith}
-use Rattle.counting.specs.Counts.{greatest}
-use Rattle.counting.proofs.Turns.{power-within, power-past, times-small}
-use Rattle.counting_code.proofs.total.power.Goals.{Else-value-most}
+use borrow.Author.Rules.{rules}
+use Rattle.counting.proofs.Turns.{power-within, power-past}
 use Rattle.counting_code.proofs.total.power.Goals as goal
 
 pub loop-k-init : goal.loop-k-init
 loop-k-init c = (omega arith, sym (pow-zero c.args.base), omega arith)
 
-pub returns-then-value-most : goal.returns-then-value-most
-returns-then-value-most c =
+pub returns-in_err-value : goal.returns-in_err-value
+returns-in_err-value c =
     let here = c.loop-k in
     let a = c.args in
-    power-past a.base a.times here._k c.requires (omega arith) (rw here.invariant.1 at c.if-value-most.true)
-
-next_small : (c : Else-value-most) → c.loop-k.value * c.args.base ≤ greatest
-next_small c = times-small c.args.base c.loop-k.value c.requires c.if-value-most.false
+    let told : c.from_residual.result ≡ None = search rules in
+    let past = rw c.in_err-value.was at c.checked_mul.ensures in
+    told ∙ power-past a.base a.times here._k c.requires (omega arith) (rw (← here.invariant.1) (omega (arith, past)))
 
 pub loop-k-preserved : goal.loop-k-preserved
 loop-k-preserved c =
     let here = c.loop-k in
     let a = c.args in
-    (omega arith, rw (add-one here._k, pow-suc a.base here._k, here.invariant.1), next_small c)
+    let made = c.in_ok-value.ensures in
+    (omega arith, made.1 ∙ rw (add-one here._k, pow-suc a.base here._k, here.invariant.1), omega (arith, made.0, made.1))
 
 pub returns : goal.returns
 returns c =

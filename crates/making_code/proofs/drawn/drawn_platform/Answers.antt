@@ -7,4 +7,4 @@ use Rattle.making_code.proofs.drawn.drawn_platform.Goals as goal
 
 pub returns : goal.returns
 unfolding drawn_to
-returns c = ap (λ (y : System). with_platform c.args.w.engines c.args.w.rule c.args.w.timecap c.args.w.memorycap y) c.blank_system-y.ensures
+returns c = ap (λ (y : System). with_platform c.args.w.engines c.args.w.rule c.args.w.timecap c.args.w.memorycap y) c.blank_system.ensures

@@ -1,13 +1,16 @@
--- The first test that finds a fault decides.
-use Rattle.writer_code.proofs.Steps.{or-first, or-on}
-use Rattle.making.specs.Making.{recipe_fault}
+-- The first test that refuses decides.
+use Rattle.system.proofs.Within.{handed_on, first_refused, then_second}
+use Rattle.making.specs.Making.{numbers_fault, power_fault, recipe_fault}
 use Rattle.making_code.proofs.limits.recipe_fault.Goals as goal
 
-pub returns-then-fault-ne0 : goal.returns-then-fault-ne0
+pub returns-in_err-numbers_fault : goal.returns-in_err-numbers_fault
 unfolding recipe_fault
-returns-then-fault-ne0 c = or-first _ _ _ c.numbers_fault-fault.ensures c.if-fault-ne0.true
+returns-in_err-numbers_fault c =
+    let w = c.args.w in
+    handed_on _ c.from_residual.ensures.1 (first_refused (numbers_fault w) (power_fault w) _ c.in_err-numbers_fault.ensures)
 
 pub returns : goal.returns
 unfolding recipe_fault
 returns c =
-    or-on _ _ _ c.numbers_fault-fault.ensures c.if-fault-ne0.false c.power_fault.ensures
+    let w = c.args.w in
+    then_second (numbers_fault w) (power_fault w) _ c.in_ok-numbers_fault.ensures c.power_fault.ensures

@@ -26,12 +26,12 @@ whole p i text past e = sym (ap (read_from p) (drop_all i text past)) ∙ e
     drop_all (suc n) [] h = refl
     drop_all (suc n) (x ∷ l) h = drop_all n l (omega arith)
 
-pub loop-i-preserved : goal.loop-i-preserved
-loop-i-preserved c =
-    let i = c.loop-i.i in
+pub loop-byte-preserved : goal.loop-byte-preserved
+loop-byte-preserved c =
+    let i = c.loop-byte.byte-index in
     let text = c.args.text.now in
     let left : drop i text ≡ get_or text i 0 ∷ drop (i + 1) text = rw (add-one i, drop-cons text i 0 (omega arith)) in
-    rw c.step-p.ensures (sym (next c.loop-i.p left) ∙ c.loop-i.invariant)
+    rw c.step-p.ensures (sym (next c.loop-byte.p left) ∙ c.loop-byte.invariant)
 
 pub returns : goal.returns
-returns c = whole c.loop-i.p c.loop-i.i c.args.text.now (omega arith) c.loop-i.invariant
+returns c = whole c.loop-byte.p c.loop-byte.byte-index c.args.text.now (omega arith) c.loop-byte.invariant

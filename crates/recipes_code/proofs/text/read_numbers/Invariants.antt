@@ -4,5 +4,5 @@ use lib.ListN.{drop}
 use Rattle.recipes.specs.Digits.{begun, read_from}
 use Rattle.recipes_code.proofs.text.read_numbers.Given as goal
 
-abbrev pub invariant-loop-i : goal.invariant-loop-i
-invariant-loop-i l = read_from l.p (drop l.i l.text) ≡ read_from begun l.text
+abbrev pub invariant-loop-byte : goal.invariant-loop-byte
+invariant-loop-byte l = read_from l.p (drop l.byte-index l.text) ≡ read_from begun l.text

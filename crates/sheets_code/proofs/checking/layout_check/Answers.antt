@@ -7,7 +7,7 @@ use borrow.Author.Rules.{rules}
 use Rattle.system.specs.Limits.{engine_limit}
 use Rattle.partition.specs.Listing.{same_list}
 use Rattle.sheets.proofs.Sizes.{sheet-room}
-use Rattle.sheets_code.proofs.Steps.{put_front, put-within}
+use Rattle.sheets_code.proofs.Steps.{same-pointwise, put_front, put-within}
 use Rattle.sheets_code.proofs.checking.layout_check.Goals as goal
 
 -- any sheet has at most 389 bytes
@@ -20,13 +20,13 @@ put_sheet-size-requires c =
 pub slice_bounds-copy-end : goal.slice_bounds-copy-end
 slice_bounds-copy-end c = put-within c.put_sheet-size.ensures c.put_sheet-size.auto.out
 
-pub slice_bounds-same_bytes-end : goal.slice_bounds-same_bytes-end
-slice_bounds-same_bytes-end c = sym (length-take-le _ _ (put-within c.put_sheet-size.ensures c.put_sheet-size.auto.out))
+pub slice_bounds-eq-end : goal.slice_bounds-eq-end
+slice_bounds-eq-end c = sym (length-take-le _ _ (put-within c.put_sheet-size.ensures c.put_sheet-size.auto.out))
 
 -- and the comparison is with it
-pub returns-then-same_bytes : goal.returns-then-same_bytes
-returns-then-same_bytes c =
-    rw (← (c.same_bytes.ensures ∙ ap (same_list eqb c.args.sheet.now) (put_front c.put_sheet-size.ensures)), c.if-same_bytes.true)
+pub returns-then-eq : goal.returns-then-eq
+returns-then-eq c =
+    rw (← (c.eq.ensures ∙ same-pointwise _ _ ∙ ap (same_list eqb c.args.sheet.now) (put_front c.put_sheet-size.ensures)), c.if-eq.true)
 
 pub returns : goal.returns
-returns c = rw (← (c.same_bytes.ensures ∙ ap (same_list eqb c.args.sheet.now) (put_front c.put_sheet-size.ensures)), c.if-same_bytes.false)
+returns c = rw (← (c.eq.ensures ∙ same-pointwise _ _ ∙ ap (same_list eqb c.args.sheet.now) (put_front c.put_sheet-size.ensures)), c.if-eq.false)

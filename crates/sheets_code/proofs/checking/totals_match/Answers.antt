@@ -1,32 +1,20 @@
--- `totals_match`: the answers.
-use mathlib.Core.Path.{◌≡◌, refl, sym, ◌∙◌}
-use mathlib.Core.Bool.{◌&&◌, and_assoc, and-true}
-use native.Mathlib.Omega.{arith}
-use lib.ListN.{length, drop}
+-- One test for each total and its type.
+use Rattle.std.proofs.Common.{rules, arith}
+use Prim.Native.Nat.{ℕ}
+use mathlib.Core.Path.{◌≡◌, ◌∙◌}
+use borrow.Author.Tests.{tests}
+use lib.ListN.{length}
 use lib.Dec.{eqb}
-use borrow.Author.Rules.{rules}
-use Rattle.loads.proofs.Steps.{ceilings}
-use Rattle.partition.specs.Listing.{same_list}
-use Rattle.sheets_code.proofs.Steps.{totals-turn, totals-end}
+use Rattle.std.proofs.lemmas.Iterator.{YieldsList-from_slice, YieldsList-from_zip}
+use Rattle.std.proofs.lemmas.Iterator.Search.{all_from_yields_List}
+use Rattle.system.specs.declared.TaskType.{TaskType}
+use Rattle.sheets_code.proofs.Steps.{totals-zip}
 use Rattle.sheets_code.proofs.checking.totals_match.Goals as goal
-
-pub loop-t-init : goal.loop-t-init
-loop-t-init c = (omega arith, refl)
-
-pub loop-t-preserved : goal.loop-t-preserved
-loop-t-preserved c =
-    let here = c in
-    let a = here.args in
-    let t = here.loop-t.t in
-    let ls : length a.sum ≡ 6 = search rules in
-    let lt : length a.types ≡ 6 = search rules in
-    (omega arith, and_assoc here.loop-t.same _ _ ∙ rw (← (totals-turn a.sum a.types t (omega arith) (omega arith))) here.loop-t.invariant.1)
 
 pub returns : goal.returns
 returns c =
     let a = c.args in
-    let t = c.loop-t.t in
     let ls : length a.sum ≡ 6 = search rules in
     let lt : length a.types ≡ 6 = search rules in
-    let e : (c.loop-t.same && same_list eqb (drop t a.sum) (ceilings (drop t a.types))) ≡ same_list eqb a.sum (ceilings a.types) = c.loop-t.invariant.1 in
-    sym (and-true c.loop-t.same) ∙ (rw (totals-end a.sum a.types t (omega arith) (omega arith)) at e)
+    all_from_yields_List (λ (p : ℕ × TaskType). eqb p.0 p.1.ceiling) c.all.new.self _ _ c.all.ensures.ran (YieldsList-from_zip (YieldsList-from_slice a.sum cc) (YieldsList-from_slice a.types cc)) (λ x b q k. search (rules, tests))
+    ∙ totals-zip a.sum a.types (omega arith)

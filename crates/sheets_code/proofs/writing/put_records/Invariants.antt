@@ -11,8 +11,8 @@ abbrev pub invariant-loop-i : goal.invariant-loop-i
 invariant-loop-i l =
     (l.i ≤ engine_limit)
     × (length l.out ≡ length l.initial.out)
-    × Puts (records_bytes l.k 1 (take l.i l.loads)) l.at l.initial.out l.out l.next
-    × (l.next + used_in (drop l.i l.loads) * field_size record_rule l.k ≤ length l.initial.out)
+    × Puts (records_bytes l.k 1 (take l.i l.fn.loads)) l.at l.initial.out l.out l.next
+    × (l.next + used_in (drop l.i l.fn.loads) * field_size record_rule l.k ≤ length l.initial.out)
 
 abbrev pub decreases-loop-i : goal.decreases-loop-i
 decreases-loop-i l = engine_limit - l.i

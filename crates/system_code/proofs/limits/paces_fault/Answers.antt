@@ -1,44 +1,41 @@
 -- `paces_fault`: the answers.
-use Prim.Native.Nat.{◌≤◌, ◌<◌}
-use native.Mathlib.Nat.{sub-zero}
-use native.Mathlib.Omega.{arith}
+use Prim.Native.Nat.{ℕ, ◌≤◌, ◌<◌}
 use borrow.Author.Rules.{rules}
-use lib.ListN.{length}
+use mathlib.Core.Path.{◌≡◌, refl, ap, ◌∙◌}
+use lib.ListN.{length, take}
 use Rattle.system.specs.Values.{no_task}
-use Rattle.system_code.proofs.Steps.{paces-found, paces-more, paces-past, paces-end}
+use Rattle.system.specs.Limits.{type_limit}
+use Rattle.system.specs.Outcome.{within}
+use Rattle.system.proofs.Within.{handed_on, item_refused, item_passed, items_passed}
+use Rattle.system_code.proofs.Steps.{paced, paces-first}
 use Rattle.system_code.proofs.limits.paces_fault.Goals as goal
 
-pub loop-i-init : goal.loop-i-init
-loop-i-init c = (search rules, search rules, rw sub-zero)
+pub loop-t-init : goal.loop-t-init
+loop-t-init c = refl
 
-pub returns-then-k-i : goal.returns-then-k-i
-returns-then-k-i c =
-    let l = c.loop-i in
+pub returns-in_err-pace_fault : goal.returns-in_err-pace_fault
+returns-in_err-pace_fault c =
     let a = c.args in
-    paces-past a.timecap a.k l.i a.types c.if-k-i.true l.invariant.2
+    let l = c.loop-t in
+    let ts = take c.min.result a.types in
+    let six : length a.types ≡ type_limit = search rules in
+    let inside : l.t-index < length ts = c.loop-t-test.true in
+    handed_on _ c.from_residual.ensures.1
+    (item_refused (paced a.timecap) ts l.t-index l.invariant no_task _ inside c.in_err-pace_fault.ensures
+    ∙ ap (λ (n : ℕ). within n) (paces-first a.timecap a.k c.min.result a.types six c.min.ensures))
 
-pub returns-then-fault-ne0 : goal.returns-then-fault-ne0
-returns-then-fault-ne0 c =
-    let l = c.loop-i in
+pub loop-t-preserved : goal.loop-t-preserved
+loop-t-preserved c =
     let a = c.args in
-    let inside : l.i < length a.types = omega (arith, l.invariant.0) in
-    let fault = c.pace_fault-fault in
-    paces-found a.timecap a.k l.i a.types no_task fault.result inside c.if-k-i.false fault.ensures c.if-fault-ne0.true l.invariant.2
-
-pub loop-i-preserved : goal.loop-i-preserved
-loop-i-preserved c =
-    let l = c.loop-i in
-    let a = c.args in
-    let inside : l.i < length a.types = omega (arith, l.invariant.0) in
-    let fault = c.pace_fault-fault in (
-      l.invariant.0,
-      search rules,
-      paces-more a.timecap a.k l.i a.types no_task fault.result inside c.if-k-i.false fault.ensures c.if-fault-ne0.false l.invariant.2,
-    )
+    let l = c.loop-t in
+    item_passed (paced a.timecap) (take c.min.result a.types) l.t-index l.invariant no_task c.loop-t-test.true c.in_ok-pace_fault.ensures
 
 pub returns : goal.returns
 returns c =
-    let l = c.loop-i in
     let a = c.args in
-    let past : length a.types ≤ l.i = omega (arith, l.invariant.0) in
-    paces-end a.timecap a.k l.i a.types past l.invariant.2
+    let l = c.loop-t in
+    let ts = take c.min.result a.types in
+    let six : length a.types ≡ type_limit = search rules in
+    let past : length ts ≤ l.t-index = c.loop-t-test.false in
+    items_passed (paced a.timecap) ts l.t-index l.invariant past
+    ∙ ap (λ (n : ℕ). within n) (paces-first a.timecap a.k c.min.result a.types six c.min.ensures)

@@ -1,12 +1,9 @@
--- `limits::paces_fault` meets its contract. The loop's invariant: the entries from i on decide.
-use Prim.Native.Nat.{◌-◌, ◌≤◌}
+-- `limits::paces_fault` meets its contract. The loop's invariant: the types that are left decide.
 use mathlib.Core.Path.{◌≡◌}
-use lib.ListN.{length, drop}
-use Rattle.system.specs.Limits.{type_limit, paces_fault}
+use lib.ListN.{drop}
+use Rattle.system.proofs.Within.{first_fault}
+use Rattle.system_code.proofs.Steps.{paced}
 use Rattle.system_code.proofs.limits.paces_fault.Given as goal
 
-abbrev pub invariant-loop-i : goal.invariant-loop-i
-invariant-loop-i l = (length l.types ≡ type_limit) × (l.i ≤ type_limit) × (paces_fault l.timecap (l.k - l.i) (drop l.i l.types) ≡ paces_fault l.timecap l.k l.types)
-
-abbrev pub decreases-loop-i : goal.decreases-loop-i
-decreases-loop-i l = type_limit - l.i
+abbrev pub invariant-loop-t : goal.invariant-loop-t
+invariant-loop-t l = first_fault (paced l.timecap) (drop l.t-index l.t-items) ≡ first_fault (paced l.timecap) l.t-items

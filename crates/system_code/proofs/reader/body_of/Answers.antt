@@ -1,90 +1,64 @@
--- `reader::body_of` meets its contract: one law for each answer.
+-- `reader::body_of` meets its contract: the tag picks the case.
 use native.Mathlib.Omega.{arith}
-use Rattle.system_code.proofs.Goes.{body-many, body-type, body-data, body-most, body-pace, body-second, body-costs, body-platform, types-seen}
+use borrow.Author.Tests.{ne_eqb}
+use Rattle.system.specs.Layout.{body_of}
+use Rattle.system_code.proofs.Goes.{few_seen, many_seen, types-seen}
 use Rattle.system_code.proofs.reader.body_of.Goals as goal
 
 pub returns-then-rule-seen_of : goal.returns-then-rule-seen_of
-returns-then-rule-seen_of c =
-    let a = c.args in
-    let n = c.seen_of in
-    body-many a.rule a.b.now a.y c.refused.result n.result n.ensures c.if-rule-seen_of.true c.refused.ensures
+unfolding body_of
+returns-then-rule-seen_of c = rw (many_seen c.args.rule c.args.y c.seen_of.result c.seen_of.ensures c.if-rule-seen_of.true)
 
 pub type_of-requires : goal.type_of-requires
-type_of-requires c =
-    let a = c.args in
-    let n = c.seen_of.ensures in
-    omega (arith, types-seen a.rule.tag a.y c.if-tag-eq-TYPE.true, c.requires.allowed)
+type_of-requires c = omega (arith, c.seen_of.ensures, types-seen c.args.rule.tag c.args.y c.in-2.is, c.requires.allowed)
 
-pub returns-then-tag-eq-TYPE : goal.returns-then-tag-eq-TYPE
-returns-then-tag-eq-TYPE c =
-    let a = c.args in
-    let n = c.seen_of in
-    body-type a.rule a.b.now a.y c.type_of.result n.result n.ensures c.if-rule-seen_of.false c.if-tag-eq-TYPE.true c.type_of.ensures
+pub returns-in-2 : goal.returns-in-2
+unfolding body_of
+returns-in-2 c =
+    let few = few_seen c.args.rule c.args.y c.seen_of.result c.seen_of.ensures c.if-rule-seen_of.false in
+    rw (few, c.in-2.is) c.type_of.ensures
 
-pub data_of-requires : goal.data_of-requires
-data_of-requires c =
-    let tag = c.if-tag-eq-DATA.true in
-    c.requires.typed (omega (arith, tag)) (λ n. omega (arith, tag, n))
+pub returns-in-3 : goal.returns-in-3
+unfolding body_of
+returns-in-3 c =
+    let few = few_seen c.args.rule c.args.y c.seen_of.result c.seen_of.ensures c.if-rule-seen_of.false in
+    rw (few, c.in-3.is) c.data_of.ensures
 
-pub returns-then-tag-eq-DATA : goal.returns-then-tag-eq-DATA
-returns-then-tag-eq-DATA c =
-    let p = c in
-    let a = p.args in
-    let n = p.seen_of in
-    body-data a.rule a.b.now a.y c.data_of.result n.result n.ensures p.if-rule-seen_of.false p.if-tag-eq-TYPE.false p.if-tag-eq-DATA.true
-    c.data_of.ensures
+pub returns-in-4 : goal.returns-in-4
+unfolding body_of
+returns-in-4 c =
+    let few = few_seen c.args.rule c.args.y c.seen_of.result c.seen_of.ensures c.if-rule-seen_of.false in
+    rw (few, c.in-4.is) c.most_of.ensures
 
-pub most_of-requires : goal.most_of-requires
-most_of-requires c =
-    let tag = c.if-tag-eq-MOST.true in
-    c.requires.typed (omega (arith, tag)) (λ n. omega (arith, tag, n))
+pub returns-in-5 : goal.returns-in-5
+unfolding body_of
+returns-in-5 c =
+    let few = few_seen c.args.rule c.args.y c.seen_of.result c.seen_of.ensures c.if-rule-seen_of.false in
+    rw (few, c.in-5.is) c.pace_of.ensures
 
-pub returns-then-tag-eq-MOST : goal.returns-then-tag-eq-MOST
-returns-then-tag-eq-MOST c =
-    let p = c in
-    let a = p.args in
-    let n = p.seen_of in
-    body-most a.rule a.b.now a.y c.most_of.result n.result n.ensures p.if-rule-seen_of.false p.if-tag-eq-TYPE.false p.if-tag-eq-DATA.false
-    c.if-tag-eq-MOST.true c.most_of.ensures
+pub returns-in-6 : goal.returns-in-6
+unfolding body_of
+returns-in-6 c =
+    let few = few_seen c.args.rule c.args.y c.seen_of.result c.seen_of.ensures c.if-rule-seen_of.false in
+    rw (few, c.in-6.is) c.second_of.ensures
 
-pub pace_of-requires : goal.pace_of-requires
-pace_of-requires c =
-    let tag = c.if-tag-eq-PACE.true in
-    c.requires.typed (omega (arith, tag)) (λ n. omega (arith, tag, n))
+pub returns-in-7 : goal.returns-in-7
+unfolding body_of
+returns-in-7 c =
+    let few = few_seen c.args.rule c.args.y c.seen_of.result c.seen_of.ensures c.if-rule-seen_of.false in
+    rw (few, c.in-7.is) c.costs_of.ensures
 
-pub returns-then-tag-eq-PACE : goal.returns-then-tag-eq-PACE
-returns-then-tag-eq-PACE c =
-    let p = c in
-    let a = p.args in
-    let n = p.seen_of in
-    body-pace a.rule a.b.now a.y c.pace_of.result n.result n.ensures p.if-rule-seen_of.false p.if-tag-eq-TYPE.false p.if-tag-eq-DATA.false
-    c.if-tag-eq-MOST.false c.if-tag-eq-PACE.true c.pace_of.ensures
-
-pub returns-then-tag-eq-SECOND : goal.returns-then-tag-eq-SECOND
-returns-then-tag-eq-SECOND c =
-    let p = c in
-    let a = p.args in
-    let n = p.seen_of in
-    body-second a.rule a.b.now a.y c.second_of.result n.result n.ensures p.if-rule-seen_of.false p.if-tag-eq-TYPE.false p.if-tag-eq-DATA.false
-    c.if-tag-eq-MOST.false c.if-tag-eq-PACE.false c.if-tag-eq-SECOND.true c.second_of.ensures
-
-pub costs_of-requires : goal.costs_of-requires
-costs_of-requires c =
-    let tag = c.if-tag-eq-COSTS.true in
-    c.requires.typed (omega (arith, tag)) (λ n. omega (arith, tag, n))
-
-pub returns-then-tag-eq-COSTS : goal.returns-then-tag-eq-COSTS
-returns-then-tag-eq-COSTS c =
-    let p = c in
-    let a = p.args in
-    let n = p.seen_of in
-    body-costs a.rule a.b.now a.y c.costs_of.result n.result n.ensures p.if-rule-seen_of.false p.if-tag-eq-TYPE.false p.if-tag-eq-DATA.false
-    c.if-tag-eq-MOST.false c.if-tag-eq-PACE.false c.if-tag-eq-SECOND.false c.if-tag-eq-COSTS.true c.costs_of.ensures
-
-pub returns : goal.returns
-returns c =
-    let p = c in
-    let a = p.args in
-    let n = p.seen_of in
-    body-platform a.rule a.b.now a.y c.platform_of.result n.result n.ensures p.if-rule-seen_of.false p.if-tag-eq-TYPE.false p.if-tag-eq-DATA.false
-    c.if-tag-eq-MOST.false c.if-tag-eq-PACE.false c.if-tag-eq-SECOND.false c.if-tag-eq-COSTS.false c.platform_of.ensures
+pub returns-in_default : goal.returns-in_default
+unfolding body_of
+returns-in_default c =
+    let few = few_seen c.args.rule c.args.y c.seen_of.result c.seen_of.ensures c.if-rule-seen_of.false in
+    let tag = c.args.rule.tag in
+    rw (
+      few,
+      ne_eqb tag 2 (λ e. omega (arith, e)),
+      ne_eqb tag 3 (λ e. omega (arith, e)),
+      ne_eqb tag 4 (λ e. omega (arith, e)),
+      ne_eqb tag 5 (λ e. omega (arith, e)),
+      ne_eqb tag 6 (λ e. omega (arith, e)),
+      ne_eqb tag 7 (λ e. omega (arith, e)),
+    ) c.platform_of.ensures

@@ -1,23 +1,25 @@
 -- `reader::pace_of` meets its contract: the numbers that were read are those of the body; with u of the last type they are judged, and they go into it.
 use mathlib.Core.Path.{◌∙◌}
-use Rattle.system.specs.declared.Pace.TheVariants.{Paced}
+use Rattle.std.proofs.Common.{Some}
 use Rattle.system.specs.Values.{with_pace, with_last}
 use Rattle.system.specs.Limits.{pace_fault}
-use Rattle.system.specs.Layout.{unless_fault, pace_from}
-use Rattle.system_code.proofs.Goes.{reads_as}
+use Rattle.system.specs.Layout.{pace_from}
+use Rattle.system.proofs.Within.{handed_on}
+use Rattle.system_code.proofs.Goes.{fault_read, passed_read}
 use Rattle.system_code.proofs.reader.pace_of.Goals as goal
+
+pub returns-in_err-pace_fault : goal.returns-in_err-pace_fault
+unfolding pace_from
+returns-in_err-pace_fault c =
+    let run = c.four_bytes-run.ensures in
+    let period = c.four_bytes-period.ensures in
+    let last = c.last_type-last.ensures in
+    handed_on _ c.from_residual.ensures.1 (fault_read _ (λ i. pace_fault c.args.y.timecap (last i).time (Some (record { run = run i; period = period i }))) c.in_err-pace_fault.ensures)
 
 pub returns : goal.returns
 unfolding pace_from
 returns c =
-    let p = c in
-    let n = p in
-    let y = n.args.y in
-    let run = n.four_bytes-run.ensures in
-    let period = n.four_bytes-period.ensures in
-    let last = n.last_type-last.ensures in
-    let t = p.with_pace.ensures ∙ (λ i. with_pace (run i) (period i) (last i)) in
-    let fault = n.pace_fault-fault.ensures ∙ (λ i. pace_fault y.timecap (last i).time (Paced (record { run = run i; period = period i }))) in
-    reads_as
-    (λ i. unless_fault (fault i) ((p.with_last.ensures ∙ (λ i. with_last (t i) y)) i))
-    c.unless_fault.ensures
+    let run = c.four_bytes-run.ensures in
+    let period = c.four_bytes-period.ensures in
+    let last = c.last_type-last.ensures in
+    passed_read (λ i. pace_fault c.args.y.timecap (last i).time (Some (record { run = run i; period = period i }))) (c.with_last.ensures ∙ (λ i. with_last ((c.with_pace.ensures ∙ (λ j. with_pace (run j) (period j) (last j))) i) c.args.y)) c.in_ok-pace_fault.ensures

@@ -1,15 +1,24 @@
 -- `reader::second_of` meets its contract: the numbers that were read are those of the body.
 use mathlib.Core.Path.{◌∙◌}
-use Rattle.system.specs.Layout.{unless_fault, second_from}
-use Rattle.system_code.proofs.Goes.{reads_as}
+use Rattle.system.specs.Values.{with_second}
+use Rattle.system.specs.Limits.{kind_fault}
+use Rattle.system.specs.Layout.{second_from}
+use Rattle.system.proofs.Within.{handed_on}
+use Rattle.system_code.proofs.Goes.{fault_read, passed_read}
 use Rattle.system_code.proofs.reader.second_of.Goals as goal
+
+pub returns-in_err-kind_fault : goal.returns-in_err-kind_fault
+unfolding second_from
+returns-in_err-kind_fault c =
+    let n = c.byte_at-n.ensures in
+    let time = c.four_bytes-time.ensures in
+    let memory = c.four_bytes-memory.ensures in
+    handed_on _ c.from_residual.ensures.1 (fault_read _ (λ i. kind_fault c.args.y.engines (n i) (time i) (memory i)) c.in_err-kind_fault.ensures)
 
 pub returns : goal.returns
 unfolding second_from
 returns c =
-    let p = c in
-    let n = p in
-    reads_as
-    ((λ i. unless_fault (p.kind_fault-fault.ensures i) (p.with_second.ensures i))
-    ∙ (λ i. second_from (n.byte_at-n.ensures i) (n.four_bytes-time.ensures i) (n.four_bytes-memory.ensures i) n.args.y))
-    c.unless_fault.ensures
+    let n = c.byte_at-n.ensures in
+    let time = c.four_bytes-time.ensures in
+    let memory = c.four_bytes-memory.ensures in
+    passed_read (λ i. kind_fault c.args.y.engines (n i) (time i) (memory i)) (c.with_second.ensures ∙ (λ i. with_second (n i) (time i) (memory i) c.args.y)) c.in_ok-kind_fault.ensures

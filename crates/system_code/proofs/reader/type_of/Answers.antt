@@ -1,16 +1,18 @@
--- `reader::type_of` meets its contract: the numbers that were read are those of the body.
+-- `reader::type_of` meets its contract: the type that was read is that of the body.
 use mathlib.Core.Path.{◌∙◌}
-use Rattle.system.specs.Values.{task_of}
-use Rattle.system.specs.Layout.{unless_fault, type_from}
-use Rattle.system_code.proofs.Goes.{reads_as}
+use Rattle.system.specs.Values.{task_of, with_type}
+use Rattle.system.specs.Limits.{type_fault}
+use Rattle.system.specs.Layout.{type_from}
+use Rattle.system.proofs.Within.{handed_on}
+use Rattle.system_code.proofs.Goes.{fault_read, passed_read}
 use Rattle.system_code.proofs.reader.type_of.Goals as goal
+
+pub returns-in_err-type_fault : goal.returns-in_err-type_fault
+unfolding type_from
+returns-in_err-type_fault c =
+    handed_on _ c.from_residual.ensures.1 (fault_read _ (λ i. type_fault ((c.task_of-t.ensures ∙ (λ j. task_of (c.four_bytes.ensures j) (c.four_bytes-2.ensures j) (c.two_bytes.ensures j))) i)) c.in_err-type_fault.ensures)
 
 pub returns : goal.returns
 unfolding type_from
 returns c =
-    let p = c in
-    let n = p in
-    let t = n.task_of-t.ensures ∙ (λ i. task_of (n.four_bytes.ensures i) (n.four_bytes-2.ensures i) (n.two_bytes.ensures i)) in
-    reads_as
-    ((λ i. unless_fault (p.type_fault.ensures i) (p.with_type.ensures i)) ∙ (λ i. type_from (t i) n.args.y))
-    c.unless_fault.ensures
+    passed_read (λ i. type_fault ((c.task_of-t.ensures ∙ (λ j. task_of (c.four_bytes.ensures j) (c.four_bytes-2.ensures j) (c.two_bytes.ensures j))) i)) (c.with_type.ensures ∙ (λ i. with_type ((c.task_of-t.ensures ∙ (λ j. task_of (c.four_bytes.ensures j) (c.four_bytes-2.ensures j) (c.two_bytes.ensures j))) i) c.args.y)) c.in_ok-type_fault.ensures

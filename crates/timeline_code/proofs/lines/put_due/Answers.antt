@@ -5,14 +5,6 @@ use lib.ListN.{length}
 use Rattle.buffer.proofs.Laws.{puts_then}
 use Rattle.timeline_code.proofs.lines.put_due.Goals as goal
 
--- UNMATCHED slice-aggregate-put-bytes
--- slice-aggregate-put-bytes : tie.Need-slice-aggregate-put-bytes
--- slice-aggregate-put-bytes c = search rules
-
--- UNMATCHED slice-aggregate-put-bytes-2
--- slice-aggregate-put-bytes-2 : tie.Need-slice-aggregate-put-bytes-2
--- slice-aggregate-put-bytes-2 c = search rules
-
 pub returns : goal.returns
 returns c =
     let last = c in

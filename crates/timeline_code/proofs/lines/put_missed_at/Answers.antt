@@ -5,10 +5,6 @@ use lib.ListN.{length}
 use Rattle.buffer.proofs.Laws.{puts_then}
 use Rattle.timeline_code.proofs.lines.put_missed_at.Goals as goal
 
--- UNMATCHED slice-aggregate-put-bytes
--- slice-aggregate-put-bytes : tie.Need-slice-aggregate-put-bytes
--- slice-aggregate-put-bytes c = search rules
-
 pub returns : goal.returns
 returns c =
     let last = c in

@@ -6,20 +6,12 @@ use borrow.Author.Tests.{eq-eqb, ne_eqb}
 use Rattle.buffer.proofs.Laws.{puts_then}
 use Rattle.timeline_code.proofs.lines.put_runner.Goals as goal
 
--- UNMATCHED slice-aggregate-put-bytes
--- slice-aggregate-put-bytes : tie.Need-slice-aggregate-put-bytes
--- slice-aggregate-put-bytes c = search rules
-
 pub returns-then-place-all : goal.returns-then-place-all
 returns-then-place-all c =
     let put = c in
     let test = put in
     let start = test in
     (rw (eq-eqb start.args.place start.args.all test.if-place-all.true) put.put_bytes.ensures, omega (arith, put.put_bytes.ensures.next))
-
--- UNMATCHED slice-aggregate-put-bytes-2
--- slice-aggregate-put-bytes-2 : tie.Need-slice-aggregate-put-bytes-2
--- slice-aggregate-put-bytes-2 c = search rules
 
 pub returns : goal.returns
 returns c =

@@ -6,18 +6,6 @@ use Rattle.buffer.proofs.Laws.{puts_then}
 use Rattle.timeline.specs.Text.{summary_line}
 use Rattle.timeline_code.proofs.lines.put_summary.Goals as goal
 
--- UNMATCHED slice-aggregate-put-bytes
--- slice-aggregate-put-bytes : tie.Need-slice-aggregate-put-bytes
--- slice-aggregate-put-bytes c = search rules
-
--- UNMATCHED slice-aggregate-put-bytes-2
--- slice-aggregate-put-bytes-2 : tie.Need-slice-aggregate-put-bytes-2
--- slice-aggregate-put-bytes-2 c = search rules
-
--- UNMATCHED slice-aggregate-put-bytes-3
--- slice-aggregate-put-bytes-3 : tie.Need-slice-aggregate-put-bytes-3
--- slice-aggregate-put-bytes-3 c = search rules
-
 pub returns : goal.returns
 unfolding summary_line
 returns c =

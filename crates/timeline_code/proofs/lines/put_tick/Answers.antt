@@ -6,10 +6,6 @@ use Rattle.buffer.proofs.Laws.{puts_then}
 use Rattle.timeline.specs.Text.{line_with}
 use Rattle.timeline_code.proofs.lines.put_tick.Goals as goal
 
--- UNMATCHED slice-aggregate-put-bytes
--- slice-aggregate-put-bytes : tie.Need-slice-aggregate-put-bytes
--- slice-aggregate-put-bytes c = search rules
-
 pub returns : goal.returns
 unfolding line_with
 returns c =

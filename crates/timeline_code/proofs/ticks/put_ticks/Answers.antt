@@ -2,7 +2,6 @@
 use Prim.Native.Nat.{ℕ, ◌+◌, ◌-◌}
 use mathlib.Core.Path.{◌≡◌, refl, sym, ap, ◌∙◌}
 use mathlib.Core.List.{List, [], ◌++◌, append_assoc, append-nil}
-use native.Mathlib.Nat.{sub-zero}
 use native.Mathlib.Omega.{arith}
 use lib.ListN.{length, take}
 use lib.Seq.{length-take-le}
@@ -14,10 +13,11 @@ use Rattle.timeline.proofs.Laws.{lines_next, lines_none}
 use borrow.Author.Rules.{rules}
 use Rattle.timeline_code.proofs.ticks.put_ticks.Goals as goal
 
-pub loop-i-init : goal.loop-i-init
-loop-i-init c =
+pub loop-now-init : goal.loop-now-init
+loop-now-init c =
     let a = c.args in
-    let l : length a.jobs ≡ job_limit = search rules in (
+    let l : length a.jobs ≡ job_limit = search rules in
+    let all : a.from + a.shown - a.from ≡ a.shown = omega arith in (
       [],
       omega arith,
       omega arith,
@@ -25,46 +25,40 @@ loop-i-init c =
       omega arith,
       length-take-le a.count a.jobs (omega (arith, c.requires.0, l)),
       puts_none 0 a.out.now,
-      ap (λ (n : ℕ). tick_lines n a.from a.counts (take a.count a.jobs)) (sub-zero a.shown),
+      ap (λ (n : ℕ). tick_lines n a.from a.counts (take a.count a.jobs)) all,
     )
 
-pub overflow_add-now : goal.overflow_add-now
-overflow_add-now c = omega (arith, c.requires.2)
-
-pub loop-i-preserved : goal.loop-i-preserved
-loop-i-preserved c =
-    let put = c in
-    let tick = put.one_tick-tick in
-    let turn = put.loop-i in
-    let start = put in
-    let a = start.args in
+pub loop-now-preserved : goal.loop-now-preserved
+loop-now-preserved c =
+    let tick = c.one_tick-tick in
+    let turn = c.loop-now in
+    let a = c.args in
     let js = take a.count turn.state in
     let next = take a.count tick.result.next in
-    let left = a.shown - (turn.i + 1) in
+    let left = a.from + a.shown - (turn.now + 1) in
     let here = line_with turn.now a.counts js a.count tick.result.at in
     let rest = tick_lines left (turn.now + 1) a.counts next in
-    let more : a.shown - turn.i ≡ left + 1 = omega arith in
-    let step : tick_lines (a.shown - turn.i) turn.now a.counts js ≡ here ++ rest =
+    let more : a.from + a.shown - turn.now ≡ left + 1 = omega arith in
+    let step : tick_lines (a.from + a.shown - turn.now) turn.now a.counts js ≡ here ++ rest =
     ap (λ (n : ℕ). tick_lines n turn.now a.counts js) more
     ∙ lines_next left turn.now a.count tick.result.at a.counts js next turn.invariant.5 tick.ensures.at_value tick.ensures.next_value in (
       turn.invariant.0 ++ here,
       omega arith,
-      omega (arith, turn.invariant.2),
-      put.put_tick-next.auto.out ∙ turn.invariant.3,
-      omega (arith, turn.invariant.4, put.put_tick-next.ensures.1),
+      omega arith,
+      c.put_tick-next.auto.out ∙ turn.invariant.3,
+      omega (arith, turn.invariant.4, c.put_tick-next.ensures.1),
       ap length tick.ensures.next_value ∙ length-worked _ _ ∙ length-arrived _ _ ∙ turn.invariant.5,
-      puts_then (omega arith) turn.invariant.6 put.put_tick-next.ensures.0,
+      puts_then (omega arith) turn.invariant.6 c.put_tick-next.ensures.0,
       append_assoc turn.invariant.0 here rest ∙ ap (λ (s : List ℕ). turn.invariant.0 ++ s) (sym step) ∙ turn.invariant.7,
     )
 
 pub returns : goal.returns
 returns c =
-    let turn = c.loop-i in
-    let start = c in
-    let a = start.args in
+    let turn = c.loop-now in
+    let a = c.args in
     let js = take a.count turn.state in
-    let none : a.shown - turn.i ≡ 0 = omega arith in
-    let rest : tick_lines (a.shown - turn.i) turn.now a.counts js ≡ [] = ap (λ (n : ℕ). tick_lines n turn.now a.counts js) none ∙ lines_none turn.now a.counts js in
+    let none : a.from + a.shown - turn.now ≡ 0 = omega arith in
+    let rest : tick_lines (a.from + a.shown - turn.now) turn.now a.counts js ≡ [] = ap (λ (n : ℕ). tick_lines n turn.now a.counts js) none ∙ lines_none turn.now a.counts js in
     let all : turn.invariant.0 ≡ tick_lines a.shown a.from a.counts (take a.count a.jobs) =
     sym (append-nil turn.invariant.0) ∙ ap (λ (s : List ℕ). turn.invariant.0 ++ s) (sym rest) ∙ turn.invariant.7 in
-    (rw all at turn.invariant.6, omega (arith, turn.invariant.4, turn.invariant.1, start.requires.1))
+    (rw all at turn.invariant.6, omega (arith, turn.invariant.4, turn.invariant.2, c.requires.1))

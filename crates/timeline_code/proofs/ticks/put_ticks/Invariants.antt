@@ -8,16 +8,13 @@ use Rattle.timeline.specs.Text.{tick_lines}
 use Rattle.timeline.specs.Room.{tick_room}
 use Rattle.timeline_code.proofs.ticks.put_ticks.Given as goal
 
-abbrev pub invariant-loop-i : goal.invariant-loop-i
-invariant-loop-i l =
+abbrev pub invariant-loop-now : goal.invariant-loop-now
+invariant-loop-now l =
     (told : List ℕ)
-    × (l.i ≤ l.shown)
-    × (l.now ≡ l.from + l.i)
+    × (l.from ≤ l.now)
+    × (l.now ≤ l.from + l.shown)
     × (length l.out ≡ length l.initial.out)
-    × (l.next ≤ tick_room * l.i)
+    × (l.next ≤ tick_room * (l.now - l.from))
     × (length (take l.count l.state) ≡ l.count)
     × Puts told 0 l.initial.out l.out l.next
-    × (told ++ tick_lines (l.shown - l.i) l.now l.counts (take l.count l.state) ≡ tick_lines l.shown l.from l.counts (take l.count l.initial.state))
-
-abbrev pub decreases-loop-i : goal.decreases-loop-i
-decreases-loop-i l = l.shown - l.i
+    × (told ++ tick_lines (l.from + l.shown - l.now) l.now l.counts (take l.count l.state) ≡ tick_lines l.shown l.from l.counts (take l.count l.initial.state))

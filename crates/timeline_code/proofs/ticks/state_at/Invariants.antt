@@ -1,5 +1,5 @@
 -- The loop's invariant: the jobs are those at the instant that is reached.
-use Prim.Native.Nat.{◌-◌, ◌≤◌}
+use Prim.Native.Nat.{◌≤◌}
 use mathlib.Core.Path.{◌≡◌}
 use mathlib.Core.List.{List}
 use lib.ListN.{take}
@@ -10,6 +10,3 @@ use Rattle.timeline_code.proofs.ticks.state_at.Given as goal
 
 abbrev pub invariant-loop-now : goal.invariant-loop-now
 invariant-loop-now l = (l.now ≤ l.time) × ((js : List Job) → take l.count l.initial.state ≡ started js → take l.count l.state ≡ state_at l.now js)
-
-abbrev pub decreases-loop-now : goal.decreases-loop-now
-decreases-loop-now l = l.time - l.now
