@@ -6,6 +6,7 @@ use mathlib.Core.List.{List, map}
 use mathlib.Core.Bool.{Bool, true, false, cond}
 use native.Mathlib.Omega.{arith}
 use lib.ListN.{length}
+use Rattle.std.specs.Option.{is_some, unwrap_or}
 use Rattle.system.specs.declared.Refusal.{Refusal}
 use Rattle.system.specs.declared.Refusal.TheVariants.{Input, State}
 use Rattle.system.specs.Limits.{engine_limit}
@@ -146,21 +147,21 @@ module _ (b : Board) (t : ℕ) (table : Lent) (p : Option ℕ) (r : Turn) where
 
 -- main: a load placed or not
 
-placed-flag : (q : Bool) (one none : Placement) → one.placed ≡ true → none.placed ≡ false → (cond q one none).placed ≡ q
-placed-flag true one none h k = h
-placed-flag false one none h k = k
+placed-flag : (q : Bool) (one : Placement) → is_some (cond q (Some one) None) ≡ q
+placed-flag true one = refl
+placed-flag false one = refl
 
-module _ (b : Board) (x : List ℕ) (found : Placement) (e : found ≡ placement b.system (engines_of b) x) where
-  pub found-placed : found.placed ≡ placeable b.system (engines_of b) x
+module _ (b : Board) (x : List ℕ) (found : Option Placement) (e : found ≡ placement b.system (engines_of b) x) where
+  pub found-placed : is_some found ≡ placeable b.system (engines_of b) x
   unfolding placement
-  found-placed = ap (λ (p : Placement). p.placed) e ∙ placed-flag (placeable b.system (engines_of b) x) _ _ refl refl
+  found-placed = ap is_some e ∙ placed-flag (placeable b.system (engines_of b) x) _
 
   module _ (table : Lent) (r : Turn) (after : Lent) (f : after ≡ filled b.system (engines_of b) table) where
-    pub reseated-placed : found.placed ≡ true → r.answer ≡ (Ok None) → r.board ≡ record { system = b.system; loads = found.loads; marks = b.marks } → Does (reseated b x table) r after
+    pub reseated-placed : (p : Placement) → found ≡ Some p → r.answer ≡ (Ok None) → r.board ≡ record { system = b.system; loads = p.loads; marks = b.marks } → Does (reseated b x table) r after
     unfolding reseated placement
-    reseated-placed h a s =
-        let can : placeable b.system (engines_of b) x ≡ true = sym found-placed ∙ h in
-        let same : found.loads ≡ map (engine_with b.system) (recovered_for engine_limit b.system (engines_of b) x) = ap (λ (p : Placement). p.loads) e ∙ rw can in
+    reseated-placed p h a s =
+        let can : placeable b.system (engines_of b) x ≡ true = sym found-placed ∙ ap is_some h in
+        let same : p.loads ≡ map (engine_with b.system) (recovered_for engine_limit b.system (engines_of b) x) = ap (λ (o : Option Placement). (unwrap_or o p).loads) (sym h ∙ e) ∙ rw can in
         rw can
         (record {
           answer = ap outcome_of a;
@@ -168,15 +169,15 @@ module _ (b : Board) (x : List ℕ) (found : Placement) (e : found ≡ placement
           table = f;
         })
 
-    pub reseated-none : found.placed ≡ false → r.answer ≡ Err (State 24) → r.board ≡ b → Does (reseated b x table) r after
+    pub reseated-none : found ≡ None → r.answer ≡ Err (State 24) → r.board ≡ b → Does (reseated b x table) r after
     unfolding reseated
     reseated-none h a s =
-        let cannot : placeable b.system (engines_of b) x ≡ false = sym found-placed ∙ h in
+        let cannot : placeable b.system (engines_of b) x ≡ false = sym found-placed ∙ ap is_some h in
         rw cannot (record { answer = ap outcome_of a; board = s; table = f })
 
 -- no engine takes the newcomer: 23 or 24
-module _ (b : Board) (t : ℕ) (found : Placement) (e : found ≡ placement b.system (engines_of b) (with_newcomer b t)) (table : Lent) (r : Turn) (after : Lent) where
-  pub crowded-by : (q : Bool) → found.placed ≡ q → after ≡ filled b.system (engines_of b) table → r.answer ≡ Err (State (cond q 23 24)) → r.board ≡ b → Does (crowded b t table) r after
+module _ (b : Board) (t : ℕ) (found : Option Placement) (e : found ≡ placement b.system (engines_of b) (with_newcomer b t)) (table : Lent) (r : Turn) (after : Lent) where
+  pub crowded-by : (q : Bool) → is_some found ≡ q → after ≡ filled b.system (engines_of b) table → r.answer ≡ Err (State (cond q 23 24)) → r.board ≡ b → Does (crowded b t table) r after
   crowded-by q h f a s =
       let same : q ≡ placeable b.system (engines_of b) (with_newcomer b t) = sym h ∙ found-placed b (with_newcomer b t) found e in
       record { answer = ap outcome_of a ∙ ap (λ (z : Bool). refused from_state (cond z 23 24)) same; board = s; table = f }

@@ -47,16 +47,14 @@ fn ceiling_check(b: Board, t: usize) -> Result<(), Refusal>
     ensures { checked_of result ≡ ceiling_check b t }
 {
     let i = t - 1;
-    let types = b.system.types;
-    let task = types[i];
     let counts = state::standing_counts(b);
-    if counts[i] < task.ceiling {
+    if counts[i] < b.system.types[i].ceiling {
         return Ok(());
     }
     Err(Refusal::State(21))
 }
 
-// 22: engine e holds none of type t.
+// 22: engine e holds none of type t. What is asked here is asked at `load_without` and `leave` too: a check that has passed answers nothing that could hold it.
 fn held_check(b: Board, t: usize, e: usize) -> Result<(), Refusal>
     requires { OnEngine b e × (known_type b.system t ≡ true) }
     ensures { checked_of result ≡ held_check b t e }
@@ -74,8 +72,7 @@ fn state_check(b: Board, e: usize, out: bool) -> Result<(), Refusal>
     requires { OnEngine b e }
     ensures { checked_of result ≡ state_check b e out }
 {
-    let marked = state::marked(b, e);
-    if (out & !marked) | (!out & marked) {
+    if state::marked(b, e) != out {
         return Ok(());
     }
     Err(Refusal::State(36))

@@ -28,7 +28,7 @@ fn zero_engine(l: EngineLoad) -> bool
     (l.time == 0) & (l.memory == 0) & loads_code::holds_none(l.counts)
 }
 
-// The first m engines are true, the others 0.
+// The first m engines are true, the others 0. A board has its loads apart from its marks: this is asked of a sheet's loads too, which have no marks.
 pub fn true_loads(y: System, loads: [EngineLoad; ENGINE_LIMIT]) -> bool
     ensures { result ≡ true_loads y y.engines loads }
 {
@@ -45,7 +45,7 @@ fn true_at(y: System, i: usize, l: EngineLoad) -> bool
     zero_engine(l)
 }
 
-// Engine e is marked.
+// Engine e is marked. The bound of e stands in each contract about one engine: the calls take any number, and refuse 14 where it is no engine's.
 pub(crate) fn marked(b: Board, e: usize) -> bool
     requires { (1 ≤ e) × (e ≤ engine_limit) }
     ensures { result ≡ marked b e }
@@ -53,7 +53,7 @@ pub(crate) fn marked(b: Board, e: usize) -> bool
     b.marks[e - 1]
 }
 
-// Where engine e is marked, it is one of the engines 1 to m and holds nothing.
+// Where engine e is marked, it is one of the engines 1 to m and holds nothing. Its first answer is what edit `mark_past_m` turns.
 fn mark_true(b: Board, e: usize) -> bool
     requires { (1 ≤ e) × (e ≤ engine_limit) }
     ensures { result ≡ mark_true b e }

@@ -40,10 +40,7 @@ pub fn engines_of(b: Board) -> Engines
             count += 1;
         }
     }
-    Engines {
-        count: count,
-        numbers: numbers,
-    }
+    Engines { count, numbers }
 }
 
 // A refusal hands back the board as it was given.
@@ -83,7 +80,7 @@ fn takes_it(b: Board, t: usize, e: usize) -> bool
     loads_code::fits_engine(b.system, load_with(b, t, e))
 }
 
-// The lowest-numbered engine that takes a newcomer of type t.
+// The lowest-numbered engine that takes a newcomer of type t. A closure for `find` would have to ask once more what `takes_it` asks of an engine.
 pub fn first_engine(b: Board, t: usize) -> Option<usize>
     requires { CheckedNewcomer b t }
     ensures { result ≡ first_engine b t }
@@ -149,10 +146,9 @@ pub fn reseat(
     requires { (true_board b ≡ true) × (long_enough b.system (lent rows.old predecessors.old) ≡ true) × (within counts (ceilings_of b.system) ≡ true) }
     ensures { Does (reseated b counts (lent rows.old predecessors.old)) result (lent rows.new predecessors.new) }
 {
-    let found = table_code::place(rows, predecessors, b.system, engines_of(b), counts);
-    if !found.placed {
+    let Some(found) = table_code::place(rows, predecessors, b.system, engines_of(b), counts) else {
         return refuse(b, Refusal::State(24));
-    }
+    };
     let loads = found.loads;
     Turn {
         answer: Ok(None),
@@ -168,7 +164,7 @@ pub fn no_engine(b: Board, t: usize, rows: &mut [u16], predecessors: &mut [u16])
     let counts = with_newcomer(b, t);
     let engines = engines_of(b);
     let found = table_code::place(rows, predecessors, b.system, engines, counts);
-    if found.placed {
+    if found.is_some() {
         return refuse(b, Refusal::State(23));
     }
     refuse(b, Refusal::State(24))

@@ -1,10 +1,11 @@
 // Document 01's ledger with the marks of request 2026-07, kept from the calls alone: the system, what each engine holds, and whether it is
 // marked. Whether a good assignment to the engines in service exists is tried out. Each call takes besides whether its table is long
-// enough, and answers with the codes of `trial::say::code_of`.
+// enough.
 use crate::{recovery, search};
 use loads::EngineLoad;
-use system::{ENGINE_LIMIT, System};
+use system::{Answer, ENGINE_LIMIT, Refusal, System};
 
+// Loads and marks stand apart, as a board has them, so that each is compared whole.
 #[derive(Clone, Copy)]
 pub struct Ledger {
     pub system: System,
@@ -12,10 +13,10 @@ pub struct Ledger {
     pub marks: [bool; ENGINE_LIMIT],
 }
 
-// What a call is answered, and the ledger after it. The answer stays a code, as an Answer is no plainer: the trials count and print answers by it.
+// What a call is answered, and the ledger after it.
 #[derive(Clone, Copy)]
 pub struct Entry {
-    pub code: usize,
+    pub answer: Answer,
     pub ledger: Ledger,
 }
 
@@ -30,7 +31,7 @@ pub enum Kind {
     Restore,
 }
 
-// A call, with its type and engine number where it has them.
+// A call, with its type and engine number where it has them. Its kind stands apart from them, as calls are counted and printed by it.
 #[derive(Clone, Copy)]
 pub struct Call {
     pub kind: Kind,
@@ -38,6 +39,7 @@ pub struct Call {
     pub engine: usize,
 }
 
+// The ledger of a fresh board, written apart from the code under test.
 pub fn fresh(y: System) -> Ledger {
     Ledger {
         system: y,
@@ -48,14 +50,17 @@ pub fn fresh(y: System) -> Ledger {
 
 // An accepted call without a number, and the ledger after it.
 fn accepted(ledger: Ledger) -> Entry {
-    Entry { code: 0, ledger }
+    Entry {
+        answer: Ok(None),
+        ledger,
+    }
 }
 
 fn at(load: [usize; 8], i: usize) -> usize {
     load.get(i).copied().unwrap_or(0)
 }
 
-// The load with one more, or one less, of the type at index t.
+// The load with one more, or one less, of the type at index t: the step alone is another, and as a number to add it would say less.
 fn one_more(mut load: [usize; 8], t: usize) -> [usize; 8] {
     if let Some(count) = load.get_mut(t) {
         *count = count.wrapping_add(1);
@@ -85,21 +90,9 @@ fn with_load(mut l: Ledger, e: usize, load: [usize; 8]) -> Ledger {
     l
 }
 
-fn plus(mut a: [usize; 8], b: [usize; 8]) -> [usize; 8] {
-    for (sum, count) in a.iter_mut().zip(b) {
-        *sum = sum.wrapping_add(count);
-    }
-    a
-}
-
 // What stands: the sum over the engines.
 fn standing(l: Ledger) -> [usize; 8] {
-    let mut sum = [0; 8];
-    for load in &l.loads {
-        let next = plus(sum, search::digits_of(load.counts));
-        sum = next;
-    }
-    sum
+    recovery::instances(l.loads)
 }
 
 // Whether the engine at index e is marked.
@@ -129,11 +122,10 @@ pub fn in_service(l: Ledger) -> System {
 // Each row on its engine: an engine in service gets the next row, a marked one nothing.
 fn on_engines(l: Ledger, rows: [EngineLoad; ENGINE_LIMIT]) -> [EngineLoad; ENGINE_LIMIT] {
     let mut loads = [recovery::idle(); ENGINE_LIMIT];
-    let mut row: usize = 0;
+    let mut left = rows.iter();
     for (e, load) in loads.iter_mut().enumerate() {
         if serves(l, e) {
-            *load = rows.get(row).copied().unwrap_or(recovery::idle());
-            row = row.wrapping_add(1);
+            *load = left.next().copied().unwrap_or(recovery::idle());
         }
     }
     loads
@@ -154,85 +146,79 @@ fn known(number: usize, last: usize) -> bool {
 }
 
 // The index of a newcomer's type, or what it is refused with before it is looked for an engine: 13, 11, 21, in this order.
-fn newcomer(l: Ledger, task: usize, long: bool) -> Result<usize, usize> {
+fn newcomer(l: Ledger, task: usize, long: bool) -> Result<usize, Refusal> {
     let y = l.system;
     if !known(task, y.typecount) {
-        return Err(113);
+        return Err(Refusal::Input(13));
     }
     if !long {
-        return Err(111);
+        return Err(Refusal::Input(11));
     }
     let t = task.wrapping_sub(1);
     let ceilings = search::digits_of(recovery::ceilings_of(y));
     if at(ceilings, t) <= at(standing(l), t) {
-        return Err(221);
+        return Err(Refusal::State(21));
     }
     Ok(t)
 }
 
 // The index of the first engine in service whose load with the newcomer fits.
 fn first_engine(l: Ledger, t: usize) -> Option<usize> {
-    for e in 0..ENGINE_LIMIT {
-        if serves(l, e) && search::fits_one(l.system, one_more(load_at(l, e), t)) {
-            return Some(e);
-        }
-    }
-    None
+    (0..ENGINE_LIMIT).find(|e| serves(l, *e)
+        && search::fits_one(l.system, one_more(load_at(l, *e), t)))
 }
 
-fn admit(l: Ledger, task: usize, long: bool) -> Result<Entry, usize> {
+fn admit(l: Ledger, task: usize, long: bool) -> Result<Entry, Refusal> {
     let t = newcomer(l, task, long)?;
     if let Some(e) = first_engine(l, t) {
         return Ok(Entry {
-            code: e.wrapping_add(1001),
+            answer: Ok(Some(e.wrapping_add(1))),
             ledger: with_load(l, e, one_more(load_at(l, e), t)),
         });
     }
-    Err(if room_on(in_service(l), l, t) {
-        223
-    } else {
-        224
-    })
+    Err(Refusal::State(if room_on(in_service(l), l, t) { 23 } else { 24 }))
 }
 
 // The counts become the recovery of a load, where a good assignment of it exists.
-fn recovered(l: Ledger, load: [usize; 8]) -> Result<Entry, usize> {
-    let r = recovery::recovered(in_service(l), recovery::counts_of(load)).ok_or(224usize)?;
+fn recovered(l: Ledger, load: [usize; 8]) -> Result<Entry, Refusal> {
+    let r = recovery::recovered(in_service(l), recovery::counts_of(load)).ok_or(Refusal::State(
+        24,
+    ))?;
     Ok(accepted(Ledger {
         loads: on_engines(l, r.loads),
         ..l
     }))
 }
 
-fn seat(l: Ledger, task: usize, long: bool) -> Result<Entry, usize> {
+fn seat(l: Ledger, task: usize, long: bool) -> Result<Entry, Refusal> {
     let t = newcomer(l, task, long)?;
     recovered(l, one_more(standing(l), t))
 }
 
 // The index of an engine of the system, or that there is none.
-fn engine_at(l: Ledger, engine: usize) -> Result<usize, usize> {
+fn engine_at(l: Ledger, engine: usize) -> Result<usize, Refusal> {
     if !known(engine, l.system.engines) {
-        return Err(114);
+        return Err(Refusal::Input(14));
     }
     Ok(engine.wrapping_sub(1))
 }
 
-fn retire(l: Ledger, task: usize, engine: usize) -> Result<Entry, usize> {
+fn retire(l: Ledger, task: usize, engine: usize) -> Result<Entry, Refusal> {
     if !known(task, l.system.typecount) {
-        return Err(113);
+        return Err(Refusal::Input(13));
     }
     let e = engine_at(l, engine)?;
     let t = task.wrapping_sub(1);
     let load = load_at(l, e);
     if at(load, t) == 0 {
-        return Err(222);
+        return Err(Refusal::State(22));
     }
     Ok(accepted(with_load(l, e, one_less(load, t))))
 }
 
-fn repack(l: Ledger, long: bool) -> Result<Entry, usize> {
+fn repack(l: Ledger, long: bool) -> Result<Entry, Refusal> {
     if !long {
-        return Err(111);
+        return Err(Refusal::Input(11));
     }
     recovered(l, standing(l))
 }
@@ -250,21 +236,21 @@ pub fn holds(l: Ledger, e: usize) -> bool {
     load_at(l, e) != [0; 8]
 }
 
-fn withdraw(l: Ledger, engine: usize) -> Result<Entry, usize> {
+fn withdraw(l: Ledger, engine: usize) -> Result<Entry, Refusal> {
     let e = engine_at(l, engine)?;
     if marked(l, e) {
-        return Err(236);
+        return Err(Refusal::State(36));
     }
     if holds(l, e) {
-        return Err(235);
+        return Err(Refusal::State(35));
     }
     Ok(accepted(with_mark(l, e, true)))
 }
 
-fn restore(l: Ledger, engine: usize) -> Result<Entry, usize> {
+fn restore(l: Ledger, engine: usize) -> Result<Entry, Refusal> {
     let e = engine_at(l, engine)?;
     if !marked(l, e) {
-        return Err(236);
+        return Err(Refusal::State(36));
     }
     Ok(accepted(with_mark(l, e, false)))
 }
@@ -279,5 +265,8 @@ pub fn entered(l: Ledger, c: Call, long: bool) -> Entry {
         Kind::Withdraw => withdraw(l, c.engine),
         Kind::Restore => restore(l, c.engine),
     };
-    entry.unwrap_or_else(|code| Entry { code, ledger: l })
+    entry.unwrap_or_else(|why| Entry {
+        answer: Err(why),
+        ledger: l,
+    })
 }

@@ -1,20 +1,24 @@
 // Document 01's recovery, with "row i says yes" decided by trying every assignment to i engines.
-ghost use Rattle.std.specs.Prelude.{◌<◌};
-
 use crate::search;
-use crate::search::Odometer;
 use loads::EngineLoad;
 use std::array;
 use system::{COLUMN_LIMIT, ENGINE_LIMIT, System, TYPE_LIMIT};
 
-// How many engines the recovery uses, and what each holds.
+// How many engines the recovery uses, and what each holds: all sixteen places, as a plan hands them out, so that they are compared whole.
 #[derive(Clone, Copy)]
 pub struct Recovery {
     pub used: usize,
     pub loads: [EngineLoad; ENGINE_LIMIT],
 }
 
-// The load a less the load b.
+// The load a with the load b, and the load a less the load b.
+fn plus(mut a: [usize; 8], b: [usize; 8]) -> [usize; 8] {
+    for (sum, count) in a.iter_mut().zip(b) {
+        *sum = sum.wrapping_add(count);
+    }
+    a
+}
+
 fn less(mut a: [usize; 8], b: [usize; 8]) -> [usize; 8] {
     for (count, gone) in a.iter_mut().zip(b) {
         *count = count.saturating_sub(gone);
@@ -32,12 +36,13 @@ fn predecessor(y: System, load: [usize; 8], rows: usize) -> [usize; 8] {
     let bases = bases_of(load);
     let mut digits = [0; 8];
     for _ in 0..COLUMN_LIMIT {
-        if search::fits_one(y, less(load, digits)) {
-            if search::fewest_on(y, digits, rows).is_some() {
-                return digits;
-            }
+        if search::fits_one(y, less(load, digits)) && search::fewest_on(y, digits, rows).is_some() {
+            return digits;
         }
-        digits = search::counted_up(digits, bases).digits;
+        let Some(next) = search::counted_up(digits, bases) else {
+            return load;
+        };
+        digits = next;
     }
     load
 }
@@ -50,15 +55,15 @@ pub fn ceilings_of(y: System) -> [u16; TYPE_LIMIT] {
 // The column of a load within the ceilings: how many loads are counted through before it. All of them, where it is none of them.
 pub fn column_of(y: System, load: [usize; 8]) -> usize {
     let bases = bases_of(search::digits_of(ceilings_of(y)));
-    let mut at = Odometer {
-        digits: [0; 8],
-        wrapped: false,
-    };
+    let mut digits = [0; 8];
     for column in 0..COLUMN_LIMIT {
-        if at.wrapped | (at.digits == load) {
+        if digits == load {
             return column;
         }
-        at = search::counted_up(at.digits, bases);
+        let Some(next) = search::counted_up(digits, bases) else {
+            return column + 1;
+        };
+        digits = next;
     }
     COLUMN_LIMIT
 }
@@ -68,7 +73,7 @@ pub fn columns_of(y: System) -> usize {
     column_of(y, [9; 8])
 }
 
-// What document 01's row holds at the column of a load: 65,535 where no assignment to that many engines is good.
+// What document 01's row holds at the column of a load: 65,535 where no assignment to that many engines is good, as the document has it, and no Option.
 pub fn cell_of(y: System, row: usize, load: [usize; 8]) -> usize {
     if search::fewest_on(y, load, row).is_none() {
         return 65535;
@@ -79,7 +84,7 @@ pub fn cell_of(y: System, row: usize, load: [usize; 8]) -> usize {
     column_of(y, predecessor(y, load, row - 1))
 }
 
-// What the two parts hold at the column of a load.
+// What the two parts hold at the column of a load, in the numbers that stand there.
 #[derive(Clone, Copy)]
 pub struct Entry {
     pub row: usize,
@@ -110,24 +115,20 @@ pub fn right_parts(y: System, none: usize, rows: [u16; 512], predecessors: [u16;
     for (row, predecessor) in rows.iter().zip(&predecessors) {
         let e = entry_of(y, none, load);
         right = right & (usize::from(*row) == e.row) & (usize::from(*predecessor) == e.predecessor);
-        let next = search::counted_up(load, bases);
-        if next.wrapped {
+        let Some(next) = search::counted_up(load, bases) else {
             return right;
-        }
-        load = next.digits;
+        };
+        load = next;
     }
     right
 }
 
-// The instances of the type at index t on all engines.
-pub fn instances(loads: [EngineLoad; ENGINE_LIMIT], t: usize) -> usize
-    requires { t < 6 }
-{
-    let mut sum: usize = 0;
-    for load in &loads {
-        sum = sum.wrapping_add(usize::from(load.counts[t]));
-    }
-    sum
+// The instances of each type on all engines, as a load.
+pub fn instances(loads: [EngineLoad; ENGINE_LIMIT]) -> [usize; 8] {
+    loads.iter().fold(
+        [0; 8],
+        |sum, load| plus(sum, search::digits_of(load.counts)),
+    )
 }
 
 // A load as six counts, of which none is above 65,535.

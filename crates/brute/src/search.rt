@@ -1,6 +1,5 @@
 // Every assignment of a few single instances to a few engines, tried one after the other, with sums over single instances.
-ghost use Rattle.std.specs.Prelude.{◌<◌};
-
+use loads::Sums;
 use std::array;
 use system::{System, TYPE_LIMIT};
 
@@ -41,20 +40,6 @@ impl Engine {
     }
 }
 
-// A number of eight digits, and whether the last step took it from its largest value back to 0. No Option, which is no plainer: `predecessor` counts on
-// from that 0.
-#[derive(Clone, Copy)]
-pub struct Odometer {
-    pub digits: [usize; 8],
-    pub wrapped: bool,
-}
-
-pub fn wide(count: u16) -> usize
-    ensures { result < 65536 }
-{
-    usize::from(count)
-}
-
 // Six counts as eight digits, the last two 0.
 pub fn digits_of(counts: [u16; TYPE_LIMIT]) -> [usize; 8] {
     let mut digits = [0; 8];
@@ -64,26 +49,20 @@ pub fn digits_of(counts: [u16; TYPE_LIMIT]) -> [usize; 8] {
     digits
 }
 
-// The next number, digit i below bases[i], the first digit moving fastest.
-pub fn counted_up(mut digits: [usize; 8], bases: [usize; 8]) -> Odometer {
+// The next number of eight digits, digit i below bases[i], the first digit moving fastest; None after the largest.
+pub fn counted_up(mut digits: [usize; 8], bases: [usize; 8]) -> Option<[usize; 8]> {
     for (i, base) in bases.iter().enumerate() {
         digits[i] = digits[i].wrapping_add(1);
         if digits[i] < *base {
-            return Odometer {
-                digits,
-                wrapped: false,
-            };
+            return Some(digits);
         }
         digits[i] = 0;
     }
-    Odometer {
-        digits,
-        wrapped: true,
-    }
+    None
 }
 
 // The type, counted from 0, of single instance j, where those of type 1 come first; none where there are fewer.
-fn kind_of(load: [usize; 8], j: usize) -> Option<usize> {
+pub fn kind_of(load: [usize; 8], j: usize) -> Option<usize> {
     let mut passed: usize = 0;
     for (t, count) in load.iter().take(TYPE_LIMIT).enumerate() {
         passed = passed.wrapping_add(*count);
@@ -95,7 +74,7 @@ fn kind_of(load: [usize; 8], j: usize) -> Option<usize> {
 }
 
 // The types of the first eight single instances.
-fn kinds_of(load: [usize; 8]) -> [Option<usize>; 8] {
+pub fn kinds_of(load: [usize; 8]) -> [Option<usize>; 8] {
     array::from_fn(|j| kind_of(load, j))
 }
 
@@ -129,12 +108,11 @@ fn used_by(y: System, kinds: [Option<usize>; 8], engines: [usize; 8]) -> Option<
     )
 }
 
-// The smaller of two numbers of engines, where there are two.
-fn least(a: Option<usize>, b: Option<usize>) -> Option<usize> {
+// The least of two, where there are two.
+pub fn least<T: Ord + Copy>(a: Option<T>, b: Option<T>) -> Option<T> {
     match (a, b) {
-        (Some(m), Some(n)) => Some(m.min(n)),
-        (Some(m), None) => Some(m),
-        (None, n) => n,
+        (Some(one), Some(other)) => Some(one.min(other)),
+        (one, other) => one.or(other),
     }
 }
 
@@ -147,11 +125,10 @@ fn fewest_tried(y: System, load: [usize; 8], engines: usize) -> Option<usize> {
     let mut best = None;
     for _ in 0..65536usize {
         best = least(best, used_by(y, kinds, digits));
-        let next = counted_up(digits, bases);
-        if next.wrapped {
+        let Some(next) = counted_up(digits, bases) else {
             return best;
-        }
-        digits = next.digits;
+        };
+        digits = next;
     }
     best
 }
@@ -174,12 +151,6 @@ pub fn fewest(y: System, counts: [u16; TYPE_LIMIT]) -> Option<usize> {
 }
 
 // The time and memory of a load on one engine, instance by instance.
-#[derive(Clone, Copy)]
-pub struct Sums {
-    pub time: u64,
-    pub memory: u64,
-}
-
 pub fn sums_of(y: System, load: [usize; 8]) -> Sums {
     let held = holding(y, kinds_of(load), [0; 8]);
     Sums {

@@ -25,7 +25,8 @@ pub fn put_bytes(out: &mut [u8], at: usize, bytes: &[u8]) -> usize
     next
 }
 
-// Puts a number of two bytes, most significant byte first.
+// Puts a number of two bytes, most significant byte first. By division and not by `to_be_bytes`, here and below: edit `least_first` turns the two halves
+// together with those of `bytes2`. They stay two functions: one puts bytes, the other halves.
 pub fn put_two(out: &mut [u8], at: usize, n: u16) -> usize
     requires { at + 2 ≤ length out.old }
     ensures { Puts (bytes2 n) at out.old out.new result }
@@ -43,7 +44,7 @@ pub fn put_four(out: &mut [u8], at: usize, n: u32) -> usize
     put_two(out, next, (n % 65536) as u16)
 }
 
-// The smaller of two numbers: how much of what was read, or of a list, there is room for.
+// The smaller of two numbers: how much of what was read, or of a list, there is room for. `min` at its callers would say no more, and no less.
 pub fn least(a: usize, b: usize) -> usize
     ensures { result ≡ min a b }
 {

@@ -1,6 +1,7 @@
 -- The call from a board: what it promises, from what it answers and leaves by definition, and one law for each way in which it ends.
 -- Its checks are a seat's, so that the order of its refusals is that of a seat.
-use Rattle.std.proofs.Common.{Ok, Err}
+use Rattle.std.proofs.Common.{Option, Ok, Err}
+use Rattle.std.specs.Option.{is_some}
 use Prim.Native.Nat.{ℕ, ◌+◌, ◌-◌, ◌≤◌}
 use mathlib.Core.Path.{◌≡◌, refl, sym, ap, subst, ◌∙◌}
 use mathlib.Core.List.{List, [], ◌∷◌}
@@ -204,7 +205,7 @@ module _ (b : Board) (t : ℕ) (table : Lent) where
   cause-gives ok c same after full = record { answer = rw (← ok, same); left = rw (← ok) full }
 
 -- what the code hands out as the cause
-pub cause-found : (b : Board) (t engines : ℕ) (counts : List ℕ) {c : Cause} (found : Placement) → c ≡ cause_of b.system engines counts found.placed → engines ≡ length (engines_of b) → counts ≡ with_newcomer b t
+pub cause-found : (b : Board) (t engines : ℕ) (counts : List ℕ) {c : Cause} (found : Option Placement) → c ≡ cause_of b.system engines counts (is_some found) → engines ≡ length (engines_of b) → counts ≡ with_newcomer b t
     → found ≡ placement b.system (engines_of b) (with_newcomer b t) → c ≡ cause_on b.system (engines_of b) (with_newcomer b t)
 cause-found b t engines counts found is count same placed =
     is ∙ rw (count, same, found-placed b.system (engines_of b) (with_newcomer b t) found placed)

@@ -1,5 +1,6 @@
 -- The call from a file: what it promises, from what it answers and leaves by definition, and one law for each way in which it ends.
-use Rattle.std.proofs.Common.{Ok, Err}
+use Rattle.std.proofs.Common.{Option, None, Some, Ok, Err}
+use Rattle.std.specs.Option.{is_some}
 use Prim.Native.Nat.{ℕ, ◌≤◌}
 use mathlib.Core.Path.{◌≡◌, refl, sym, ap, subst, ◌∙◌}
 use mathlib.Core.List.{List, [], ◌∷◌}
@@ -45,13 +46,13 @@ pub not-refused : {A : Type 0} (c : Cause) (s : Source) (n : ℕ) → told c ≡
 not-refused c s n e = let z : ◌≡◌ {A = ℕ} 0 1 = cc in absurd (omega arith)
 
 -- a load is placed or not
-placed-flag : (q : Bool) (one none : Placement) → one.placed ≡ true → none.placed ≡ false → (cond q one none).placed ≡ q
-placed-flag true one none h k = h
-placed-flag false one none h k = k
+placed-flag : (q : Bool) (one : Placement) → is_some (cond q (Some one) None) ≡ q
+placed-flag true one = refl
+placed-flag false one = refl
 
-pub found-placed : (y : System) (es x : List ℕ) (found : Placement) → found ≡ placement y es x → found.placed ≡ placeable y es x
+pub found-placed : (y : System) (es x : List ℕ) (found : Option Placement) → found ≡ placement y es x → is_some found ≡ placeable y es x
 unfolding placement
-found-placed y es x found e = ap (λ (p : Placement). p.placed) e ∙ placed-flag (placeable y es x) _ _ refl refl
+found-placed y es x found e = ap is_some e ∙ placed-flag (placeable y es x) _
 
 -- main: a file that opens
 
@@ -152,7 +153,7 @@ module _ (x : Reading) (y : System) (is : x ≡ opened y) (table : Lent) where
   cause-gives passed c same after full = record { answer = rw (is, ← passed, same); left = rw (is, ← passed) full }
 
 -- what the code hands out as the cause
-pub cause-found : (y : System) (counts : List ℕ) {c : Cause} (found : Placement) → c ≡ cause_of y y.engines counts found.placed → counts ≡ ceilings_of y → found ≡ placement y (engines_to y.engines) (ceilings_of y)
+pub cause-found : (y : System) (counts : List ℕ) {c : Cause} (found : Option Placement) → c ≡ cause_of y y.engines counts (is_some found) → counts ≡ ceilings_of y → found ≡ placement y (engines_to y.engines) (ceilings_of y)
     → c ≡ cause_on y (engines_to y.engines) (ceilings_of y)
 cause-found y counts found is same placed =
     is ∙ rw (same, found-placed y (engines_to y.engines) (ceilings_of y) found placed, length-engines_to y.engines)

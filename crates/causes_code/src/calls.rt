@@ -25,7 +25,7 @@ pub fn why_no_plan(
     let engines = table_code::engines_to(y.engines);
     let counts = table_code::ceilings_of(y);
     let found = table_code::place(rows, predecessors, y, engines, counts);
-    Ok(cause_of(y, y.engines, counts, found.placed))
+    Ok(cause_of(y, y.engines, counts, found.is_some()))
 }
 
 // Why a board has no room for a newcomer of type t: the cause, 0 where it has; or refused 20, 13, 11, 21. The board is only read. The parts need not be clean;
@@ -43,5 +43,5 @@ pub fn why_no_room(
     let engines = board_code::engines_of(b);
     let counts = board_code::with_newcomer(b, t);
     let found = table_code::place(rows, predecessors, y, engines, counts);
-    Ok(cause_of(y, engines.count, counts, found.placed))
+    Ok(cause_of(y, engines.count, counts, found.is_some()))
 }

@@ -8,7 +8,7 @@ ghost use Rattle.causes.specs.Causes.{cause_number, unfit_at, lowest_unfit, over
 use causes::Cause;
 use system::{System, TYPE_LIMIT, TaskType};
 
-// The request's number of a cause: the request fixes the numbers, so they are written out.
+// The request's number of a cause: the request fixes the numbers, 0 for a load that has a place among them, so they are written out, and `Possible` is no None.
 pub fn cause_number(cause: Cause) -> u8
     ensures { result ≡ cause_number cause }
 {
@@ -53,7 +53,8 @@ fn lowest_unfit(y: System, counts: [u16; TYPE_LIMIT]) -> Option<usize>
 // rule 1): more than 2^32 = 4,294,967,296. The sums and the products that they are compared with are 64-bit numbers, which hold the sums of any six counts,
 // within the limits or not.
 
-// A total, of time or of memory, exceeds engines × what one of them has, U or S.
+// A total, of time or of memory, exceeds engines × what one of them has, U or S. The bound of the engines stands in four contracts here: a type for so small a
+// number would be taken apart at each product.
 fn short(engines: usize, cap: u32, total: u64) -> bool
     requires { engines ≤ engine_limit }
     ensures { result ≡ ltb (engines * cap) total }

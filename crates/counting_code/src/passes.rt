@@ -10,7 +10,7 @@ ghost use Rattle.counting.specs.Walk.{over_one, over_two, over_by, reach_by, hel
 use crate::chosen::{SIDE, chosen};
 use system::{System, TYPE_LIMIT};
 
-// What a pass goes by: the counts of the column that it is at, and the strides of the types.
+// What a pass goes by: the counts of the column that it is at, and the strides of the types. They stay two arrays: the strides are the same for all columns.
 #[derive(Clone, Copy)]
 pub struct Walk {
     pub columns: usize,
@@ -26,7 +26,8 @@ fn wide(count: u16) -> usize
     count as usize
 }
 
-// The strides of the types.
+// The strides of the types. That a system keeps the limits stands in the contracts of three functions that are handed one: a caller may make any System, so
+// that no invariant of it can say it.
 fn strides_of(y: System) -> [usize; TYPE_LIMIT]
     requires { keeps_limits y ≡ true }
     ensures { StridesOf y result }
@@ -35,7 +36,7 @@ fn strides_of(y: System) -> [usize; TYPE_LIMIT]
     let mut stride: usize = 1;
     for (t, task) in y.types.iter().enumerate() {
         strides[t] = stride;
-        stride = stride * (wide(task.ceiling) + 1);
+        stride *= wide(task.ceiling) + 1;
     }
     strides
 }
@@ -136,10 +137,10 @@ fn pass(part: &mut [u64], ways: &[u64], y: System, columns: usize)
     let strides = strides_of(y);
     for column in (0..columns).rev() {
         let walk = Walk {
-            columns: columns,
-            column: column,
+            columns,
+            column,
             counts: loads_code::load_of(y, column),
-            strides: strides,
+            strides,
         };
         part[column] = over_types(&part[..], ways, walk, TYPE_LIMIT - 1, 0);
     }

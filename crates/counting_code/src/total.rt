@@ -14,7 +14,7 @@ fn instances_of(y: System) -> usize
     y.types.iter().map(|task| task.ceiling as usize).sum()
 }
 
-// The base, at least 1, to the power `times`, where it does not pass 64 bits.
+// The base, at least 1, to the power `times`, where it does not pass 64 bits. `checked_pow` takes 32 bits of it: it would have to be asked that no bit is cut.
 fn power(base: u64, times: usize) -> Option<u64>
     requires { 1 ≤ base }
     ensures { result ≡ power_of base times }

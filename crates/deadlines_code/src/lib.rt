@@ -42,10 +42,7 @@ pub fn instances(counts: [u16; TYPE_LIMIT]) -> usize
 fn job_of_type(t: TaskType) -> Job
     ensures { result ≡ job_of_type t }
 {
-    match t.pace {
-        None => job_of(0, 0),
-        Some(c) => job_of(c.run, c.period),
-    }
+    t.pace.map_or(job_of(0, 0), |c| job_of(c.run, c.period))
 }
 
 // The jobs with `count` more of one kind from a place on.

@@ -21,7 +21,7 @@ const WATCHED_BYTES: usize = 9 + FILE_BYTES;
 // What `sheet_check` reads at most: two bytes with the length of the file, and 4,096 bytes each of the file and the sheet.
 const JOINED_BYTES: usize = 2 + 4096 + 4096;
 
-// The bytes that were read, 0 past them, and how many they are.
+// The bytes that were read, 0 past them, and how many they are. The two stay apart: each program hands both on, as `listing_read` and its like promise of them.
 #[derive(Clone, Copy)]
 pub struct Front<const N: usize> {
     pub bytes: [u8; N],
@@ -36,6 +36,7 @@ fn read_into(rt: &HostRuntime, bytes: &mut [u8]) -> usize
 {
     let mut reader = rt.reader();
     let mut done = 0;
+    // A read may give less than there is room for: how many reads there are is not known before.
     while done < bytes.len() {
         let n = reader.read(&mut bytes[done..]).unwrap_or(0);
         if n == 0 {

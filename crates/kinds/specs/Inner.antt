@@ -1,5 +1,5 @@
 -- What the functions that split and join rely on and promise. Inner contracts cite this; nothing here is part of a request.
-use Rattle.std.specs.Prelude.{ℕ, ◌+◌, ◌-◌, ◌*◌, ◌≤◌, ◌<◌, List, ◌++◌, true, cond, ◌&&◌, ◌≡◌, length, get_or, leb}
+use Rattle.std.specs.Prelude.{ℕ, ◌+◌, ◌-◌, ◌*◌, ◌≤◌, ◌<◌, List, ◌++◌, true, cond, ◌&&◌, ◌≡◌, length, get_or, leb, Option, None, Some}
 use Rattle.std.proofs.Math.Seq.{paste}
 use Rattle.system.specs.declared.System.{System}
 use Rattle.system.specs.Values.{ceilings_of}
@@ -9,7 +9,7 @@ use Rattle.partition.specs.Kinds.{no_split, engines_after}
 use Rattle.table.specs.declared.Placement.{Placement}
 use Rattle.table.specs.Chain.{PartsShow}
 use Rattle.kinds.specs.declared.Mixed.{Mixed}
-use Rattle.kinds.specs.Mixing.{padded, unmixed}
+use Rattle.kinds.specs.Mixing.{padded}
 
 -- partition's `split_cost`, of the rows a and b that the two kinds' columns have, of m and n engines
 unfoldable pub cost_of : ℕ → ℕ → ℕ → ℕ → ℕ
@@ -34,8 +34,8 @@ pub record BothShow (first second : System) (rows predecessors rows2 predecessor
   pub few : first.engines + second.engines ≤ engine_limit
 
 -- two placements as one, m being the number of engines of the first kind; nothing, where one of them places nothing
-unfoldable pub joined_placement : Placement → Placement → ℕ → Mixed
-joined_placement a b m =
-    cond (a.placed && b.placed)
-    (record { placed = true; used = a.used + b.used; numbers = padded 0 (engines_to a.used ++ engines_after m b.used); loads = paste a.loads a.used b.loads b.used })
-    unmixed
+unfoldable pub joined_placement : Option Placement → Option Placement → ℕ → Option Mixed
+joined_placement None b m = None
+joined_placement (Some a) None m = None
+joined_placement (Some a) (Some b) m =
+    Some (record { used = a.used + b.used; numbers = padded 0 (engines_to a.used ++ engines_after m b.used); loads = paste a.loads a.used b.loads b.used })

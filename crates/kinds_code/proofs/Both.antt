@@ -8,6 +8,7 @@ use borrow.Author.Tests.{leb-true, lt-ltb}
 use lib.ListN.{length, replicate, length-map, length-append}
 use lib.Seq.{paste, take_at}
 use lib.Dec.{leb}
+use Rattle.std.proofs.Common.{Option, None, Some}
 use Rattle.system.specs.declared.System.{System}
 use Rattle.system.specs.Values.{ceilings_of}
 use Rattle.system.specs.Limits.{engine_limit, columns}
@@ -19,7 +20,6 @@ use Rattle.partition.specs.Cell.{recovery}
 use Rattle.partition.specs.Kinds.{fewest_in, rest_of, no_split, split_cost, best_split}
 use Rattle.partition.proofs.Recovery.{length-recovery}
 use Rattle.table.specs.declared.Placement.{Placement}
-use Rattle.table.specs.Table.{unplaced}
 use Rattle.table.specs.Chain.{recovered_onto, rows_placed}
 use Rattle.kinds.specs.Mixing.{padded, mixed_placement}
 use Rattle.kinds.specs.Inner.{joined_placement}
@@ -39,8 +39,8 @@ unfolding recovered_onto recovery
 onto-idle y c = rw (length-loads y c) (rw (drop-replicate engine_limit (fewest_in y c) idle_engine))
 
 -- the placement, whether b says that the kind has engines enough
-abbrev placed_where : System → ℕ → Bool → Placement
-placed_where y c b = cond b (record { placed = true; used = fewest_in y c; loads = padded idle_engine (loads_at y c) }) unplaced
+abbrev placed_where : System → ℕ → Bool → Option Placement
+placed_where y c b = cond b (Some (record { used = fewest_in y c; loads = padded idle_engine (loads_at y c) })) None
 
 placed-column : (y : System) (c : ℕ) → c < columns y → rows_placed y y.engines (load_of (ceilings_of y) c) ≡ placed_where y c (leb (fewest_in y c) y.engines)
 unfolding rows_placed
@@ -75,7 +75,7 @@ module _ (first second : System) (few : first.engines + second.engines ≤ engin
   joined-where true false one other = rw (one, other)
   joined-where false b one other = rw one
 
-  pub both-joined : (a b : Placement) → best < columns first → rest < columns second → a ≡ rows_placed first first.engines (load_of (ceilings_of first) best)
+  pub both-joined : (a b : Option Placement) → best < columns first → rest < columns second → a ≡ rows_placed first first.engines (load_of (ceilings_of first) best)
       → b ≡ rows_placed second second.engines (load_of (ceilings_of second) rest) → joined_placement a b first.engines ≡ mixed_placement first second
   both-joined a b inside inside2 is_one is_other =
       rw (is_one, is_other, placed-column first best inside, placed-column second rest inside2)

@@ -1,10 +1,9 @@
 // The placements of two kinds of engine as one: the used engines of the first kind, then those of the second, whose numbers come after all engines of
 // the first.
-ghost use Rattle.std.specs.Prelude.{◌≡◌, ◌+◌, ◌≤◌};
+ghost use Rattle.std.specs.Prelude.{◌≡◌, ◌+◌, ◌≤◌, Some};
 ghost use Rattle.std.proofs.Math.Seq.{paste};
 ghost use Rattle.system.specs.Limits.{engine_limit};
 ghost use Rattle.partition.specs.Assignment.{numbers_from};
-ghost use Rattle.kinds.specs.Mixing.{unmixed};
 ghost use Rattle.kinds.specs.Inner.{joined_placement};
 
 use kinds::Mixed;
@@ -45,32 +44,16 @@ fn numbers_after(
     both
 }
 
-// Nothing is placed.
-fn none_placed() -> Mixed
-    ensures { result ≡ unmixed }
-{
-    Mixed {
-        placed: false,
-        used: 0,
-        numbers: [0; ENGINE_LIMIT],
-        loads: [loads_code::idle_engine(); ENGINE_LIMIT],
-    }
-}
-
-// Both placements as one, where there are both; m is the number of engines of the first kind.
+// Both placements as one; m is the number of engines of the first kind.
 pub(crate) fn joined(first: Placement, second: Placement, m: usize) -> Mixed
     requires { (first.used + second.used ≤ engine_limit) × (m ≤ engine_limit) }
-    ensures { result ≡ joined_placement first second m }
+    ensures { Some result ≡ joined_placement (Some first) (Some second) m }
 {
-    if !(first.placed & second.placed) {
-        return none_placed();
-    }
     let front = numbers_after([0; ENGINE_LIMIT], 0, 1, first.used);
     let numbers = numbers_after(front, first.used, m + 1, second.used);
     let loads = first.loads;
     let more = second.loads;
     Mixed {
-        placed: true,
         used: first.used + second.used,
         numbers,
         loads: loads_after(loads, first.used, more, second.used),

@@ -22,7 +22,7 @@ fn mixed_by(
     rows2: &[u16],
     predecessors2: &[u16],
     second: System,
-) -> Mixed
+) -> Option<Mixed>
     requires { BothShow first second rows.now predecessors.now rows2.now predecessors2.now }
     ensures { result ≡ mixed_placement first second }
 {
@@ -31,9 +31,9 @@ fn mixed_by(
     let rest = last - best;
     let given = loads_code::load_of(first, best);
     let left = loads_code::load_of(second, rest);
-    let one = table_code::placed_by(rows, predecessors, first, first.engines, given);
-    let other = table_code::placed_by(rows2, predecessors2, second, second.engines, left);
-    joining::joined(one, other, first.engines)
+    let one = table_code::placed_by(rows, predecessors, first, first.engines, given)?;
+    let other = table_code::placed_by(rows2, predecessors2, second, second.engines, left)?;
+    Some(joining::joined(one, other, first.engines))
 }
 
 // Places all instances on the engines of two kinds whose types have the same ceilings. The lent parts are filled for the first kind; they hold one kind
@@ -43,7 +43,7 @@ pub fn place_mixed(
     predecessors: &mut [u16],
     first: System,
     second: System,
-) -> Mixed
+) -> Option<Mixed>
     requires { MayMix first second (lent rows.old predecessors.old) }
     ensures { (lent rows.new predecessors.new
         ≡ filled_to first first.engines (lent rows.old predecessors.old))

@@ -48,10 +48,7 @@ pub fn sums_of(y: System, counts: [u16; TYPE_LIMIT]) -> Sums
 fn apart_at(most: Option<u16>, count: u16) -> bool
     ensures { result ≡ apart_at most count }
 {
-    match most {
-        None => true,
-        Some(q) => count <= q,
-    }
+    most.is_none_or(|q| count <= q)
 }
 
 // Whether every count of a load keeps the q of its type.
@@ -137,7 +134,7 @@ fn base(ceiling: u16) -> usize
     ceiling as usize + 1
 }
 
-// A count as a number of columns.
+// A count as a number of columns. A function for its bound, which a cast in a sum does not state; crates above have their own, and none is public for it.
 fn wide(count: u16) -> usize
     ensures { (result ≡ count) × (result < 2 ^ 16) }
 {
@@ -151,7 +148,8 @@ fn digit(column: usize, ceiling: u16) -> u16
     (column % base(ceiling)) as u16
 }
 
-// The column that stands for a load.
+// The column that stands for a load. That the columns keep their limit stands in four contracts, here and in the crates above: a caller may hand in any System,
+// so that no invariant of it can say it.
 pub fn column_of(y: System, counts: [u16; TYPE_LIMIT]) -> usize
     requires { columns y ≤ column_limit }
     ensures { result ≡ column_of (ceilings_of y) counts }

@@ -31,7 +31,7 @@ fn power_within(top: u64, times: usize) -> bool
         if most / product <= top {
             return false;
         }
-        product = product * (top + 1);
+        product *= top + 1;
     }
     true
 }

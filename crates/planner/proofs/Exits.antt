@@ -1,8 +1,10 @@
 -- One law for each way in which a plan ends: what the code hands out there is what the plan is defined as.
-use Rattle.std.proofs.Common.{Ok, Err, Some}
+use Rattle.std.proofs.Common.{Option, None, Some, Result, Ok, Err}
+use Rattle.std.specs.Option.{ok_or, unwrap_or}
+use Rattle.std.specs.Result.{is_err, result_err}
 use Prim.Native.Nat.{ℕ}
 use mathlib.Core.Path.{◌≡◌, refl, sym, ap, ◌∙◌}
-use mathlib.Core.Bool.{Bool, true, false, true≢false}
+use mathlib.Core.Bool.{true, false, false≢true}
 use Rattle.system.specs.declared.System.{System}
 use Rattle.system.specs.declared.Opened.{Opened}
 use Rattle.system.specs.declared.Refusal.{Refusal}
@@ -15,6 +17,7 @@ use Rattle.system.proofs.Laws.{unread-with}
 use Rattle.partition.specs.Assignment.{engines_to}
 use Rattle.partition.specs.ForSystem.{placeable}
 use Rattle.partition.specs.Lent.{Lent}
+use Rattle.table.proofs.Placed.{placed-some, placed-none}
 use Rattle.table.specs.declared.Placement.{Placement}
 use Rattle.table.specs.Table.{filled, placement}
 use Rattle.planner.specs.declared.Plan.{Plan}
@@ -36,6 +39,12 @@ none_plan = refused_plan (Err (Input 12))
 
 abbrev given_plan : System → Placement → Plan
 given_plan y p = record { answer = Ok (Some p.used); used = p.used; typecount = y.typecount; numbers = engines_to engine_limit; loads = p.loads }
+
+-- ---- what `ok_or` refuses where nothing is placed
+
+pub refused-by : {T E : Type 0} (o : Option T) (e : E) {w : E} → ok_or o e ≡ Err w → (None ≡ o) × (w ≡ e)
+refused-by {T = T} {E = E} None e q = (refl, ap (λ (r : Result T E). unwrap_or (result_err r) e) (sym q))
+refused-by (Some y) e q = absurd (false≢true (ap is_err q))
 
 -- ---- a file that was refused
 
@@ -70,22 +79,18 @@ module _ (x : Reading) (y : System) (is : x ≡ opened y) (table : Lent) (room :
   lent-plans (State n) failed = plans-of _ (verdict-by _ failed) _ _ refl refl refl refl refl (table-by _ failed)
 
   -- with the placement of all instances
-  module _ (passed : passes ≡ lent_check y table room) (p : Placement) (same : p ≡ placement y (plan_engines y) (ceilings_of y)) where
-    pub none-plans : p.placed ≡ false → Plans x table room none_plan (filled y (plan_engines y) table)
+  module _ (passed : passes ≡ lent_check y table room) where
+    pub none-plans : None ≡ placement y (plan_engines y) (ceilings_of y) → Plans x table room none_plan (filled y (plan_engines y) table)
     unfolding placement
-    none-plans h = go (placeable y (plan_engines y) (ceilings_of y)) refl
-      where
-        go : (b : Bool) → placeable y (plan_engines y) (ceilings_of y) ≡ b → Plans x table room none_plan (filled y (plan_engines y) table)
-        go true can = absurd (true≢false (sym (ap (λ (q : Placement). q.placed) same ∙ rw can) ∙ h))
-        go false can = plans-of (unplanned from_input 12) (verdict-by passes passed ∙ rw can) _ _ refl refl refl refl refl (table-by passes passed)
+    none-plans h =
+        let cannot : placeable y (plan_engines y) (ceilings_of y) ≡ false = placed-none _ h in
+        plans-of (unplanned from_input 12) (verdict-by passes passed ∙ rw cannot) _ _ refl refl refl refl refl (table-by passes passed)
 
-    pub placed-plans : p.placed ≡ true → Plans x table room (given_plan y p) (filled y (plan_engines y) table)
+    pub placed-plans : (p : Placement) → Some p ≡ placement y (plan_engines y) (ceilings_of y) → Plans x table room (given_plan y p) (filled y (plan_engines y) table)
     unfolding placement
-    placed-plans h = go (placeable y (plan_engines y) (ceilings_of y)) refl
-      where
-        go : (b : Bool) → placeable y (plan_engines y) (ceilings_of y) ≡ b → Plans x table room (given_plan y p) (filled y (plan_engines y) table)
-        go false can = absurd (true≢false (sym h ∙ ap (λ (q : Placement). q.placed) same ∙ rw can))
-        go true can =
-            let used : p.used ≡ used_engines (planned y) = ap (λ (q : Placement). q.used) same ∙ rw can in
-            let loads : p.loads ≡ plan_loads (planned y) = ap (λ (q : Placement). q.loads) same ∙ rw can in
-            plans-of (planned y) (verdict-by passes passed ∙ rw can) _ _ (cc) used refl refl loads (table-by passes passed)
+    placed-plans p h =
+        let can : placeable y (plan_engines y) (ceilings_of y) ≡ true = (placed-some h).0 in
+        let same = (placed-some h).1 in
+        let used : p.used ≡ used_engines (planned y) = ap (λ (q : Placement). q.used) same in
+        let loads : p.loads ≡ plan_loads (planned y) = ap (λ (q : Placement). q.loads) same in
+        plans-of (planned y) (verdict-by passes passed ∙ rw can) _ _ (cc) used refl refl loads (table-by passes passed)

@@ -1,6 +1,6 @@
 -- Request 2026-13, the plan of a card of two kinds. Its verdict and the table after it go by four cases, each with its evidence in plain arithmetic (`mixed_case_of`); in each case the order of refusals and both demands are what
 -- partition proves of the card's two systems (`mixed-promises`). One law for each exit of `plan_mixed` says that what the code hands out there is the plan as it is defined.
-use Rattle.std.proofs.Common.{Ok, Err, Some}
+use Rattle.std.proofs.Common.{Ok, Err, Some, None}
 use Prim.Native.Nat.{ℕ, ◌+◌, ◌-◌, ◌<◌, ◌≤◌}
 use mathlib.Core.Path.{◌≡◌, refl, sym, ap, subst, ◌∙◌}
 use mathlib.Core.List.{List, [], ◌∷◌}
@@ -30,6 +30,7 @@ use Rattle.partition.specs.Plain.{ceiling_no, LongEnough, TooShort, record_no, H
 use Rattle.partition.specs.PlainKinds.{MixedPartition, MixedImpossible, MixedOnFewest}
 use Rattle.partition.proofs.Lists.{true-or-false, length-engines_to}
 use Rattle.partition.proofs.PlainKinds.{mixed-within, length-mixed_numbers, length-mixed_loads, mixed-on-fewest, mixed-six, mixed-impossible, mixed-past}
+use Rattle.table.proofs.Placed.{placed-some, placed-none}
 use Rattle.table.specs.Table.{long_enough, table_check, filled_to}
 use Rattle.table.specs.Meaning.{KeptPast}
 use Rattle.table.proofs.Room.{long-six, short-six}
@@ -77,18 +78,11 @@ idle-padded d l i few low =
 -- intermediate: a plan that is given
 
 module _ (y : System) (k : Kind) (card : TwoKindCard y k) (can : can_mix y k ≡ true) where
-  abbrev given : Mixed
-  given = record { placed = true; used = mixed_total y k; numbers = padded 0 (mixed_numbers (first_of y) (second_of y k)); loads = padded idle_engine (mixed_loads (first_of y) (second_of y k)) }
-
-  pub plan-is : mixed_plan y k ≡ given
-  unfolding mixed_placement
-  plan-is = rw can
-
   -- few enough for every list
   pub few-mixed : ((mixed_plan y k).used ≤ engine_limit) × ((mixed_plan y k).used ≤ y.engines + k.number)
   few-mixed =
       let few = mixed-within y k card.limits card.second can in
-      rw plan-is (omega (arith, few, both-engines y k card.limits card.second), few)
+      (omega (arith, few, both-engines y k card.limits card.second), few)
 
   total-few : mixed_total y k ≤ engine_limit
   total-few = omega (arith, mixed-within y k card.limits card.second can, both-engines y k card.limits card.second)
@@ -100,13 +94,13 @@ module _ (y : System) (k : Kind) (card : TwoKindCard y k) (can : can_mix y k ≡
   loads-few = omega (arith, length-mixed_loads y k card.limits card.second can, total-few)
 
   pub plan-sixteen : (length (mixed_plan y k).numbers ≡ engine_limit) × (length (mixed_plan y k).loads ≡ engine_limit)
-  plan-sixteen = rw plan-is (length-padded 0 (mixed_numbers (first_of y) (second_of y k)) numbers-few, length-padded idle_engine (mixed_loads (first_of y) (second_of y k)) loads-few)
+  plan-sixteen = (length-padded 0 (mixed_numbers (first_of y) (second_of y k)) numbers-few, length-padded idle_engine (mixed_loads (first_of y) (second_of y k)) loads-few)
 
   pub plan-fewest : MixedOnFewest y k (ceiling_no y) (mixed_plan y k).numbers (mixed_plan y k).loads (mixed_plan y k).used
-  plan-fewest = rw plan-is (mixed-on-fewest y k card.limits card.second can _ _)
+  plan-fewest = mixed-on-fewest y k card.limits card.second can _ _
 
   -- a used engine has six counts, and past these every load is the idle one
-  six-at : (i : ℕ) → 1 ≤ i → i ≤ engine_limit → length (record_no given.loads i).counts ≡ 6
+  six-at : (i : ℕ) → 1 ≤ i → i ≤ engine_limit → length (record_no (mixed_plan y k).loads i).counts ≡ 6
   six-at i low high =
       ⊎_elim (λ h. mixed-six y k card.limits card.second can [] _ i low (leb-true i (mixed_total y k) h))
       (λ h. ap (λ (l : EngineLoad). length l.counts)
@@ -115,21 +109,19 @@ module _ (y : System) (k : Kind) (card : TwoKindCard y k) (can : can_mix y k ≡
       (true-or-false (leb i (mixed_total y k)))
 
   pub plan-six : (i : ℕ) → 1 ≤ i → i ≤ engine_limit → length (record_no (mixed_plan y k).loads i).counts ≡ 6
-  plan-six i low high = rw plan-is (six-at i low high)
+  plan-six i low high = six-at i low high
 
   -- past the used engines nothing stands
   plan-idle : (i : ℕ) → (mixed_plan y k).used < i → HoldsNothing (record_no (mixed_plan y k).loads i)
   plan-idle i h =
-      let past : mixed_total y k < i = rw plan-is at h in
+      let past : mixed_total y k < i = h in
       nothing-at (mixed_plan y k).loads i
-      (ap (λ (m : Mixed). get_or m.loads (i - 1) idle_engine) plan-is
-      ∙ idle-padded idle_engine (mixed_loads (first_of y) (second_of y k)) (i - 1) loads-few (omega (arith, length-mixed_loads y k card.limits card.second can)))
+      (idle-padded idle_engine (mixed_loads (first_of y) (second_of y k)) (i - 1) loads-few (omega (arith, length-mixed_loads y k card.limits card.second can)))
 
   plan-unnumbered : (i : ℕ) → (mixed_plan y k).used < i → get_or (mixed_plan y k).numbers (i - 1) 0 ≡ 0
   plan-unnumbered i h =
-      let past : mixed_total y k < i = rw plan-is at h in
-      ap (λ (m : Mixed). get_or m.numbers (i - 1) 0) plan-is
-      ∙ idle-padded 0 (mixed_numbers (first_of y) (second_of y k)) (i - 1) numbers-few (omega (arith, length-mixed_numbers y k card.limits card.second can))
+      let past : mixed_total y k < i = h in
+      idle-padded 0 (mixed_numbers (first_of y) (second_of y k)) (i - 1) numbers-few (omega (arith, length-mixed_numbers y k card.limits card.second can))
 
   -- a load of no engine has no instance of a type past k either
   pub plan-past : (i t : ℕ) → 1 ≤ i → y.typecount < t → get_or (record_no (mixed_plan y k).loads i).counts (t - 1) 0 ≡ 0
@@ -291,25 +283,21 @@ module _ (y : System) (k : Kind) (card : TwoKindCard y k) (table : Lent) (room :
       }
 
   -- with the placement of all instances
-  module _ (passed : passes ≡ mixed_lent_check y k table room) (p : Mixed) (same : p ≡ mixed_plan y k) where
-    pub mixed-none : p.placed ≡ false → MixedPlans y k table room (refused_plan (Err (Input 12))) (filled_first y table)
+  module _ (passed : passes ≡ mixed_lent_check y k table room) where
+    pub mixed-none : None ≡ mixed_placement (first_of y) (second_of y k) → MixedPlans y k table room (refused_plan (Err (Input 12))) (filled_first y table)
     unfolding mixed_placement
-    mixed-none h = go (can_mix y k) refl
-      where
-        go : (b : Bool) → can_mix y k ≡ b → MixedPlans y k table room (refused_plan (Err (Input 12))) (filled_first y table)
-        go true can = absurd (true≢false (sym (ap (λ (q : Mixed). q.placed) same ∙ rw can) ∙ h))
-        go false can = plans-by (fails from_input 12) (checks-by passes passed ∙ rw can) _ _ refl refl refl refl refl (sym (table-by passes passed))
+    mixed-none h =
+        let cannot : can_mix y k ≡ false = placed-none _ h in
+        plans-by (fails from_input 12) (checks-by passes passed ∙ rw cannot) _ _ refl refl refl refl refl (sym (table-by passes passed))
 
     -- the plan that the code makes of it
-    abbrev handed : Plan
-    handed = record { answer = Ok (Some p.used); used = p.used; typecount = y.typecount; numbers = p.numbers; loads = p.loads }
+    abbrev handed : Mixed → Plan
+    handed p = record { answer = Ok (Some p.used); used = p.used; typecount = y.typecount; numbers = p.numbers; loads = p.loads }
 
-    pub mixed-placed : p.placed ≡ true → MixedPlans y k table room handed (filled_first y table)
+    pub mixed-placed : (p : Mixed) → Some p ≡ mixed_placement (first_of y) (second_of y k) → MixedPlans y k table room (handed p) (filled_first y table)
     unfolding mixed_placement
-    mixed-placed h = go (can_mix y k) refl
-      where
-        go : (b : Bool) → can_mix y k ≡ b → MixedPlans y k table room handed (filled_first y table)
-        go false can = absurd (true≢false (sym h ∙ ap (λ (q : Mixed). q.placed) same ∙ rw can))
-        go true can =
-            plans-by passes (checks-by passes passed ∙ rw can) handed _ (ap (λ (q : Mixed). accepted (q.used ∷ [])) same) (ap (λ (q : Mixed). q.used) same) refl
-            (ap (λ (q : Mixed). q.numbers) same) (ap (λ (q : Mixed). q.loads) same) (sym (table-by passes passed))
+    mixed-placed p h =
+        let can : can_mix y k ≡ true = (placed-some h).0 in
+        let same : p ≡ mixed_plan y k = (placed-some h).1 in
+        plans-by passes (checks-by passes passed ∙ rw can) (handed p) _ (ap (λ (q : Mixed). accepted (q.used ∷ [])) same) (ap (λ (q : Mixed). q.used) same) refl
+        (ap (λ (q : Mixed). q.numbers) same) (ap (λ (q : Mixed). q.loads) same) (sym (table-by passes passed))

@@ -13,7 +13,7 @@ use Rattle.partition.specs.Kinds.{mixed_placeable}
 use Rattle.partition.specs.Lent.{Lent}
 use Rattle.table.specs.Table.{table_check, filled_to}
 use Rattle.kinds.specs.declared.Mixed.{Mixed}
-use Rattle.kinds.specs.Mixing.{mixed_placement}
+use Rattle.kinds.specs.Mixing.{mixed_given}
 use Rattle.planner.specs.declared.EngineRecord.{EngineRecord}
 use Rattle.planner.specs.Plan.{verdict_of, used_engines, plan_outcome, planned_types, plan_loads, table_left, plan_table, records_with}
 
@@ -32,9 +32,9 @@ mixed_place_check y k = check (mixed_placeable (first_of y) (second_of y k)) fro
 abbrev pub mixed_checks : System → Kind → Lent → ℕ → Checked
 mixed_checks y k table room = and_then (mixed_lent_check y k table room) (mixed_place_check y k)
 
--- all instances placed on the engines of both kinds
+-- all instances placed on the engines of both kinds, where they can be
 abbrev pub mixed_plan : System → Kind → Mixed
-mixed_plan y k = mixed_placement (first_of y) (second_of y k)
+mixed_plan y k = mixed_given (first_of y) (second_of y k)
 
 -- the answer, the used engines, the number of types, the used engines' numbers and loads, where the checks say so: a refused plan has what one of one kind has
 abbrev pub mixed_outcome : System → Kind → Checked → Outcome

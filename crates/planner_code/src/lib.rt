@@ -31,7 +31,8 @@ fn put_records(list: &mut [EngineRecord], records: [EngineRecord; ENGINE_LIMIT],
     list[..used].copy_from_slice(&records[..used]);
 }
 
-// The records of engines with these numbers.
+// The records of engines with these numbers. A plan has numbers and loads apart, since a sheet, a run and theorem `PlanKeeps` (crate `clients`) take the loads
+// alone; no heap is used, so that arrays of 16 stand beside the number used.
 fn records_of(
     numbers: [usize; ENGINE_LIMIT],
     loads: [EngineLoad; ENGINE_LIMIT],
@@ -61,10 +62,7 @@ fn refused_plan(why: Refusal) -> Plan
 fn plan_from(planned: Result<Plan, Refusal>) -> Plan
     ensures { result ≡ plan_from planned }
 {
-    match planned {
-        Ok(plan) => plan,
-        Err(why) => refused_plan(why),
-    }
+    planned.unwrap_or_else(refused_plan)
 }
 
 // Refusal 15: a list of `room` records is shorter than the engines.
@@ -109,10 +107,13 @@ fn plan_one(
     let y = read.system;
     lent_check(y, rows.len(), predecessors.len(), y.engines, room)?;
     let engines = table_code::engines_to(y.engines);
-    let placement = table_code::place(rows, predecessors, y, engines, table_code::ceilings_of(y));
-    if !placement.placed {
-        return Err(Refusal::Input(12));
-    }
+    let placement = table_code::place(
+        rows,
+        predecessors,
+        y,
+        engines,
+        table_code::ceilings_of(y),
+    ).ok_or(Refusal::Input(12))?;
     let loads = placement.loads;
     Ok(Plan {
         answer: Ok(Some(placement.used)),
@@ -151,10 +152,9 @@ fn plan_mixed(
     )?;
     let first = system_code::first_kind(y);
     let second = system_code::second_kind(y, k);
-    let placed = kinds_code::place_mixed(rows, predecessors, first, second);
-    if !placed.placed {
-        return Err(Refusal::Input(12));
-    }
+    let placed = kinds_code::place_mixed(rows, predecessors, first, second).ok_or(Refusal::Input(
+        12,
+    ))?;
     let numbers = placed.numbers;
     let loads = placed.loads;
     Ok(Plan {

@@ -7,26 +7,22 @@ use making::Recipe;
 use recipes::NUMBERS;
 
 // The largest number of 8 bits, and of 32.
-const MOST_8: u64 = 255;
+const MOST_8: u64 = u8::MAX as u64;
 
-const MOST_32: u64 = 4294967295;
+const MOST_32: u64 = u32::MAX as u64;
 
 // A number as one of 8 bits: 255 where it is larger.
 fn eight(n: u64) -> u8
     ensures { result ≡ min n 255 }
 {
-    if n < MOST_8 { n as u8 } else { MOST_8 as u8 }
+    n.min(MOST_8) as u8
 }
 
-// A number as one of 32 bits: 4,294,967,295 where it is larger.
+// A number as one of 32 bits: 4,294,967,295 where it is larger. It is not one function with `eight`: a cast names its type.
 fn thirty_two(n: u64) -> u32
     ensures { result ≡ min n 4294967295 }
 {
-    if n < MOST_32 {
-        n as u32
-    } else {
-        MOST_32 as u32
-    }
+    n.min(MOST_32) as u32
 }
 
 // A number as a count, which has 64 bits too.

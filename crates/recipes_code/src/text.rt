@@ -1,4 +1,5 @@
 // The text of seven numbers, read byte by byte: each number is one digit or more, one space stands between two, and 0A ends the last. Nothing follows.
+// What the bytes come to keeps its flags, and a place past the last number for none: the definitions of crate `recipes` (specs/Digits) go by them.
 ghost use Rattle.std.specs.Prelude.{◌≡◌, ◌≤◌, ◌<◌};
 ghost use Rattle.recipes.specs.Digits.{begun, broken, with_digit, held, stored, takes_digit, ends_number, step, read_from};
 
@@ -11,7 +12,7 @@ const BROKEN: usize = 8;
 const LAST: usize = 6;
 
 // The largest number of 64 bits.
-const GREATEST: u64 = 18446744073709551615;
+const GREATEST: u64 = u64::MAX;
 
 // Before the first byte.
 fn begun() -> Progress
@@ -31,11 +32,8 @@ fn broken() -> Progress
     ensures { result ≡ broken }
 {
     Progress {
-        numbers: [0; NUMBERS],
         at: BROKEN,
-        value: 0,
-        over: false,
-        some: false,
+        ..begun()
     }
 }
 
@@ -44,15 +42,19 @@ fn with_digit(p: Progress, digit: u64) -> Progress
     requires { digit ≤ 9 }
     ensures { result ≡ with_digit p digit }
 {
-    let mut next = p;
-    next.some = true;
     if (GREATEST - digit) / 10 < p.value {
-        next.value = GREATEST;
-        next.over = true;
-        return next;
+        return Progress {
+            value: GREATEST,
+            over: true,
+            some: true,
+            ..p
+        };
     }
-    next.value = p.value * 10 + digit;
-    next
+    Progress {
+        value: p.value * 10 + digit,
+        some: true,
+        ..p
+    }
 }
 
 // The number that has ended, as it is kept. A seed may be any number of 64 bits but 0, so one that was cut must not become the largest of these: it is kept
@@ -72,15 +74,12 @@ fn stored(p: Progress) -> Progress
     requires { p.at < 7 }
     ensures { result ≡ stored p }
 {
-    let at = p.at;
     let mut numbers = p.numbers;
-    numbers[at] = held(p);
+    numbers[p.at] = held(p);
     Progress {
-        numbers: numbers,
-        at: at + 1,
-        value: 0,
-        over: false,
-        some: false,
+        numbers,
+        at: p.at + 1,
+        ..begun()
     }
 }
 
@@ -88,7 +87,7 @@ fn stored(p: Progress) -> Progress
 fn takes_digit(p: Progress, b: u8) -> bool
     ensures { result ≡ takes_digit p b }
 {
-    (b'0' <= b) & (b <= b'9') & (p.at < NUMBERS)
+    b.is_ascii_digit() & (p.at < NUMBERS)
 }
 
 // The byte ends a number that has a digit.

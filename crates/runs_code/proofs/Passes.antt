@@ -3,17 +3,18 @@
 use Rattle.std.proofs.Common.{Some}
 use Prim.Native.Nat.{ℕ, zero, suc, ◌+◌, ◌-◌, ◌*◌, ◌≤◌, ◌<◌}
 use mathlib.Core.Path.{◌≡◌, refl, sym, ap, ◌∙◌}
-use mathlib.Core.List.{List, [], ◌∷◌, ◌++◌, append-nil}
+use mathlib.Core.List.{List, [], ◌∷◌, ◌++◌, map, append-nil}
 use mathlib.Core.Bool.{Bool, true, false, cond, not, ◌&&◌, ◌||◌}
 use native.Mathlib.Nat.{le_refl, sub-zero, zero-add, add-mul, one-mul}
 use native.Mathlib.Numerals.{add-one}
 use native.Mathlib.Omega.{arith}
 use borrow.Author.Tests.{eq-eqb, ne_eqb}
+use Rattle.std.specs.List.{list_any}
 use lib.ListN.{length, get_or, set, take, drop, take-append-drop, length-set}
 use lib.Seq.{take-suc, drop-cons, append_snoc, get_or-set_same, get_or-set_other, set-get_or, take-set-le, take-set-lt, drop-set-lt, length-take-le, drop-length, get_or-take, take-take}
 use Rattle.runs.specs.declared.Job.{Job}
 use Rattle.runs.specs.declared.Report.{Report}
-use Rattle.runs.specs.Run.{job_limit, no_job, fresh_job, late_job, late, arrived_job, arrived, pending, chosen, due_before, worked_job, worked_at, worked, idle_at, idle_tick, run_from}
+use Rattle.runs.specs.Run.{job_limit, no_job, started_job, started, fresh_job, late_job, late, arrived_job, arrived, pending, chosen, due_before, worked_job, worked_at, worked, idle_at, idle_tick, run_from}
 use Rattle.runs.proofs.Steps.{late-append, arrived-append, choice-start, choice-turn, worked-here, worked-none}
 
 -- intermediate: the run in the middle of a tick, over the jobs still to be seen and those seen
@@ -245,3 +246,46 @@ module _ (ticks count : ℕ) (whole : Report) (fits : count ≤ job_limit) where
 pub mid_start : (ticks count : ℕ) (state : List Job) → count ≤ job_limit → length state ≡ job_limit → Midway ticks count (run_from ticks 0 0 (take count state)) state 0 0 count count 0
 mid_start ticks count state h l =
     mid-tick ticks count (run_from ticks 0 0 (take count state)) h state 0 0 0 (omega arith) (le_refl 0) l (rw (sub-zero ticks))
+
+-- One job is late, exactly where a test of each finds one
+
+pub late-listed : (now : ℕ) (js : List Job) → list_any (late_job now) js ≡ late now js
+unfolding late
+late-listed now [] = refl
+late-listed now (j ∷ js) = ap (λ (b : Bool). late_job now j || b) (late-listed now js)
+
+-- A pass that changes each job in its place: those passed are changed, the others as they were
+
+pub started-map : (js : List Job) → map started_job js ≡ started js
+unfolding started
+started-map [] = refl
+started-map (j ∷ js) = ap (λ (l : List Job). started_job j ∷ l) (started-map js)
+
+pub arrived-map : (now : ℕ) (js : List Job) → map (arrived_job now) js ≡ arrived now js
+unfolding arrived
+arrived-map now [] = refl
+arrived-map now (j ∷ js) = ap (λ (l : List Job). arrived_job now j ∷ l) (arrived-map now js)
+
+abbrev pub passed : (Job → Job) → ℕ → List Job → List Job
+passed f i js = map f (take i js) ++ drop i js
+
+passed-here : (f : Job → Job) (i : ℕ) (js : List Job) (d : Job) → i < length js → get_or (passed f i js) i d ≡ get_or js i d
+passed-here f i [] d h = absurd (omega arith)
+passed-here f zero (j ∷ js) d h = refl
+passed-here f (suc i) (j ∷ js) d h = passed-here f i js d (omega arith)
+
+passed-set : (f : Job → Job) (i : ℕ) (js : List Job) (d : Job) → i < length js → set (passed f i js) i (f (get_or js i d)) ≡ passed f (suc i) js
+passed-set f i [] d h = absurd (omega arith)
+passed-set f zero (j ∷ js) d h = refl
+passed-set f (suc i) (j ∷ js) d h = ap (λ (l : List Job). f j ∷ l) (passed-set f i js d (omega arith))
+
+pub passed-turn : (f : Job → Job) (i : ℕ) (js items : List Job) (d v : Job) → i < length js → items ≡ passed f i js → v ≡ f (get_or items i d) → set items i v ≡ passed f (i + 1) js
+passed-turn f i js items d v h e s =
+    let same : v ≡ f (get_or js i d) = s ∙ ap (λ (l : List Job). f (get_or l i d)) e ∙ ap f (passed-here f i js d h) in
+    rw (add-one i) ((λ k. set (e k) i (same k)) ∙ passed-set f i js d h)
+
+pub passed-all : (f : Job → Job) (i : ℕ) (js : List Job) → length js ≤ i → passed f i js ≡ map f js
+passed-all f zero [] h = refl
+passed-all f (suc i) [] h = refl
+passed-all f zero (j ∷ js) h = absurd (omega arith)
+passed-all f (suc i) (j ∷ js) h = ap (λ (l : List Job). f j ∷ l) (passed-all f i js (omega arith))

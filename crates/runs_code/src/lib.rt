@@ -1,5 +1,6 @@
 // The run of an engine (request 2026-14): each tick the pending job with the earliest deadline runs. Crate `runs` defines it.
-// The jobs go by index and count: `run_of` as one tick after another over a slice of them took 1.4 times as long, and its bar is 2 times C.
+// The jobs stay an array and their count, so that `count ≤ job_limit` stands in each contract, and `run_of` goes by index: as one tick after another over a
+// slice of them it took 1.4 times as long, and its bar is 2 times C. The place past the last stands for no job, as `chosen` and `idle_at` of crate `runs` say.
 #![tactic(auto)]
 
 ghost use Rattle.std.specs.Prelude.{◌≡◌, ◌≤◌, ◌<◌, not, ◌&&◌, get_or, take, Some};
@@ -75,9 +76,8 @@ pub fn started(jobs: [Job; JOB_LIMIT], count: usize) -> [Job; JOB_LIMIT]
     ensures { take count result ≡ started (take count jobs) }
 {
     let mut out = jobs;
-    for i in 0..count {
-        let j = jobs[i];
-        out[i] = job_of(j.run, j.period);
+    for j in &mut out[..count] {
+        *j = job_of(j.run, j.period);
     }
     out
 }
@@ -87,12 +87,7 @@ pub fn late(now: u32, jobs: [Job; JOB_LIMIT], count: usize) -> bool
     requires { count ≤ job_limit }
     ensures { result ≡ late now (take count jobs) }
 {
-    let mut found = false;
-    for i in 0..count {
-        let j = jobs[i];
-        found = found | late_job(now, j);
-    }
-    found
+    jobs[..count].iter().any(|j| late_job(now, *j))
 }
 
 // The jobs after the arrivals of now.
@@ -101,9 +96,8 @@ fn arrived(now: u32, jobs: [Job; JOB_LIMIT], count: usize) -> [Job; JOB_LIMIT]
     ensures { take count result ≡ arrived now (take count jobs) }
 {
     let mut out = jobs;
-    for i in 0..count {
-        let j = jobs[i];
-        out[i] = arrived_job(now, j);
+    for j in &mut out[..count] {
+        *j = arrived_job(now, *j);
     }
     out
 }
@@ -123,7 +117,7 @@ fn takes(count: usize, at: usize, due: u64, j: Job) -> bool
     (j.left > 0) & !other
 }
 
-// The place of the first pending job with the earliest deadline, `count` where none is pending: from the last job down.
+// The place of the first pending job with the earliest deadline, `count` where none is pending: from the last job down, by index, as `run_of` looks for it.
 fn chosen(jobs: [Job; JOB_LIMIT], count: usize) -> usize
     requires { count ≤ job_limit }
     ensures { result ≡ chosen (take count jobs) }
@@ -172,7 +166,7 @@ pub fn one_tick(now: u32, jobs: [Job; JOB_LIMIT], count: usize) -> Tick
 fn idle_at(count: usize, at: usize) -> u32
     ensures { (result ≡ idle_at count at) × (result ≤ 1) }
 {
-    if at == count { 1 } else { 0 }
+    u32::from(at == count)
 }
 
 // What a run reports that comes to its last tick's end.

@@ -1,9 +1,9 @@
 -- One law for each way in which a check ends: what the code hands out there is what the check is defined as.
-use Rattle.std.proofs.Common.{Ok, Err}
+use Rattle.std.proofs.Common.{None, Some, Ok, Err}
 use Prim.Native.Nat.{ℕ}
 use mathlib.Core.Path.{◌≡◌, refl, sym, ap, ◌∙◌}
 use mathlib.Core.List.{List}
-use mathlib.Core.Bool.{Bool, true}
+use mathlib.Core.Bool.{Bool, true, false≢true}
 use native.Mathlib.Omega.{arith}
 use lib.Dec.{ltb}
 use Rattle.system.specs.declared.System.{System}
@@ -18,6 +18,7 @@ use Rattle.system.proofs.Laws.{unread-with}
 use Rattle.system.proofs.Checks.{check-passed, both-passed}
 use Rattle.partition.specs.ForSystem.{row_for}
 use Rattle.partition.specs.Lent.{Lent}
+use Rattle.table.proofs.Placed.{placed-some, placed-none}
 use Rattle.table.specs.declared.Placement.{Placement}
 use Rattle.table.specs.Table.{table_check, filled, placement}
 use Rattle.planner.specs.Plan.{plan_engines, table_left}
@@ -86,9 +87,14 @@ module _ (x : Reading) (y : System) (is : x ≡ opened y) (sheet : List ℕ) (ta
           }
 
       -- a sheet that is right: all instances can be placed, on as many engines as the lowest yes row says
-      pub right-checks : (p : Placement) → p ≡ placement y (plan_engines y) (ceilings_of y) → (used : ℕ) → used ≡ used_in (stated_loads y sheet) → Checks x sheet table (Ok (ltb p.used used)) (filled y (plan_engines y) table)
+      pub never-none : None ≡ placement y (plan_engines y) (ceilings_of y) → ⊥
+      unfolding placement
+      never-none none =
+          let (χ, s) = passed-sheet y keeps sheet all-passed in
+          false≢true (sym (placed-none _ none) ∙ can y keeps sheet χ s)
+
+      pub right-checks : (p : Placement) → Some p ≡ placement y (plan_engines y) (ceilings_of y) → (used : ℕ) → used ≡ used_in (stated_loads y sheet) → Checks x sheet table (Ok (ltb p.used used)) (filled y (plan_engines y) table)
       unfolding sheet_check placement
       right-checks p same used counted =
-          let (χ, s) = passed-sheet y keeps sheet all-passed in
-          let row : p.used ≡ row_for y (plan_engines y) (ceilings_of y) = ap (λ (q : Placement). q.used) same ∙ rw (can y keeps sheet χ s) in
+          let row : p.used ≡ row_for y (plan_engines y) (ceilings_of y) = ap (λ (q : Placement). q.used) (placed-some same).1 in
           record { answer = rw (is, ← lent, ← judged, row, counted); left = rw (is, ← lent, ← judged) }

@@ -54,7 +54,7 @@ fn load_in(rest: &[u8], k: usize) -> EngineLoad
     EngineLoad {
         time: four_bytes(rest, TIME),
         memory: four_bytes(rest, MEMORY),
-        counts: counts,
+        counts,
     }
 }
 
@@ -63,11 +63,11 @@ fn taken_at(sheet: &[u8], m: usize, k: usize, at: usize, e: usize) -> Taken
     requires { (k ≤ type_limit) × (at ≤ 389) }
     ensures { result ≡ taken_at m k sheet.now at e }
 {
-    let rest = rest_at(sheet, Cursor { at: at });
+    let rest = rest_at(sheet, Cursor { at });
     if (byte_at(rest, HEAD_SIZE) as usize == e) & (e <= m) {
         let load = load_in(rest, k);
         return Taken {
-            load: load,
+            load,
             next: at + field_size(RECORD, k),
         };
     }
@@ -86,8 +86,7 @@ fn loads_in(sheet: &[u8], m: usize, k: usize) -> [EngineLoad; ENGINE_LIMIT]
     let mut at = field_size(HEADER, k);
     for i in 0..ENGINE_LIMIT {
         let taken = taken_at(sheet, m, k, at, i + 1);
-        let load = taken.load;
-        loads[i] = load;
+        loads[i] = taken.load;
         at = taken.next;
     }
     loads
@@ -164,6 +163,13 @@ pub fn check_sheet(
     let loads = loads_in(sheet, y.engines, y.typecount);
     records_check(sheet, y, loads)?;
     let engines = table_code::engines_to(y.engines);
-    let placement = table_code::place(rows, predecessors, y, engines, table_code::ceilings_of(y));
+    // A right sheet is a good assignment, so that there is a placement.
+    let placement = table_code::place(
+        rows,
+        predecessors,
+        y,
+        engines,
+        table_code::ceilings_of(y),
+    ).ok_or(Refusal::Input(12))?;
     Ok(placement.used < used_engines(loads))
 }

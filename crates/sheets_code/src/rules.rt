@@ -34,7 +34,7 @@ pub(crate) fn rule_at(row: usize) -> SheetRule
     RULES[row]
 }
 
-// The bytes of a field's body where there are k types.
+// The bytes of a field's body where there are k types. The bound of k stands in each contract: k comes from a System, which may have any.
 pub(crate) fn body_size(row: usize, k: usize) -> usize
     requires { (row < 2) × (k ≤ type_limit) }
     ensures { result ≡ body_size (rule_at row) k }

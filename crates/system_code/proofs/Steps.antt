@@ -2,10 +2,10 @@
 use Prim.Native.Nat.{ℕ, zero, suc, ◌+◌, ◌-◌, ◌*◌, ◌≤◌, ◌<◌, min}
 use native.Mathlib.Omega.{arith}
 use native.Mathlib.Numerals.{add-one}
-use native.Mathlib.Nat.{mul_assoc, mul-one, le-mul_of_pos_right, min-eq_left, min-eq_right}
+use native.Mathlib.Nat.{sub-zero, mul_assoc, mul-one, le-mul_of_pos_right, min-eq_left, min-eq_right}
 use Rattle.std.proofs.Common.{Option, Some, None}
 use Rattle.std.specs.Prelude.{is_some}
-use Rattle.std.specs.List.{list_all, find}
+use Rattle.std.specs.List.{list_all, find, enumerate_from}
 use Rattle.std.proofs.lemmas.List.{take_min, drop-replicate}
 use mathlib.Core.List.{List, [], ◌∷◌, ◌++◌, map}
 use mathlib.Core.Bool.{Bool, true, false, not, cond, ◌&&◌, beq, false≢true}
@@ -47,32 +47,21 @@ columns-over ts p total over e =
 
 -- The types of a system: one entry, then the others
 
-types-step : (k i : ℕ) (ts : List TaskType) (d : TaskType) → i < length ts
-    → types_keep (k - i) (drop i ts) ≡ cond (ltb i k) (sound_task (get_or ts i d)) (zero_task (get_or ts i d)) && types_keep (k - (i + 1)) (drop (i + 1) ts)
+-- the entry at an index, where the first k are types
+abbrev pub entry-keeps : ℕ → (ℕ × TaskType) → Bool
+entry-keeps k p = cond (ltb p.0 k) (sound_task p.1) (zero_task p.1)
+
+types-from : (k i : ℕ) (ts : List TaskType) → list_all (entry-keeps k) (enumerate_from i ts) ≡ types_keep (k - i) ts
 unfolding types_keep
-types-step k i ts d h = rw (add-one i, drop-cons ts i d h) (at (k - i) refl)
+types-from k i [] = refl
+types-from k i (t ∷ ts) = ap (λ (b : Bool). entry-keeps k (i, t) && b) (types-from k (i + 1) ts) ∙ go (k - i) refl
   where
-    at : (n : ℕ) → k - i ≡ n → types_keep n (get_or ts i d ∷ drop (suc i) ts) ≡ cond (ltb i k) (sound_task (get_or ts i d)) (zero_task (get_or ts i d)) && types_keep (k - suc i) (drop (suc i) ts)
-    at zero e = let p : k - suc i ≡ 0 = omega arith in rw (le-ltb i k (omega arith), p)
-    at (suc n) e = let p : k - suc i ≡ n = omega arith in rw (lt-ltb i k (omega arith), p)
+    go : (m : ℕ) → k - i ≡ m → (entry-keeps k (i, t) && types_keep (k - (i + 1)) ts) ≡ types_keep m (t ∷ ts)
+    go zero e = rw (le-ltb i k (omega arith)) (ap (λ (n : ℕ). zero_task t && types_keep n ts) (omega arith))
+    go (suc m) e = rw (lt-ltb i k (omega arith)) (ap (λ (n : ℕ). sound_task t && types_keep n ts) (omega arith))
 
--- the entry fails, so the test does; it holds, so the others decide; none is left
-module _ (k i : ℕ) (ts : List TaskType) where
-  types-turn : (d : TaskType) (b : Bool) → i < length ts → cond (ltb i k) (sound_task (get_or ts i d)) (zero_task (get_or ts i d)) ≡ b → types_keep (k - i) (drop i ts) ≡ types_keep k ts
-      → b && types_keep (k - (i + 1)) (drop (i + 1) ts) ≡ types_keep k ts
-  types-turn d b h e inv = ap (λ (x : Bool). x && types_keep (k - (i + 1)) (drop (i + 1) ts)) (sym e) ∙ sym (types-step k i ts d h) ∙ inv
-
-  pub types-fail : (d : TaskType) → i < length ts → cond (ltb i k) (sound_task (get_or ts i d)) (zero_task (get_or ts i d)) ≡ false
-      → types_keep (k - i) (drop i ts) ≡ types_keep k ts → false ≡ types_keep k ts
-  types-fail d h e inv = types-turn d false h e inv
-
-  pub types_more : (d : TaskType) → i < length ts → cond (ltb i k) (sound_task (get_or ts i d)) (zero_task (get_or ts i d)) ≡ true
-      → types_keep (k - i) (drop i ts) ≡ types_keep k ts → types_keep (k - (i + 1)) (drop (i + 1) ts) ≡ types_keep k ts
-  types_more d h e inv = types-turn d true h e inv
-
-  pub types-end : length ts ≤ i → types_keep (k - i) (drop i ts) ≡ types_keep k ts → true ≡ types_keep k ts
-  unfolding types_keep
-  types-end h inv = rw (drop_of_length-le ts h) at inv
+pub types-listed : (k : ℕ) (ts : List TaskType) → list_all (entry-keeps k) (enumerate_from 0 ts) ≡ types_keep k ts
+types-listed k ts = types-from k 0 ts ∙ ap (λ (n : ℕ). types_keep n ts) (sub-zero k)
 
 -- The second kind is given of all types or of none: the code asks of each whether its costs are missing exactly where there is one kind
 

@@ -54,7 +54,7 @@ pub(crate) fn kind_fault(m: usize, n: usize, time: u32, memory: u32) -> Result<(
     size_fault(time, memory)
 }
 
-// The same where a second kind is given.
+// The same where a second kind is given. A match, here and in `costs_fault`: with `map_or` the case of nothing given would come first and read as a default.
 pub fn second_fault(m: usize, second: Option<Kind>) -> Result<(), Refusal>
     ensures { result ≡ within (second_fault m second) }
 {
@@ -89,10 +89,10 @@ pub fn most_fault(most: Option<u16>) -> Result<(), Refusal>
 fn cycle_keeps(timecap: u32, time: u32, c: Cycle) -> bool
     ensures { result ≡ cycle_keeps timecap time c }
 {
-    if !((1 <= c.run) & (c.run <= c.period) & (c.period <= TICK_LIMIT)) {
-        return false;
-    }
-    (1 <= timecap) & ((c.run as u64) * (timecap as u64) <= (time as u64) * (c.period as u64))
+    let within = (1 <= c.run) & (c.run <= c.period) & (c.period <= TICK_LIMIT);
+    within
+        & (1 <= timecap)
+        & ((c.run as u64) * (timecap as u64) <= (time as u64) * (c.period as u64))
 }
 
 // A type's C and T, where they are given, with its u and the U of the engines: 43.
@@ -192,12 +192,7 @@ fn task_keeps(i: usize, k: usize, t: TaskType) -> bool
 fn types_keep(k: usize, types: [TaskType; TYPE_LIMIT]) -> bool
     ensures { result ≡ eqb (length types) type_limit && types_keep k types }
 {
-    for (i, t) in types.iter().enumerate() {
-        if !task_keeps(i, k, *t) {
-            return false;
-        }
-    }
-    true
+    types.iter().enumerate().all(|(i, t)| task_keeps(i, k, *t))
 }
 
 // Every limit of a card, of one kind of engine or two, and zero entries past k.

@@ -18,13 +18,11 @@ pub const HEAD_SIZE: usize = 3;
 pub fn byte_at(s: &[u8], i: usize) -> u8
     ensures { result ≡ get_or s.now i 0 }
 {
-    if i < s.len() {
-        return s[i];
-    }
-    0
+    s.get(i).copied().unwrap_or(0)
 }
 
-// Unsigned numbers of two and of four bytes, most significant byte first.
+// Unsigned numbers of two and of four bytes, most significant byte first, 0 for a byte past the end: so they are reckoned from `byte_at`, as `word2` and
+// `word4` are defined, and not made of an array by `from_be_bytes`.
 pub fn two_bytes(s: &[u8], i: usize) -> u16
     requires { i < 64 }
     ensures { result ≡ word2 s.now i }
@@ -39,7 +37,8 @@ pub fn four_bytes(s: &[u8], i: usize) -> u32
     (two_bytes(s, i) as u32) * 65536 + (two_bytes(s, i + 2) as u32)
 }
 
-// What is left of a file from a cursor on, as a part of it.
+// What is left of a file from a cursor on, as a part of it. Where there is nothing, here, in `body_at` and in `body_part`, the answer is an empty part of the
+// file itself, which a default of `get` would not be.
 pub fn rest_at(file: &[u8], c: Cursor) -> &[u8]
     ensures { result.now ≡ drop c.at file.now }
 {
@@ -115,26 +114,24 @@ pub fn field_at(file: &[u8], c: Cursor) -> Field
     let left = rest.len();
     let tag = byte_at(rest, 0);
     let size = two_bytes(rest, 1) as usize;
-    let headed = HEAD_SIZE <= left;
-    if left < HEAD_SIZE + size {
-        return Field {
-            tag,
-            size,
-            headed,
-            whole: false,
-            start: c.at,
-            next: c,
-        };
-    }
-    Field {
+    let cut = Field {
         tag,
         size,
-        headed,
+        headed: HEAD_SIZE <= left,
+        whole: false,
+        start: c.at,
+        next: c,
+    };
+    if left < HEAD_SIZE + size {
+        return cut;
+    }
+    Field {
         whole: true,
         start: c.at + HEAD_SIZE,
         next: Cursor {
             at: c.at + (HEAD_SIZE + size),
         },
+        ..cut
     }
 }
 
@@ -203,7 +200,8 @@ fn type_of(b: &[u8], y: System) -> Result<System, Refusal>
     Ok(values::with_type(t, y))
 }
 
-// The body of a type's data memory: d, for the last type.
+// The body of a type's data memory: d, for the last type. `Typed`, that a type was read, stands in six contracts: a caller may hand in any System, so that no
+// invariant of it can say it.
 fn data_of(b: &[u8], y: System) -> Result<System, Refusal>
     requires { Typed y }
     ensures { result ≡ read_result (data_of b.now y) }
@@ -257,7 +255,8 @@ fn costs_of(b: &[u8], y: System) -> Result<System, Refusal>
     Ok(values::with_last(values::with_costs(time, memory, values::last_type(y)), y))
 }
 
-// A field's body, where its head has a rule: 7, then what its tag says of it.
+// A field's body, where its head has a rule: 7, then what its tag says of it. A tag stays a number: the file has it, the tables of `rules` go by it, and so
+// does `body_of` of crate `system`.
 fn body_of(rule: FieldRule, b: &[u8], y: System) -> Result<System, Refusal>
     requires { BodyReady rule y }
     ensures { result ≡ read_result (body_of rule b.now y) }
@@ -304,6 +303,7 @@ fn card_of(file: &[u8]) -> Result<System, Refusal>
     let mut c = Cursor { at: 0 };
     let mut last: u8 = 0;
     let mut y = values::blank_system();
+    // No count of fields is known: where the next one starts is read from this one.
     while c.at < file.len() {
         y = field_of(file, c, last, y)?;
         last = tag_at(file, c);

@@ -4,7 +4,7 @@ ghost use Rattle.system.specs.Rules.{field_rules, rule_of, follows, may_follow};
 
 use system::{FieldRule, Follow, TYPE_LIMIT};
 
-// The tags.
+// The tags, numbers and no enum: a file has them, and one that is none of these has a refusal of its own, 2.
 pub const PLATFORM: u8 = 1;
 
 pub const TYPE: u8 = 2;

@@ -2,12 +2,15 @@
 use Prim.Native.Nat.{ℕ, zero, suc, ◌+◌, ◌-◌, ◌≤◌, ◌<◌}
 use mathlib.Core.Path.{◌≡◌, refl, sym, ap, subst, ◌∙◌}
 use mathlib.Core.List.{List, [], ◌∷◌, ◌++◌}
-use mathlib.Core.Bool.{Bool, true, false}
+use mathlib.Core.Bool.{Bool, true, false, not, cond, false≢true}
 use mathlib.Core.Logic.{⊎_elim}
 use native.Mathlib.Nat.{le_refl, add-zero, add-suc, mul-le-mul}
 use native.Mathlib.Omega.{arith}
-use borrow.Author.Tests.{ne_eqb}
+use borrow.Author.Tests.{ne_eqb, eq-eqb, eqb-true}
 use lib.ListN.{length, get_or, take, drop, replicate}
+use lib.Dec.{eqb}
+use Rattle.std.proofs.Common.{Option, None, Some}
+use Rattle.std.specs.Option.{is_some, unwrap_or}
 use Rattle.system.specs.Limits.{columns_of, column_limit}
 use Rattle.loads.specs.Load.{within, less}
 use Rattle.loads.specs.Column.{column_of, load_of}
@@ -16,9 +19,41 @@ use Rattle.loads.proofs.Column.{column_of-horner, column_of-lt, column_of-less, 
 use Rattle.partition.specs.Cell.{lowest, no_column}
 use Rattle.partition.proofs.Lists.{true-or-false}
 use Rattle.partition.proofs.Lowest.{Found, lowest-same, lowest-none, lowest-found}
-use Rattle.table.specs.Under.{candidate, visited_to, found_at, next_under, rises_at, jumps_from, NoneInFirst}
+use Rattle.table.specs.Under.{candidate, visited_to, some_but, found_at, next_under, rises_at, jumps_from, NoneInFirst}
 use Rattle.table.proofs.Between.{between-found, between_none, between-skip}
 use Rattle.table.proofs.Stepping.{next_under-turn, rises_at-later, rises_at-le, next_under-below, none_between, column_from-next, column_of-next-gt}
+
+-- what is found: a number, or none
+
+pub some_but-number : (m q : ℕ) → unwrap_or (some_but m q) m ≡ q
+some_but-number m q = go (eqb q m) refl
+  where
+    go : (b : Bool) → eqb q m ≡ b → unwrap_or (cond b None (Some q)) m ≡ q
+    go true h = sym (eqb-true q m h)
+    go false h = refl
+
+pub some_but-some : (m q : ℕ) → is_some (some_but m q) ≡ not (eqb q m)
+some_but-some m q = go (eqb q m)
+  where
+    go : (b : Bool) → is_some (cond {A = Option ℕ} b None (Some q)) ≡ not b
+    go true = refl
+    go false = refl
+
+-- what is found is the number, and not the one that says none
+pub found_some : {m p q : ℕ} → Some p ≡ some_but m q → (p ≡ q) × (p ≡ m → ⊥)
+found_some {m} {p} {q} e =
+    let same : p ≡ q = ap (λ (o : Option ℕ). unwrap_or o m) e ∙ some_but-number m q in
+    let says : true ≡ not (eqb q m) = ap is_some e ∙ some_but-some m q in
+    (same, λ z. false≢true (sym (says ∙ ap not (eq-eqb q m (sym same ∙ z)))))
+
+pub is-found : {m p q : ℕ} → p ≡ q → (p ≡ m → ⊥) → Some p ≡ some_but m q
+is-found {m} {p} {q} e h = sym (rw (ne_eqb p m h)) ∙ ap (some_but m) e
+
+pub found_nothing : {m q : ℕ} → None ≡ some_but m q → q ≡ m
+found_nothing {m} {q} e = sym (ap (λ (o : Option ℕ). unwrap_or o m) e ∙ some_but-number m q)
+
+pub is-nothing : {m q : ℕ} → q ≡ m → None ≡ some_but m q
+is-nothing {m} {q} e = sym (rw (eq-eqb q m e))
 
 -- where a run starts: counts under those of the load x, none of the first type, and their column
 pub record AtRun (ns x counts : List ℕ) (base : ℕ) : Type 0 where
@@ -304,11 +339,11 @@ module _ {test : ℕ → Bool} {ns x jumps : List ℕ} (given : Given test ns x 
   abbrev in_run : ℕ → ℕ
   in_run base = lowest test no_column (last_of x base + 1 - base) base
 
-  found-at : (p : ℕ) → (p ≡ no_column → ⊥) → found_at ns x p ≡ record { column = p; tried = visited_to ns x (p + 1) }
+  found-at : (p : ℕ) → (p ≡ no_column → ⊥) → found_at ns x p ≡ record { column = Some p; tried = visited_to ns x (p + 1) }
   found-at p h = rw (ne_eqb p no_column h)
 
   pub run-found : {counts : List ℕ} {base : ℕ} → Searching test ns x counts base → (p : ℕ) → p ≡ in_run base → (p ≡ no_column → ⊥) →
-      (base ≤ p) × (p ≤ last_of x base) × (record { column = p; tried = visited_to ns x base + (p + 1 - base) } ≡ found_at ns x answer)
+      (base ≤ p) × (p ≤ last_of x base) × (record { column = Some p; tried = visited_to ns x base + (p + 1 - base) } ≡ found_at ns x answer)
   run-found {counts = counts} {base = base} s p e h = ⊎_elim (λ z. absurd (h (e ∙ z))) inside (lowest-found test no_column (last_of x base + 1 - base) base)
     where
       r : Run test ns x counts base
@@ -318,20 +353,20 @@ module _ {test : ℕ → Bool} {ns x jumps : List ℕ} (given : Given test ns x 
       is-answer = e ∙ sym (r.finds (λ z. h (e ∙ z))) ∙ s.rest
 
       inside : Found test no_column (last_of x base + 1 - base) base (in_run base) →
-          (base ≤ p) × (p ≤ last_of x base) × (record { column = p; tried = visited_to ns x base + (p + 1 - base) } ≡ found_at ns x answer)
+          (base ≤ p) × (p ≤ last_of x base) × (record { column = Some p; tried = visited_to ns x base + (p + 1 - base) } ≡ found_at ns x answer)
       inside f =
           let low : base ≤ p = omega (arith, f.from) in
           let high : p ≤ last_of x base = omega (arith, f.to) in
-          (low, high, ap (λ (k : ℕ). record { column = p; tried = k }) (sym (r.visits p low high)) ∙ sym (found-at p h) ∙ ap (found_at ns x) is-answer)
+          (low, high, ap (λ (k : ℕ). record { column = Some p; tried = k }) (sym (r.visits p low high)) ∙ sym (found-at p h) ∙ ap (found_at ns x) is-answer)
 
   -- the first run, before which nothing is tried
   pub run-first : (p : ℕ) → p ≡ lowest test no_column (get_or x 0 0 + 1 - 0) 0 → (p ≡ no_column → ⊥) →
-      record { column = p; tried = p + 1 } ≡ found_at ns x (lowest (candidate test ns x) no_column (columns_of ns) 0)
+      record { column = Some p; tried = p + 1 } ≡ found_at ns x (lowest (candidate test ns x) no_column (columns_of ns) 0)
   unfolding visited_to
   run-first p e h =
       let one : get_or x 0 0 + 1 - 0 ≡ last_of x 0 + 1 - 0 = omega arith in
       let same : p + 1 ≡ 0 + (p + 1 - 0) = omega arith in
-      ap (λ (k : ℕ). record { column = p; tried = k }) same
+      ap (λ (k : ℕ). record { column = Some p; tried = k }) same
       ∙ (run-found searching-start p (e ∙ ap (λ (k : ℕ). lowest test no_column k 0) one) h).2
 
 -- the search has passed a run in which it found nothing, and has tried all columns to visit up to its end
@@ -360,10 +395,10 @@ module _ {test : ℕ → Bool} {ns x jumps : List ℕ} (given : Given test ns x 
     run : Run test ns x counts base
     run = searching-run given p.searching
 
-    pub passed-last : risen x counts ≡ 6 → record { column = no_column; tried = tried } ≡ found_at ns x (lowest (candidate test ns x) no_column (columns_of ns) 0)
+    pub passed-last : risen x counts ≡ 6 → record { column = None; tried = tried } ≡ found_at ns x (lowest (candidate test ns x) no_column (columns_of ns) 0)
     passed-last h =
         let all : risen x counts ≡ length x = omega (arith, given.sized) in
-        ap (λ (k : ℕ). record { column = no_column; tried = k }) (p.counted ∙ sym (run.visits_all all)) ∙ ap (found_at ns x) (sym (run.ends p.nothing all) ∙ p.searching.rest)
+        ap (λ (k : ℕ). record { column = None; tried = k }) (p.counted ∙ sym (run.visits_all all)) ∙ ap (found_at ns x) (sym (run.ends p.nothing all) ∙ p.searching.rest)
 
     pub passed-next : risen x counts < 6 → Searching test ns x (stepped x counts) (next_base ns x counts base) × (tried ≡ visited_to ns x (next_base ns x counts base))
     passed-next h =

@@ -8,6 +8,8 @@ use native.Mathlib.Nat.{mul-le-mul}
 use native.Mathlib.Omega.{arith}
 use borrow.Author.Tests.{leb-true, leb-false, le-leb, lt-leb, eq-eqb, ne_eqb, not-true}
 use lib.Dec.{leb, eqb}
+use Rattle.std.proofs.Common.{Option, None, Some}
+use Rattle.std.specs.Option.{is_some, unwrap_or}
 use Rattle.system.specs.declared.System.{System}
 use Rattle.system.specs.Values.{ceilings_of}
 use Rattle.system.specs.Limits.{columns_of, columns, column_limit, keeps_limits}
@@ -20,7 +22,7 @@ use Rattle.partition.specs.ForSystem.{cell_for}
 use Rattle.partition.proofs.Lists.{true-or-false}
 use Rattle.table.specs.declared.Found.{Found}
 use Rattle.table.specs.Under.{candidate, visited_to, found_at}
-use Rattle.table.proofs.Candidates.{columns_of-le}
+use Rattle.table.proofs.Candidates.{columns_of-le, some_but-number, some_but-some}
 use Rattle.table.proofs.Preceding.{cell-one, found_first}
 use Rattle.table.specs.declared.Entry.{Entry}
 use Rattle.table.specs.Parts.{lowest_for}
@@ -146,47 +148,55 @@ module _ {rows : List ℕ} {y : System} {r c : ℕ} {ns x : List ℕ} {most unde
   low : most ≤ lowest_for y r c
   low = omega (arith, is-largest, most-low w.wanted.filled (rw is-largest w.few))
 
+  -- the column that a scan finds, 65,535 for none
+  abbrev column : Found → ℕ
+  column f = unwrap_or f.column no_column
+
+  column-is : {f : Found} {p : ℕ} → f ≡ found_at ns x p → column f ≡ p
+  column-is {p = p} s = ap column s ∙ some_but-number no_column p
+
   -- a scan for the row that is the lowest
   found-row : (i : ℕ) → lowest_for y r c ≡ suc i → suc i ≤ r → (f : Found) → f ≡ found_at ns x (scanned i)
-      → ◌≡◌ {A = Entry} (record { row = suc i; predecessor = f.column; counted = i * under + f.tried }) (entry_of y r c)
+      → ◌≡◌ {A = Entry} (record { row = suc i; predecessor = unwrap_or f.column no_column; counted = i * under + f.tried }) (entry_of y r c)
   found-row i e h f s =
-      entry_row y r c to-limits inside w.past i f.column (i * under + f.tried) e h is
+      entry_row y r c to-limits inside w.past i (column f) (i * under + f.tried) e h is
       (rw w.all (ap (λ (k : ℕ). i * columns_of x + k) tried ∙ rw (w.wanted.ceilings, w.wanted.load)))
     where
       cells : scanned i ≡ cell_for y (suc i) c
       cells = scanned-cell w.wanted w.unfit i (omega arith) (omega arith)
 
-      is : f.column ≡ cell_for y (suc i) c
-      is = ap (λ (g : Found). g.column) s ∙ cells
+      is : column f ≡ cell_for y (suc i) c
+      is = column-is s ∙ cells
 
-      says : says_yes f.column ≡ true
+      says : says_yes (column f) ≡ true
       says = rw is (row-yes y to-limits r (suc i) c inside h ∙ le-leb (lowest_for y r c) (suc i) (omega arith))
 
-      tried : f.tried ≡ visited_to ns x (f.column + 1)
+      tried : f.tried ≡ visited_to ns x (column f + 1)
       tried =
           ap (λ (g : Found). g.tried) s
-          ∙ rw (← (ap (λ (g : Found). g.column) s)) (rw (not-true (eqb f.column no_column) says))
+          ∙ rw (← (column-is s)) (rw (not-true (eqb (column f) no_column) says))
 
   -- the first scan says whether it is row `most`
-  first_says : (f : Found) → f ≡ found_at ns x (scanned (most - 1)) → leb (lowest_for y r c) most ≡ says_yes f.column
+  first_says : (f : Found) → f ≡ found_at ns x (scanned (most - 1)) → leb (lowest_for y r c) most ≡ is_some f.column
   first_says f s =
       let next : suc (most - 1) ≡ most = omega (arith, w.some) in
       let cells : scanned (most - 1) ≡ cell_for y most c =
       scanned-cell w.wanted w.unfit (most - 1) (omega (arith, w.some, w.few)) (omega (arith, w.some, low))
       ∙ ap (λ (k : ℕ). cell_for y k c) next in
-      sym (row-yes y to-limits r most c inside w.few) ∙ ap says_yes (sym (ap (λ (g : Found). g.column) s ∙ cells))
+      sym (row-yes y to-limits r most c inside w.few) ∙ ap says_yes (sym cells) ∙ sym (ap (λ (g : Found). is_some g.column) s ∙ some_but-some no_column (scanned (most - 1)))
 
-  pub first_found : (f : Found) → f ≡ found_at ns x (scanned (most - 1)) → (f.column ≡ no_column → ⊥)
-      → ◌≡◌ {A = Entry} (record { row = most; predecessor = f.column; counted = (most - 1) * under + f.tried }) (entry_of y r c)
-  first_found f s some =
+  pub first_found : (f : Found) (p : ℕ) → f ≡ found_at ns x (scanned (most - 1)) → f.column ≡ Some p
+      → ◌≡◌ {A = Entry} (record { row = most; predecessor = p; counted = (most - 1) * under + f.tried }) (entry_of y r c)
+  first_found f p s some =
       let next : suc (most - 1) ≡ most = omega (arith, w.some) in
-      let yes_at : leb (lowest_for y r c) most ≡ true = first_says f s ∙ ap not (ne_eqb f.column no_column some) in
+      let yes_at : leb (lowest_for y r c) most ≡ true = first_says f s ∙ ap is_some some in
       let is : lowest_for y r c ≡ suc (most - 1) = omega (arith, low, leb-true (lowest_for y r c) most yes_at, next) in
-      ap (λ (k : ℕ). record { row = k; predecessor = f.column; counted = (most - 1) * under + f.tried }) (sym next)
+      ap (λ (k : ℕ). record { row = k; predecessor = p; counted = (most - 1) * under + f.tried }) (sym next)
+      ∙ ap (λ (o : Option ℕ). record { row = suc (most - 1); predecessor = unwrap_or o no_column; counted = (most - 1) * under + f.tried }) (sym some)
       ∙ found-row (most - 1) is (omega (arith, next, w.few)) f s
 
-  pub first-lost : (f : Found) → f ≡ found_at ns x (scanned (most - 1)) → f.column ≡ no_column → most < lowest_for y r c
-  first-lost f s lost = leb-false (lowest_for y r c) most (first_says f s ∙ ap not (eq-eqb f.column no_column lost))
+  pub first-lost : (f : Found) → f ≡ found_at ns x (scanned (most - 1)) → f.column ≡ None → most < lowest_for y r c
+  first-lost f s lost = leb-false (lowest_for y r c) most (first_says f s ∙ ap is_some lost)
 
   -- row 1 says no
   pub not-one : most ≤ 1 → most < lowest_for y r c
@@ -201,12 +211,12 @@ module _ {rows : List ℕ} {y : System} {r c : ℕ} {ns x : List ℕ} {most unde
   last-lost h e = none_is w.wanted under w.all (omega arith)
 
   pub second-found : most < lowest_for y r c → (most ≡ r → ⊥) → (f : Found) → f ≡ found_at ns x (scanned most)
-      → ◌≡◌ {A = Entry} (record { row = most + 1; predecessor = f.column; counted = most * under + f.tried }) (entry_of y r c)
+      → ◌≡◌ {A = Entry} (record { row = most + 1; predecessor = unwrap_or f.column no_column; counted = most * under + f.tried }) (entry_of y r c)
   second-found h other f s =
       let more : suc most ≤ r = omega (arith, w.few) in
       let high : lowest_for y r c ≤ most + 1 =
       rw (ap (λ (k : ℕ). k + 1) is-largest) at (most-high w.wanted.filled (rw is-largest w.some) (rw is-largest (omega (arith, more)))) in
-      ap (λ (k : ℕ). record { row = k; predecessor = f.column; counted = most * under + f.tried }) (omega arith)
+      ap (λ (k : ℕ). record { row = k; predecessor = column f; counted = most * under + f.tried }) (omega arith)
       ∙ found-row most (omega (arith, h, high)) more f s
 
   -- main: the numbers stay small

@@ -1,13 +1,15 @@
 -- Laws of a placement: what the code makes of the lowest row, of the recovery from it and of its rows on the engines is the placement that is defined.
 use Prim.Native.Nat.{ℕ, ◌≤◌, ◌<◌, zero-le}
 use mathlib.Core.Path.{◌≡◌, refl, sym, ap, ◌∙◌}
-use mathlib.Core.Bool.{Bool, true, false, cond}
+use mathlib.Core.Bool.{Bool, true, false, cond, false≢true}
 use mathlib.Core.List.{List, [], map, map-map}
 use native.Mathlib.Omega.{arith}
 use borrow.Author.Tests.{leb-true, le-leb, lt-leb}
 use lib.ListN.{length, take, drop, replicate, length-map}
 use lib.Dec.{leb}
 use lib.Seq.{take_at}
+use Rattle.std.proofs.Common.{Option, None, Some}
+use Rattle.std.specs.Option.{is_some, unwrap_or}
 use Rattle.system.specs.declared.System.{System}
 use Rattle.system.specs.Values.{ceilings_of}
 use Rattle.system.specs.Limits.{engine_limit, keeps_limits}
@@ -27,36 +29,41 @@ use Rattle.table.proofs.Spread.{no_rows}
 use Rattle.partition.specs.Lent.{Lent}
 use Rattle.table.specs.declared.Engines.{Engines}
 use Rattle.table.specs.declared.Placement.{Placement}
-use Rattle.table.specs.Table.{long_enough, unplaced, placement}
+use Rattle.table.specs.Table.{long_enough, placement}
 use Rattle.table.specs.Chain.{recovered_onto, rows_placed, listed, MayPlace}
+
+-- what a test decides: something where it holds, else nothing
+
+pub placed-some : {A : Type 0} {b : Bool} {p q : A} → Some p ≡ cond b (Some q) None → (b ≡ true) × (p ≡ q)
+placed-some {A = A} {b = true} {p = p} e = (refl, ap (λ (o : Option A). unwrap_or o p) e)
+placed-some {b = false} e = absurd (false≢true (sym (ap is_some e)))
+
+pub placed-none : {A : Type 0} {b : Bool} (q : A) → None ≡ cond b (Some q) None → b ≡ false
+placed-none {b = true} q e = absurd (false≢true (ap is_some e))
+placed-none {b = false} q e = refl
 
 -- main: the rows as the code makes them, from the row and column that it found, an idle engine and what recovery gave
 
-module _ (y : System) (rows : ℕ) (x : List ℕ) (row column : ℕ) (idle : EngineLoad) (is_row : row ≡ lowest_row (fits_engine y) (ceilings_of y) rows column) (is_column : column ≡ column_of (ceilings_of y) x) (is_idle : idle ≡ idle_engine) where
+module _ (y : System) (rows : ℕ) (x : List ℕ) (row column : ℕ) (is_row : row ≡ lowest_row (fits_engine y) (ceilings_of y) rows column) (is_column : column ≡ column_of (ceilings_of y) x) where
   the_row : row ≡ lowest_row (fits_engine y) (ceilings_of y) rows (column_of (ceilings_of y) x)
   the_row = is_row ∙ ap (lowest_row (fits_engine y) (ceilings_of y) rows) is_column
 
-  pub rows-found : (loads : List EngineLoad) → loads ≡ recovered_onto y row column (replicate engine_limit idle) → row ≤ rows
-      → ◌≡◌ {A = Placement} (record { placed = true; used = row; loads = loads }) (rows_placed y rows x)
+  pub rows-found : (idle : EngineLoad) → idle ≡ idle_engine → (loads : List EngineLoad) → loads ≡ recovered_onto y row column (replicate engine_limit idle) → row ≤ rows
+      → ◌≡◌ {A = Option Placement} (Some (record { used = row; loads = loads })) (rows_placed y rows x)
   unfolding rows_placed
-  rows-found loads is h =
+  rows-found idle is_idle loads is h =
       rw (le-leb (lowest_row (fits_engine y) (ceilings_of y) rows (column_of (ceilings_of y) x)) rows (rw the_row at h), is, is_idle, the_row, is_column)
 
-  pub rows_none : rows < row → ◌≡◌ {A = Placement} (record { placed = false; used = 0; loads = replicate engine_limit idle }) (rows_placed y rows x)
+  pub rows_none : rows < row → None ≡ rows_placed y rows x
   unfolding rows_placed
-  rows_none h = rw (lt-leb (lowest_row (fits_engine y) (ceilings_of y) rows (column_of (ceilings_of y) x)) rows (rw the_row at h), is_idle)
+  rows_none h = rw (lt-leb (lowest_row (fits_engine y) (ceilings_of y) rows (column_of (ceilings_of y) x)) rows (rw the_row at h))
 
 -- no more rows are used than the table has
-pub rows-used : (y : System) (rows : ℕ) (x : List ℕ) (p : Placement) → p ≡ rows_placed y rows x → p.used ≤ rows
+pub rows-used : (y : System) (rows : ℕ) (x : List ℕ) (p : Placement) → Some p ≡ rows_placed y rows x → p.used ≤ rows
 unfolding rows_placed
-rows-used y rows x p is = rw is (go (leb row rows) refl)
-  where
-    row : ℕ
-    row = lowest_row (fits_engine y) (ceilings_of y) rows (column_of (ceilings_of y) x)
-
-    go : (b : Bool) → leb row rows ≡ b → ◌≤◌ (cond {A = Placement} b (record { placed = true; used = row; loads = recovered_onto y row (column_of (ceilings_of y) x) (replicate engine_limit idle_engine) }) unplaced).used rows
-    go true q = leb-true row rows q
-    go false q = zero-le
+rows-used y rows x p is =
+    let found = placed-some is in
+    rw found.1 (leb-true (lowest_row (fits_engine y) (ceilings_of y) rows (column_of (ceilings_of y) x)) rows found.0)
 
 -- main: the rows put on the engines
 
@@ -76,14 +83,20 @@ module _ (y : System) (es x : List ℕ) where
       (engines_to engine_limit)
       ∙ sym (map-map (engine_with y) (row_on empty_load es (rows_for y es x)) (engines_to engine_limit))
 
-  pub rows-on-engines : (p : Placement) (loads : List EngineLoad) → p ≡ rows_placed y (length es) x → loads ≡ on_engines idle_engine engine_limit es (take p.used p.loads)
-      → ◌≡◌ {A = Placement} (record { placed = p.placed; used = p.used; loads = loads }) (placement y es x)
+  pub rows-on-engines : (p : Placement) (loads : List EngineLoad) → Some p ≡ rows_placed y (length es) x → loads ≡ on_engines idle_engine engine_limit es (take p.used p.loads)
+      → ◌≡◌ {A = Option Placement} (Some (record { used = p.used; loads = loads })) (placement y es x)
   unfolding rows_placed placement
-  rows-on-engines p loads is on = go (placeable y es x) refl
-    where
-      go : (b : Bool) → placeable y es x ≡ b → ◌≡◌ {A = Placement} (record { placed = p.placed; used = p.used; loads = loads }) (cond (placeable y es x) (record { placed = true; used = row_for y es x; loads = map (engine_with y) (recovered_for engine_limit y es x) }) unplaced)
-      go true can = rw (on, is, can, front, spread)
-      go false can = rw (on, is, can, no_rows idle_engine es)
+  rows-on-engines p loads is on =
+      let found = placed-some is in
+      let can : placeable y es x ≡ true = found.0 in
+      rw (on, found.1, can, front, spread)
+
+  -- no rows, and nothing on the engines
+  pub rows-nowhere : None ≡ rows_placed y (length es) x → None ≡ placement y es x
+  unfolding rows_placed placement
+  rows-nowhere is =
+      let cannot : placeable y es x ≡ false = placed-none _ is in
+      rw cannot
 
 -- main: a load may be placed on all engines of a system, listed in order
 

@@ -9,6 +9,7 @@ use native.Mathlib.Omega.{arith}
 use borrow.Author.Tests.{ne_eqb, eqb-true}
 use lib.ListN.{length, get_or, replicate, length-map}
 use lib.Dec.{eqb}
+use Rattle.std.proofs.Common.{None, Some}
 use Rattle.system.specs.declared.System.{System}
 use Rattle.system.specs.Values.{ceilings_of}
 use Rattle.system.specs.Limits.{columns_of, keeps_limits}
@@ -93,12 +94,12 @@ module _ (fits : List ℕ → Bool) (ns : List ℕ) where
 -- main: what a scan that finds column 0, or nothing, has tried
 
 -- column 0 is under every load, and is the first that is tried
-pub found_first : (ns x : List ℕ) → length x ≡ length ns → record { column = 0; tried = 1 } ≡ found_at ns x 0
+pub found_first : (ns x : List ℕ) → length x ≡ length ns → record { column = Some 0; tried = 1 } ≡ found_at ns x 0
 found_first ns x l =
     let under : within (load_of ns 0) x ≡ true =
     ap (λ (z : List ℕ). within z x) (load_of-zero ns ∙ ap (λ (k : ℕ). replicate k 0) (sym l)) ∙ below→within (zeros-below x) in
     let one : visited_to ns x (0 + 1) ≡ 1 = visited-next ns x 0 ∙ rw under (unfold visited_to in refl) in
-    ap (λ (k : ℕ). record { column = 0; tried = k }) (sym one)
+    ap (λ (k : ℕ). record { column = Some 0; tried = k }) (sym one)
 
-pub found_none : {ns x : List ℕ} → Below x ns → record { column = no_column; tried = columns_of x } ≡ found_at ns x no_column
-found_none b = ap (λ (k : ℕ). record { column = no_column; tried = k }) (sym (visited-all b))
+pub found_none : {ns x : List ℕ} → Below x ns → record { column = None; tried = columns_of x } ≡ found_at ns x no_column
+found_none b = ap (λ (k : ℕ). record { column = None; tried = k }) (sym (visited-all b))

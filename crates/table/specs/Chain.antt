@@ -1,5 +1,5 @@
 -- What the functions that read a filled table rely on, and what recovery leaves in an array of engines.
-use Rattle.std.specs.Prelude.{ℕ, ◌≤◌, ◌<◌, List, [], ◌++◌, map, true, cond, ◌≡◌, length, get_or, take, drop, replicate, leb}
+use Rattle.std.specs.Prelude.{ℕ, ◌≤◌, ◌<◌, List, [], ◌++◌, map, true, cond, ◌≡◌, length, get_or, take, drop, replicate, leb, Option, None, Some}
 use Rattle.system.specs.declared.System.{System}
 use Rattle.system.specs.Values.{ceilings_of}
 use Rattle.system.specs.Limits.{columns, engine_limit, keeps_limits}
@@ -14,7 +14,7 @@ use Rattle.partition.specs.Lent.{Lent}
 use Rattle.table.specs.declared.Engines.{Engines}
 use Rattle.table.specs.declared.Placement.{Placement}
 use Rattle.table.specs.Parts.{lowest_for, row_at, predecessor_at}
-use Rattle.table.specs.Table.{long_enough, unplaced}
+use Rattle.table.specs.Table.{long_enough}
 
 -- the parts show the entries of rows 0 to r
 pub record PartsShow (y : System) (r : ℕ) (rows predecessors : List ℕ) : Type 0 where
@@ -43,11 +43,11 @@ unfoldable pub recovered_onto : System → ℕ → ℕ → List EngineLoad → L
 recovered_onto y row column loads = map (engine_with y) (recover (fits_engine y) (ceilings_of y) row column []) ++ drop row loads
 
 -- the recovery of the load x, row by row, before it is put on engines: `rows` are the rows that the table has past row 0
-unfoldable pub rows_placed : System → ℕ → List ℕ → Placement
+unfoldable pub rows_placed : System → ℕ → List ℕ → Option Placement
 rows_placed y rows x =
     let c = column_of (ceilings_of y) x in
     let row = lowest_row (fits_engine y) (ceilings_of y) rows c in
-    cond (leb row rows) (record { placed = true; used = row; loads = recovered_onto y row c (replicate engine_limit idle_engine) }) unplaced
+    cond (leb row rows) (Some (record { used = row; loads = recovered_onto y row c (replicate engine_limit idle_engine) })) None
 
 -- the engines that are listed, as the code has them: the first `count` numbers
 abbrev pub listed : Engines → List ℕ

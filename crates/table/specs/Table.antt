@@ -1,11 +1,11 @@
 -- What the lent table holds (request 2026-10, instead of document 01's "Table"), its refusal, and placing a load by it.
-use Rattle.std.specs.Prelude.{ℕ, List, [], ◌∷◌, map, Bool, true, false, cond, ◌&&◌, length, replicate, leb}
+use Rattle.std.specs.Prelude.{ℕ, List, [], ◌∷◌, map, Bool, cond, ◌&&◌, length, leb, Option, None, Some}
 use Rattle.system.specs.declared.System.{System}
 use Rattle.system.specs.Limits.{columns, engine_limit}
 use Rattle.system.specs.Layout.{Reading, opened, unread}
 use Rattle.system.specs.Card.{Card, plain, mixed, first_of}
 use Rattle.system.specs.Outcome.{Outcome, accepted, refused, from_input, Checked, check, unless_fails}
-use Rattle.loads.specs.Load.{engine_with, idle_engine}
+use Rattle.loads.specs.Load.{engine_with}
 use Rattle.partition.specs.Assignment.{engines_to}
 use Rattle.partition.specs.ForSystem.{row_for, placeable, recovered_for}
 use Rattle.partition.specs.Lent.{Lent}
@@ -60,13 +60,9 @@ abbrev pub fill_card_table : Card → Lent → Lent
 fill_card_table (plain x) table = fill_table x table
 fill_card_table (mixed y k) table = cond (long_enough y table) (filled_to (first_of y) y.engines table) table
 
--- nothing is placed
-abbrev pub unplaced : Placement
-unplaced = record { placed = false; used = 0; loads = replicate engine_limit idle_engine }
-
 -- the recovery of the load x onto the engines es by the cells, as records of the engines 1, 2, ..; nothing is placed where no row says yes
-unfoldable pub placement : System → List ℕ → List ℕ → Placement
+unfoldable pub placement : System → List ℕ → List ℕ → Option Placement
 placement y es x =
     cond (placeable y es x)
-    (record { placed = true; used = row_for y es x; loads = map (engine_with y) (recovered_for engine_limit y es x) })
-    unplaced
+    (Some (record { used = row_for y es x; loads = map (engine_with y) (recovered_for engine_limit y es x) }))
+    None

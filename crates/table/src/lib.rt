@@ -11,10 +11,9 @@ pub struct Engines {
     pub numbers: [usize; ENGINE_LIMIT],
 }
 
-// A load placed on the engines: whether it can be, the number of used engines, and what each engine holds.
+// A load placed on the engines: the number of used engines, and what each engine holds.
 #[derive(Clone, Copy, PartialEq, Eq)]
 pub struct Placement {
-    pub placed: bool,
     pub used: usize,
     pub loads: [EngineLoad; ENGINE_LIMIT],
 }
@@ -27,9 +26,9 @@ pub struct Entry {
     pub counted: usize,
 }
 
-// What a scan answers: the column that it found, 65,535 where there is none, and how many columns it tried.
+// What a scan answers: the column that it found, if there is one, and how many columns it tried.
 #[derive(Clone, Copy, PartialEq, Eq)]
 pub struct Found {
-    pub column: u16,
+    pub column: Option<u16>,
     pub tried: usize,
 }

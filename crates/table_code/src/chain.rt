@@ -40,31 +40,25 @@ fn recover(
     recover(predecessors, y, last, before, next)
 }
 
-// A load within the ceilings placed by two parts that show its rows: recovered from its lowest yes row.
+// A load within the ceilings placed by two parts that show its rows: recovered from its lowest yes row, if there is one.
 pub fn placed_by(
     rows: &[u16],
     predecessors: &[u16],
     y: System,
     engines: usize,
     counts: [u16; TYPE_LIMIT],
-) -> Placement
+) -> Option<Placement>
     requires { PartsShow y engines rows.now predecessors.now × (within counts (ceilings_of y) ≡ true) }
     ensures { result ≡ rows_placed y engines counts }
 {
     let column = loads_code::column_of(y, counts);
     let row = rows[column] as usize;
+    if row > engines {
+        return None;
+    }
     let idle = [loads_code::idle_engine(); ENGINE_LIMIT];
-    if row <= engines {
-        let loads = recover(predecessors, y, row, column, idle);
-        return Placement {
-            placed: true,
-            used: row,
-            loads: loads,
-        };
-    }
-    Placement {
-        placed: false,
-        used: 0,
-        loads: idle,
-    }
+    Some(Placement {
+        used: row,
+        loads: recover(predecessors, y, row, column, idle),
+    })
 }

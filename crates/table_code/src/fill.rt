@@ -82,10 +82,10 @@ fn by_scans(
     let row = most as usize;
     if row > 1 {
         let found = scan(rows, most - 1, column, ceilings, load);
-        if found.column != NO_COLUMN {
+        if let Some(predecessor) = found.column {
             return Entry {
                 row: most,
-                predecessor: found.column,
+                predecessor: predecessor,
                 counted: (row - 1) * under + found.tried,
             };
         }
@@ -96,7 +96,7 @@ fn by_scans(
     let found = scan(rows, most, column, ceilings, load);
     Entry {
         row: most + 1,
-        predecessor: found.column,
+        predecessor: found.column.unwrap_or(NO_COLUMN),
         counted: row * under + found.tried,
     }
 }

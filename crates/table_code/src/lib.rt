@@ -31,19 +31,18 @@ pub fn place(
     y: System,
     engines: Engines,
     counts: [u16; TYPE_LIMIT],
-) -> Placement
+) -> Option<Placement>
     requires { MayPlace y engines counts (lent rows.old predecessors.old) }
     ensures { (lent rows.new predecessors.new ≡ filled y (listed engines) (lent rows.old predecessors.old))
         × (result ≡ placement y (listed engines) counts) }
 {
     fill::fill_parts(rows, predecessors, y, engines.count);
-    let found = chain::placed_by(&rows[..], &predecessors[..], y, engines.count, counts);
+    let found = chain::placed_by(&rows[..], &predecessors[..], y, engines.count, counts)?;
     let loads = found.loads;
-    Placement {
-        placed: found.placed,
+    Some(Placement {
         used: found.used,
         loads: onto::on_engines(engines, loads, found.used),
-    }
+    })
 }
 
 // Fills both parts for a system file, and answers the number of pairs tried (request 2026-05): refused 1 to 10, 31, 41 and 43 as the file is read, 11 where

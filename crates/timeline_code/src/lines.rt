@@ -19,7 +19,7 @@ pub struct Name {
     pub number: usize,
 }
 
-// The instance at a place among all on the engine, those of type 1 first; past the last, no instance.
+// The instance at a place among all on the engine, those of type 1 first; past the last, no instance: 0 and 0, as `kind_from` and `number_from` say it.
 fn name_at(counts: [u16; TYPE_LIMIT], place: usize) -> Name
     ensures { (result.kind ≡ kind_from 1 counts place) × (result.number ≡ number_from counts place) }
 {
@@ -165,7 +165,6 @@ pub(crate) fn put_summary(out: &mut [u8], at: usize, ticks: u64, report: Report)
     let parted = put_bytes(out, all, b" ticks ");
     let idle = put_number(out, parted, report.idle as u64);
     let were = put_bytes(out, idle, b" idle, ");
-    let missed = report.missed;
-    let told = put_missed(out, were, missed);
+    let told = put_missed(out, were, report.missed);
     put_byte(out, told, b'\n')
 }

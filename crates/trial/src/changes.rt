@@ -2,7 +2,11 @@
 // system seven types, and `u2=1000001` its second type another u. A q of 65,536 is none. `x=`, `X=` and `Z=` give a second kind of engine so many engines, and
 // its U and S; `v2=` and `z2=` the second type its u and s there; `R2=` and `P2=` its C and T, its run time and its period. What they do not give is as it
 // was, or 0.
+ghost use Rattle.std.specs.Prelude.{◌≡◌, ◌-◌, ◌≤◌, drop, if◌then◌else◌, nat_eq, slice_index};
+ghost use Rattle.trial.specs.Words.{IsNumberOf};
+
 use crate::cases::number_of;
+use crate::lent::back;
 use crate::systems;
 use crate::words::byte_of;
 use system::{Costs, Cycle, Kind, System, TaskType};
@@ -19,13 +23,17 @@ pub struct Change {
 }
 
 // What a word says.
-pub fn change_of(word: &[u8]) -> Change {
+pub fn change_of(word: &[u8]) -> Change
+    ensures what { result.what ≡ slice_index word.now 0 }
+    ensures index { 49 ≤ slice_index word.now 1 → result.index ≡ slice_index word.now 1 - 49 }
+    ensures number { IsNumberOf (drop (if nat_eq (slice_index word.now 1) 61 then 2 else 3) word.now) result.number }
+{
     let second = byte_of(word, 1);
     let past = if second == b'=' { 2 } else { 3 };
     Change {
         what: byte_of(word, 0),
         index: usize::from(second).wrapping_sub(49),
-        number: number_of(word.get(past..).unwrap_or(b"")),
+        number: number_of(back(word, past)),
     }
 }
 

@@ -1,5 +1,5 @@
 // The bytes of a system file, made from a system; and a reader of system files, which goes from field to field.
-ghost use Rattle.std.specs.Prelude.{◌<◌, length, IfOk};
+ghost use Rattle.std.specs.Prelude.{◌≡◌, ◌<◌, length, take, IfOk};
 
 use crate::buffers::BUFFER_BYTES;
 use crate::lent::front;
@@ -14,7 +14,9 @@ pub struct File {
 }
 
 impl File {
-    pub fn as_slice(&self) -> &[u8] {
+    pub fn as_slice(&self) -> &[u8]
+        ensures { result.now ≡ take self.now.size self.now.bytes }
+    {
         front(&self.bytes, self.size)
     }
 

@@ -1,4 +1,5 @@
 // Lines on standard output, and answers as numbers. A line that could not be written is left out.
+// What only prints, as `say_numbers`, has no contract: no clause can name what standard output was given.
 use crate::lent::front;
 use loads::EngineLoad;
 use system::{Answer, Refusal, System, TaskType};

@@ -1,4 +1,6 @@
 // A small generator of numbers, the same at every run, and systems drawn with it: a linear congruential step on 31 bits.
+ghost use Rattle.std.specs.Prelude.{◌≡◌, ◌+◌, ◌*◌, ◌/◌, ◌%◌, if◌then◌else◌, nat_eq};
+
 use crate::systems;
 use system::{Costs, Cycle, System, TYPE_LIMIT};
 
@@ -10,7 +12,10 @@ pub struct Draws {
 
 impl Draws {
     // A number below `limit`, from the upper bits of the seed after this one; 0 where the limit is 0.
-    pub fn below(&mut self, limit: usize) -> usize {
+    pub fn below(&mut self, limit: usize) -> usize
+        ensures seed { self.new.seed ≡ (self.old.seed % 2147483648 * 1103515245 + 12345) % 2147483648 }
+        ensures value { result ≡ if nat_eq limit 0 then 0 else self.new.seed / 65536 % limit }
+    {
         self.seed = ((self.seed % 2147483648) * 1103515245 + 12345) % 2147483648;
         ((self.seed / 65536) as usize)
             .checked_rem(limit)

@@ -1,5 +1,6 @@
 // Systems made part by part, document 01's systems A and B, and systems at the limits.
-ghost use Rattle.std.specs.Prelude.{◌<◌};
+ghost use Rattle.std.specs.Prelude.{◌≡◌, ◌-◌, ◌<◌, ◌≤◌, Some, slice_get, slice_set};
+ghost use Rattle.std.specs.Fn.{FnOnceReturnsAtMut};
 
 use system::{Costs, Cycle, Kind, System, TYPE_LIMIT, TaskType};
 
@@ -67,16 +68,22 @@ pub fn with_type(mut y: System, time: u32, memory: u32, ceiling: u16) -> System 
 }
 
 // The index of its last type, no type's where it has none.
-pub fn last_of(y: System) -> usize {
+pub fn last_of(y: System) -> usize
+    ensures last { 0 < y.typecount → result ≡ y.typecount - 1 }
+    ensures none { y.typecount ≡ 0 → 6 ≤ result }
+{
     y.typecount.wrapping_sub(1)
 }
 
 // The system with the type at index t changed, which may be past the last one. As it is, where it has no such entry.
 pub fn with_task<F: FnOnce(&mut TaskType)>(mut y: System, t: usize, change: F) -> System
     requires { F.IsAlwaysCallable change }
+    ensures changed { (task : _) → slice_get y.types t ≡ Some task →
+        (left : _) × FnOnceReturnsAtMut F.FnOnce change task tt left × (result ≡ record y { types = slice_set y.types t left }) }
+    ensures past { 6 ≤ t → result ≡ y }
 {
-    if let Some(task) = y.types.get_mut(t) {
-        change(task);
+    if t < TYPE_LIMIT {
+        change(&mut y.types[t]);
     }
     y
 }

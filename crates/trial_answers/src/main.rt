@@ -43,6 +43,7 @@ const ON_BOTH: [u8; 33] = [
     0, 0, 0, 1,
 ];
 
+// As crate `trial`'s, of which this trial would take nothing else.
 fn say(rt: &HostRuntime, text: &[u8]) {
     let _ = rt.write_all(text);
 }

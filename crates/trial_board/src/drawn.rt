@@ -6,13 +6,13 @@ use crate::scripts::kind_of;
 use crate::shown::shown;
 use brute::ledger::{Call, Kind};
 use brute::recovery;
-use system::System;
+use system::{Answer, Refusal, System};
 use trial::lent::Lengths;
 use trial::spread::{DrawnSystem, Draws};
 use trial::words::byte_of;
 use trial::{files, say, spread, systems, tables};
 
-// A call drawn, how many entries of each part it is lent, and whether they are made dirty before.
+// A call drawn, how many entries of each part it is lent, and whether they are made dirty before, or stay as they are.
 #[derive(Clone, Copy)]
 struct DrawnCall {
     call: Call,
@@ -40,7 +40,7 @@ fn lengths(rows: usize, predecessors: usize) -> Lengths {
     Lengths { rows, predecessors }
 }
 
-// Parts of which one has an entry too few, or none at all, or both have an entry too few: by turns.
+// Parts of which one has an entry too few, or none at all, or both have an entry too few: by turns. A match, as an array of the seven would say no more.
 fn short_lengths(turn: usize, columns: usize) -> Lengths {
     let less = columns.wrapping_sub(1);
     match turn % 7 {
@@ -113,20 +113,20 @@ struct Tally {
 }
 
 // The index that an answer is counted at.
-fn place_of(kind: Kind, code: usize) -> usize {
-    if (code == 0) | (1000 <= code) {
-        return kind as usize;
+fn place_of(kind: Kind, answer: Answer) -> usize {
+    match answer {
+        Ok(_) => kind as usize,
+        Err(Refusal::Input(n) | Refusal::State(n)) => usize::from(n),
     }
-    code % 100
 }
 
 // A drawn call is wrong: its system, then its kind, type, engine and answer.
-fn say_wrong(rt: &HostRuntime, y: System, c: Call, code: usize) {
+fn say_wrong(rt: &HostRuntime, y: System, c: Call, answer: Answer) {
     say::say_system(rt, b"mismatch:", y);
     say::say_also(rt, c.kind as usize);
     say::say_also(rt, c.task);
     say::say_also(rt, c.engine);
-    say::say_also(rt, code);
+    say::say_also(rt, say::code_of(answer));
     say::say(rt, b"\n");
 }
 
@@ -141,10 +141,10 @@ impl Tally {
 
     // A call, which was played from this live board.
     fn count(&mut self, before: &Live, c: Call, s: &Step) {
-        if let Some(n) = self.answers.get_mut(place_of(c.kind, s.code)) {
+        if let Some(n) = self.answers.get_mut(place_of(c.kind, s.answer)) {
             *n = n.wrapping_add(1);
         }
-        if let Some(case) = shown(before.ledger, s.live.ledger, c, s.code) {
+        if let Some(case) = shown(before.ledger, s.live.ledger, c, s.answer) {
             let n = &mut self.cases[case as usize];
             *n = n.wrapping_add(1);
         }
@@ -164,7 +164,7 @@ impl Tally {
             }
             let s = played(live, d.call, d.lent, cells);
             if !s.right {
-                say_wrong(rt, y, d.call, s.code);
+                say_wrong(rt, y, d.call, s.answer);
             }
             self.count(&live, d.call, &s);
             live = s.live;
@@ -230,8 +230,8 @@ fn tight_shared(engines: usize) -> System {
     systems::with_most(systems::with_data(systems::with_type(two, 1, 2, 3), 3), 1)
 }
 
-// The lists of a spread: whether of all six calls, the seed before that of the first line, how many lists each line has for drawn systems, for ones that are
-// tight in time or memory, and for those with d or q; and how many engines the tight ones have, and the last one.
+// The lists of a spread: whether of all six calls, which all else is given for either way; the seed before that of the first line, how many lists each line has
+// for drawn systems, for ones that are tight in time or memory, and for those with d or q; and how many engines the tight ones have, and the last one.
 #[derive(Clone, Copy)]
 struct Spread {
     six: bool,

@@ -23,7 +23,7 @@ use trial::words::Bytes;
 // The bytes of the text that are read at most.
 const TEXT_BYTES: usize = 32768;
 
-// What the first line of a list gives beside its name: its file, and whether every cell is compared.
+// What the first line of a list gives beside its name: its file, and whether every cell is compared, which says nothing of the file.
 #[derive(Clone, Copy)]
 struct Head {
     file: Bytes,

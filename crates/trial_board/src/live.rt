@@ -2,10 +2,10 @@
 use board::{Board, Turn};
 use brute::ledger::{Call, Kind, Ledger};
 use brute::{ledger, recovery};
-use system::System;
+use system::{Answer, Refusal, System};
 use trial::lent::{Lengths, front_mut};
 use trial::tables::Lent;
-use trial::{files, say, tables};
+use trial::{files, tables};
 
 // The board under test, the ledger beside it, and the table that is lent to the next call.
 #[derive(Clone, Copy)]
@@ -15,11 +15,11 @@ pub struct Live {
     pub table: Lent,
 }
 
-// What one call comes to: its answer as a code, and whether all is as the ledger says.
+// What one call comes to: its answer, and whether all is as the ledger says; the rest stands there either way.
 #[derive(Clone, Copy)]
 pub struct Step {
     pub live: Live,
-    pub code: usize,
+    pub answer: Answer,
     pub right: bool,
 }
 
@@ -47,9 +47,12 @@ fn called(b: Board, c: Call, rows: &mut [u16], predecessors: &mut [u16]) -> Turn
 }
 
 // The call leaves the table filled: an accepted seat or repack, 23 and 24.
-fn fills(c: Call, code: usize) -> bool {
-    let packs = (code == 0) & ((c.kind == Kind::Seat) | (c.kind == Kind::Repack));
-    packs | (code == 223) | (code == 224)
+fn fills(c: Call, answer: Answer) -> bool {
+    match answer {
+        Ok(None) => (c.kind == Kind::Seat) | (c.kind == Kind::Repack),
+        Err(Refusal::State(23 | 24)) => true,
+        _ => false,
+    }
 }
 
 // Both parts are filled as the brute search says: rows are those of the engines in service, and a column that they place not at all has one more than all
@@ -69,7 +72,8 @@ fn right_table(l: Ledger, old: Lent, new: Lent, filled: bool, cells: bool) -> bo
     right & tables::same_from(old, new, recovery::columns_of(l.system))
 }
 
-// The board is the ledger's: its system, its loads with their sums, its marks, idle engines without a mark past m.
+// The board is the ledger's: its system, its loads with their sums, its marks, idle engines without a mark past m. The two are types of their own, with no `==`
+// between them: the ledger is written apart from the code under test.
 fn same_board(b: Board, l: Ledger) -> bool {
     (b.system == l.system) & (b.loads == l.loads) & (b.marks == l.marks)
 }
@@ -91,17 +95,16 @@ pub fn played(live: Live, c: Call, n: Lengths, cells: bool) -> Step {
         front_mut(&mut table.predecessors, n.predecessors),
     );
     let entry = ledger::entered(l, c, long_enough(l.system, n));
-    let code = say::code_of(turn.answer);
-    let right = (code == entry.code)
+    let right = (turn.answer == entry.answer)
         & same_board(turn.board, entry.ledger)
-        & right_table(l, live.table, table, fills(c, code), cells);
+        & right_table(l, live.table, table, fills(c, turn.answer), cells);
     Step {
         live: Live {
             board: turn.board,
             ledger: entry.ledger,
             table,
         },
-        code,
+        answer: turn.answer,
         right,
     }
 }

@@ -4,18 +4,17 @@
 use crate::live::{Live, played};
 use board::Board;
 use brute::ledger::{Call, Kind};
+use system::{Answer, Refusal};
 use trial::lent::Lengths;
 use trial::say;
 use trial::words::byte_of;
 
-fn figure(b: u8) -> usize {
+fn figure(b: u8) -> u8 {
     if b == b'x' {
-        return 255;
+        255
+    } else {
+        b.saturating_sub(b'0')
     }
-    if b < b'0' {
-        return 0;
-    }
-    (b - b'0') as usize
 }
 
 // The kind of call that a letter stands for.
@@ -33,35 +32,21 @@ pub fn kind_of(b: u8) -> Kind {
 fn scripted(script: &[u8]) -> Call {
     Call {
         kind: kind_of(byte_of(script, 0)),
-        task: figure(byte_of(script, 1)),
-        engine: figure(byte_of(script, 2)),
+        task: usize::from(figure(byte_of(script, 1))),
+        engine: usize::from(figure(byte_of(script, 2))),
     }
 }
 
-fn accepted_code(engine: usize) -> usize {
-    if engine == 0 {
-        return 0;
-    }
-    engine.wrapping_add(1000)
-}
-
-// The tens of a refusal's code: refusals below 20 come from the input, the others of these calls from the state.
-fn tens_of(b: u8) -> usize {
-    match b {
-        b'1' => 110,
-        b'2' => 220,
-        _ => 230,
-    }
-}
-
-// The code of the answer that a script gives.
-fn scripted_code(script: &[u8]) -> usize {
-    let first = byte_of(script, 3);
+// The answer that a script gives: refusals below 20 come from the input, the others of these calls from the state.
+fn scripted_answer(script: &[u8]) -> Answer {
     let second = figure(byte_of(script, 4));
-    if first == b'@' {
-        return accepted_code(second);
+    match byte_of(script, 3) {
+        b'@' if second == 0 => Ok(None),
+        b'@' => Ok(Some(usize::from(second))),
+        b'1' => Err(Refusal::Input(second.wrapping_add(10))),
+        b'2' => Err(Refusal::State(second.wrapping_add(20))),
+        _ => Err(Refusal::State(second.wrapping_add(30))),
     }
-    tens_of(first).wrapping_add(second)
 }
 
 // The engines of a board, and a word for each that is out of service.
@@ -87,7 +72,7 @@ pub fn say_list(rt: &HostRuntime, file: &[u8], script: &[u8], cells: bool) {
     let mut wrong: usize = 0;
     for call in script.chunks(6) {
         let s = played(live, scripted(call), whole, cells);
-        if (s.code != scripted_code(call)) | !s.right {
+        if (s.answer != scripted_answer(call)) | !s.right {
             wrong = wrong.wrapping_add(1);
         }
         live = s.live;

@@ -1,11 +1,10 @@
 // The calls over tables that are dirty, and of which first entries of each part are lent; and what was left in them.
 use crate::as_promised::{why_no_plan, why_no_room};
 use board::Board;
-use board_code::{admit, seat};
 use causes::Cause;
-use planner_code::plan_of;
 use system::{Answer, COLUMN_LIMIT, Refusal};
 use trial::lent::{Lengths, Parts};
+use trial_records::{front_number, mixed_parts};
 
 // The entries of each part: more than the columns of any system.
 const LONG: usize = 5100;
@@ -26,39 +25,8 @@ pub struct Told {
     pub left: Left,
 }
 
-// What stands at an entry of a table before it is lent.
-fn dirt(i: usize) -> u16 {
-    (((i % 65536) * 40503 + 7) % 65536) as u16
-}
-
-fn dirty_table() -> Parts<LONG> {
-    Parts::of(dirt, |i| dirt(i.wrapping_add(COLUMN_LIMIT)))
-}
-
-// What numbers of entries are counted by.
-const MODULUS: usize = 1000003;
-
-// The number of entries after one more, of which the remainder counts.
-fn mixed(number: usize, entry: u16) -> usize {
-    number % MODULUS * 257 + usize::from(entry)
-}
-
-// The number of the first entries, from 1 on: each of both parts has a part in it.
-fn front_number(table: &Parts<LONG>) -> usize {
-    let mut number = 1;
-    for (row, predecessor) in table
-        .rows
-        .iter()
-        .zip(&table.predecessors)
-        .take(COLUMN_LIMIT)
-    {
-        number = mixed(mixed(number, *row), *predecessor);
-    }
-    number % MODULUS + 1
-}
-
 fn left_in(table: &Parts<LONG>) -> Left {
-    let old = dirty_table();
+    let old = mixed_parts::<LONG>();
     if *table == old {
         Left::AsLent
     } else if table.kept_from(&old, COLUMN_LIMIT) {
@@ -68,47 +36,40 @@ fn left_in(table: &Parts<LONG>) -> Left {
     }
 }
 
-// Why a file has no plan, with so many entries of each part lent.
-pub fn plan_told(file: &[u8], n: Lengths) -> Told {
-    let mut table = dirty_table();
-    let answer = table.lent(
-        n,
-        |rows, predecessors| why_no_plan(file, rows, predecessors),
-    );
+// What a call tells over a table of which so many entries of each part are lent.
+fn told_over<F: FnOnce(&mut [u16], &mut [u16]) -> Result<Cause, Refusal>>(
+    n: Lengths,
+    call: F,
+) -> Told
+    requires { F.IsAlwaysCallable call }
+{
+    let mut table = mixed_parts::<LONG>();
+    let answer = table.lent(n, call);
     Told {
         answer,
         left: left_in(&table),
     }
+}
+
+// Why a file has no plan.
+pub fn plan_told(file: &[u8], n: Lengths) -> Told {
+    told_over(
+        n,
+        |rows, predecessors| why_no_plan(file, rows, predecessors),
+    )
 }
 
 // Why a board has no room for a newcomer.
 pub fn room_told(b: Board, t: usize, n: Lengths) -> Told {
-    let mut table = dirty_table();
-    let answer = table.lent(
+    told_over(
         n,
         |rows, predecessors| why_no_room(b, t, rows, predecessors),
-    );
-    Told {
-        answer,
-        left: left_in(&table),
-    }
+    )
 }
 
-// What a plan, an admit and a seat answer there.
-pub fn planned(file: &[u8], n: Lengths) -> Answer {
-    dirty_table().lent(n, |rows, predecessors| {
-        plan_of(file, rows, predecessors).answer
-    })
-}
-
-pub fn admitted(b: Board, t: usize, n: Lengths) -> Answer {
-    dirty_table().lent(n, |rows, predecessors| {
-        admit(b, t, rows, predecessors).answer
-    })
-}
-
-pub fn seated(b: Board, t: usize, n: Lengths) -> Answer {
-    dirty_table().lent(n, |rows, predecessors| {
-        seat(b, t, rows, predecessors).answer
-    })
+// What another call answers there: a plan, an admit or a seat.
+pub fn answered<F: FnOnce(&mut [u16], &mut [u16]) -> Answer>(n: Lengths, call: F) -> Answer
+    requires { F.IsAlwaysCallable call }
+{
+    mixed_parts::<LONG>().lent(n, call)
 }

@@ -3,8 +3,10 @@ use crate::boards::board_in;
 use crate::calls;
 use crate::calls::{Left, Told};
 use board::Board;
+use board_code::{admit, seat};
 use causes::Cause;
 use causes_code::cause_number;
+use planner_code::plan_of;
 use trial::cases::Words;
 use trial::lent::Lengths;
 use trial::say::{code_of, say, say_also};
@@ -59,13 +61,22 @@ fn say_told(rt: &HostRuntime, told: Told) {
 
 fn say_file(rt: &HostRuntime, file: &[u8], lent: Lengths) {
     say_told(rt, calls::plan_told(file, lent));
-    say_also(rt, code_of(calls::planned(file, lent)));
+    let plan = calls::answered(lent, |rows, predecessors| {
+        plan_of(file, rows, predecessors).answer
+    });
+    say_also(rt, code_of(plan));
 }
 
 fn say_board(rt: &HostRuntime, b: Board, newcomer: usize, lent: Lengths) {
     say_told(rt, calls::room_told(b, newcomer, lent));
-    say_also(rt, code_of(calls::admitted(b, newcomer, lent)));
-    say_also(rt, code_of(calls::seated(b, newcomer, lent)));
+    let admitted = calls::answered(lent, |rows, predecessors| {
+        admit(b, newcomer, rows, predecessors).answer
+    });
+    let seated = calls::answered(lent, |rows, predecessors| {
+        seat(b, newcomer, rows, predecessors).answer
+    });
+    say_also(rt, code_of(admitted));
+    say_also(rt, code_of(seated));
 }
 
 pub fn say_case(rt: &HostRuntime, line: &[u8]) {

@@ -14,6 +14,7 @@ mod lines;
 // The bytes of the text that are read at most.
 const TEXT_BYTES: usize = 262144;
 
+// Each trial has its own `main`, and the call that they share is one line.
 fn main(rt: HostRuntime) {
     each_case::<TEXT_BYTES, _>(&rt, |line| lines::say_case(&rt, line));
 }

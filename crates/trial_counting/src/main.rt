@@ -10,6 +10,7 @@ mod calls;
 mod lines;
 mod one_by_one;
 
+// Each trial has its own `main`, and the call that they share is one line.
 fn main(rt: HostRuntime) {
     each_case::<{ lines::TEXT_BYTES }, _>(&rt, |line| lines::say_case(&rt, line));
 }

@@ -1,8 +1,7 @@
 // Every assignment of up to eight single instances to the engines of a system, one after the other, where there are at most 4,096 of them.
 use brute::recovery::ceilings_of;
-use brute::search::{counted_up, digits_of, fits_one};
-use std::array;
-use system::{ENGINE_LIMIT, System, TYPE_LIMIT};
+use brute::search::{counted_up, digits_of, fits_one, kind_of, kinds_of};
+use system::{ENGINE_LIMIT, System};
 
 // The most assignments that are gone through.
 const TURNS: usize = 4096;
@@ -12,18 +11,6 @@ const TURNS: usize = 4096;
 pub struct Gone {
     pub good: usize,
     pub total: usize,
-}
-
-// The type, counted from 0, of single instance j, where those of type 1 come first: none where there are fewer.
-fn kind_at(load: &[usize; 8], j: usize) -> Option<usize> {
-    let mut passed: usize = 0;
-    for (t, number) in load.iter().enumerate().take(TYPE_LIMIT) {
-        passed = passed.wrapping_add(*number);
-        if j < passed {
-            return Some(t);
-        }
-    }
-    None
 }
 
 // What the engine at index e holds, where each instance is of one of these types, and at one of these places.
@@ -54,14 +41,13 @@ fn gone_through(y: System, kinds: &[Option<usize>; 8]) -> Option<Gone> {
         if is_good(y, kinds, &places) {
             good = good.wrapping_add(1);
         }
-        let next = counted_up(places, bases);
-        if next.wrapped {
+        let Some(next) = counted_up(places, bases) else {
             return Some(Gone {
                 good,
                 total: turn + 1,
             });
-        }
-        places = next.digits;
+        };
+        places = next;
     }
     None
 }
@@ -69,8 +55,8 @@ fn gone_through(y: System, kinds: &[Option<usize>; 8]) -> Option<Gone> {
 // All assignments of the instances of a system, where there are at most eight of these and not too many to go through.
 pub fn assignments(y: System) -> Option<Gone> {
     let all = digits_of(ceilings_of(y));
-    if kind_at(&all, 8).is_some() {
+    if kind_of(all, 8).is_some() {
         return None;
     }
-    gone_through(y, &array::from_fn(|j| kind_at(&all, j)))
+    gone_through(y, &kinds_of(all))
 }

@@ -6,7 +6,7 @@
 
 ghost use Rattle.std.specs.Prelude.{◌<◌};
 
-use system::{Cycle, Opened, Refusal, System};
+use system::{Costs, Cycle, Opened, Refusal, System};
 use system_code::{read_card, read_system};
 use trial::buffers::BUFFER_BYTES;
 use trial::files::{File, Reading};
@@ -29,24 +29,21 @@ fn at_limits() -> System {
 
 // System A with small numbers for d, which one byte makes 0.
 fn a_with_data() -> System {
-    let one = systems::with_type(systems::platform_of(3, 0, 10, 8), 4, 3, 3);
-    systems::with_data(
-        systems::with_type(systems::with_data(one, 1), 3, 2, 2),
-        65536,
-    )
+    let one = systems::with_task(systems::system_a(3), 0, |task| task.data = 1);
+    systems::with_data(one, 65536)
 }
 
 // System A with small numbers for q, which one byte makes 0.
 fn a_with_most() -> System {
-    let one = systems::with_type(systems::platform_of(3, 0, 10, 8), 4, 3, 3);
-    systems::with_most(systems::with_type(systems::with_most(one, 1), 3, 2, 2), 256)
+    let one = systems::with_most_at(systems::system_a(3), 0, Some(1));
+    systems::with_most(one, 256)
 }
 
 // System A with a second kind of engine, as document 01's, and costs there.
 fn a_with_kinds() -> System {
-    let none = systems::with_second(systems::platform_of(3, 0, 10, 8), 1, 10, 8);
-    let one = systems::with_there(systems::with_type(none, 4, 3, 3), 4, 3);
-    systems::with_there(systems::with_type(one, 3, 2, 2), 65536, 2)
+    let none = systems::with_second(systems::system_a(3), 1, 10, 8);
+    let one = systems::with_there_at(none, 0, Some(Costs { time: 4, memory: 3 }));
+    systems::with_there(one, 65536, 2)
 }
 
 // The system with a C and T of its two types: of the first just as much of T as u is of U, 4 of 10, and of the second a little less.

@@ -20,11 +20,8 @@ struct Single {
 
 // One job more. It is left out where all places are taken.
 fn enter(places: &mut [Option<Single>], job: Single) {
-    for place in places.iter_mut() {
-        if place.is_none() {
-            *place = Some(job);
-            return;
-        }
+    if let Some(place) = places.iter_mut().find(|place| place.is_none()) {
+        *place = Some(job);
     }
 }
 

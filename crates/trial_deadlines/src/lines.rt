@@ -14,7 +14,7 @@ use trial::say::{say, say_also, say_answer};
 // The numbers of a case: six counts and the ticks, or seven numbers of ticks.
 type Numbers = [usize; TYPE_LIMIT + 1];
 
-// A refusal as a number: one from the state, which no run has, past all from the input.
+// A refusal as a number, for print alone: one from the state, which no run has, past all from the input.
 fn number_of(why: Refusal) -> usize {
     match why {
         Refusal::Input(n) => usize::from(n),
@@ -108,6 +108,7 @@ pub fn say_case(rt: &HostRuntime, line: &[u8]) {
     let kind = words.letter();
     let file = words.bytes();
     let numbers: Numbers = array::from_fn(|_| words.number());
+    // The letter chooses here and nowhere else: an enum of two would say it twice more.
     match kind {
         b'p' => say_plan(rt, file.as_slice(), &numbers),
         _ => say_single(rt, file.as_slice(), &numbers),

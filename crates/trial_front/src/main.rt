@@ -7,6 +7,7 @@
 
 use front::{Front, read_front, read_joined, read_watched};
 
+// As crate `trial`'s, of which this trial would take nothing else.
 fn say(rt: &HostRuntime, text: &[u8]) {
     let _ = rt.write_all(text);
 }

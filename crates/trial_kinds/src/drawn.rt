@@ -79,7 +79,7 @@ impl Tally {
 
 fn try_system(rt: &HostRuntime, tally: &mut Tally, y: System) {
     let f = files::file_of(y);
-    let best = search::best_of(y).unwrap_or(None);
+    let best = search::best_of(y).ok().flatten();
     let right = right_all(y, f.as_slice(), best);
     if !right {
         say::say_system(rt, b"mismatch:", y);

@@ -91,7 +91,7 @@ pub fn fits_on(y: System, e: usize, counts: [u16; TYPE_LIMIT]) -> bool {
     sums.time <= room.time && sums.memory <= room.memory && apart(y, counts)
 }
 
-// A record after one with this number, 0 for none.
+// A record after one with this number, 0 before the first: numbers start at 1, so that one comparison is right for all.
 fn judged_record(y: System, last: usize, r: EngineRecord) -> Result<(), Fault> {
     let counts = r.load.counts;
     if r.number <= last || engines_in(y) < r.number {

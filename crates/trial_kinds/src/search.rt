@@ -1,6 +1,7 @@
 // Every assignment of up to eight single instances to the engines of a card, tried one after the other, where there are at most 65,536 of them.
 use crate::judge;
-use brute::search::counted_up;
+use brute::recovery::ceilings_of;
+use brute::search::{counted_up, digits_of, kind_of, kinds_of, least};
 use std::array;
 use system::{System, TYPE_LIMIT};
 
@@ -22,23 +23,11 @@ type Instances = [Option<usize>; 8];
 // A set of the first eight instances is a number of eight bits, one for each of them.
 const BITS: [u8; 8] = [1, 2, 4, 8, 16, 32, 64, 128];
 
-// Whether a set of instances fits an engine of the first kind, and of the second.
+// Whether a set of instances fits an engine of the first kind, and of the second: either may be so without the other, and there is no value beside.
 #[derive(Clone, Copy)]
 struct Fit {
     first: bool,
     second: bool,
-}
-
-// The type, counted from 0, of the single instance at index j.
-fn type_of(y: System, j: usize) -> Option<usize> {
-    let mut before = 0usize;
-    for (t, task) in y.types.iter().enumerate() {
-        before = before.wrapping_add(usize::from(task.ceiling));
-        if j < before {
-            return Some(t);
-        }
-    }
-    None
 }
 
 // One instance more of the type at index t.
@@ -103,14 +92,6 @@ fn needed(fits: &[Fit; 256], sets: [u8; 16], m: usize) -> Option<Engines> {
     })
 }
 
-// The less of two, where both are good.
-fn least(a: Option<Engines>, b: Option<Engines>) -> Option<Engines> {
-    match (a, b) {
-        (Some(one), Some(other)) => Some(one.min(other)),
-        (one, other) => one.or(other),
-    }
-}
-
 // The least over all assignments, None where none is good.
 fn least_tried(y: System, instances: Instances) -> Result<Option<Engines>, Untried> {
     let engines = judge::engines_in(y);
@@ -123,19 +104,19 @@ fn least_tried(y: System, instances: Instances) -> Result<Option<Engines>, Untri
             best,
             needed(&fits, sets_of(instances, assignment), y.engines),
         );
-        let next = counted_up(assignment, bases);
-        if next.wrapped {
+        let Some(next) = counted_up(assignment, bases) else {
             return Ok(best);
-        }
-        assignment = next.digits;
+        };
+        assignment = next;
     }
     Err(Untried)
 }
 
 // The engines of the best plan of all instances of a card, None where there is no plan.
 pub fn best_of(y: System) -> Result<Option<Engines>, Untried> {
-    if type_of(y, 8).is_some() {
+    let load = digits_of(ceilings_of(y));
+    if kind_of(load, 8).is_some() {
         return Err(Untried);
     }
-    least_tried(y, array::from_fn(|j| type_of(y, j)))
+    least_tried(y, kinds_of(load))
 }

@@ -1,5 +1,5 @@
 // The number of good assignments, over the first entries of a part of 64-bit numbers.
-use crate::lent::{LONG, Lent};
+use crate::lent::{LONG, Lent, say_kept};
 use counting_code::count_assignments;
 use trial::lent::{front_mut, kept_from};
 use trial::say;
@@ -18,9 +18,6 @@ pub fn say_counts(rt: &HostRuntime, file: &[u8], n: Lent) {
         }
         Err(r) => say::say_answer(rt, Err(r)),
     }
-    if kept_from(&part, &OLD, n.free) {
-        say::say(rt, b" kept\n");
-    } else {
-        say::say(rt, b" CHANGED\n");
-    }
+    say_kept(rt, kept_from(&part, &OLD, n.free));
+    say::say(rt, b"\n");
 }

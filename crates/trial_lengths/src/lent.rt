@@ -46,9 +46,12 @@ pub fn say_over<F: FnOnce(&mut [u16], &mut [u16])>(rt: &HostRuntime, n: Lent, sa
     parts.lent(n.entries, say_call);
     say_entries(rt, b"  rows", &parts.rows, n.shown);
     say_entries(rt, b"  predecessors", &parts.predecessors, n.shown);
-    if parts.kept_from(&OLD, n.free) {
-        say::say(rt, b"  kept\n");
-    } else {
-        say::say(rt, b"  CHANGED\n");
-    }
+    say::say(rt, b" ");
+    say_kept(rt, parts.kept_from(&OLD, n.free));
+    say::say(rt, b"\n");
+}
+
+// Whether what may not be changed is as it was.
+pub fn say_kept(rt: &HostRuntime, kept: bool) {
+    say::say(rt, if kept { b" kept" } else { b" CHANGED" });
 }

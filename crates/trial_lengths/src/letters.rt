@@ -40,9 +40,9 @@ pub enum Text {
     CheckRead,
 }
 
-// A call that is lent the two parts. p plan_of, P plan_one_kind, f fill_table, l plan_list, i listing, w why_no_plan: nothing; q plan_into: the records that are
-// lent; t write_sheet: the bytes of the buffer that are lent; c check_sheet: those of the sheet (0s behind it); a admit, s seat, x why_no_room: the type of the
-// newcomer, on a fresh board; r repack, after two of type 1 were admitted to two engines: nothing.
+// A call that is lent the two parts. p plan_of, P plan_one_kind, f fill_table, l plan_list, i listing, w why_no_plan: nothing; q plan_into: the records that
+// are lent; t write_sheet: the bytes of the buffer that are lent; c check_sheet: those of the sheet (0s behind it); a admit, s seat, x why_no_room: the type
+// of the newcomer, on a fresh board; r repack, after two of type 1 were admitted to two engines: nothing.
 #[derive(Clone, Copy)]
 pub enum Over {
     Plan,

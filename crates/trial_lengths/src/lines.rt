@@ -1,6 +1,8 @@
 // The cases as they stand in the text, a line for each: its name, its kind, a file, how many bytes are lent of it (0s behind it), how many entries of the row
 // part and of the predecessor
-// part are lent, how many first entries of each part are printed, and how many may be changed, a number, and a sheet, `-` for none. The kinds stand in `letters`.
+// part are lent, how many first entries of each part are printed, and how many may be changed, a number, and a sheet, `-` for none. The kinds stand in
+// `letters`.
+// Rows and predecessors go along as two slices, as the calls under test take them.
 // Before a text stands whether all bytes of its buffer past those written are as they were: `kept`.
 use crate::buffers::say_written;
 use crate::lent::{Lent, say_over, wide_of};

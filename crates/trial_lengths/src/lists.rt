@@ -1,4 +1,5 @@
 // A plan into the first records of a list of more than 8 bits count: the answer, the first records, and whether all later ones are as they were.
+use crate::lent::say_kept;
 use trial::say;
 use trial_records::{OLD, plan_front, say_changed};
 
@@ -22,9 +23,9 @@ pub fn say_into(
     for record in listed.list.iter().take(SHOWN) {
         say_changed(rt, record);
     }
-    if listed.list.iter().skip(SHOWN).all(|record| *record == OLD) {
-        say::say(rt, b" kept\n");
-    } else {
-        say::say(rt, b" CHANGED\n");
-    }
+    say_kept(
+        rt,
+        listed.list.iter().skip(SHOWN).all(|record| *record == OLD),
+    );
+    say::say(rt, b"\n");
 }

@@ -38,6 +38,7 @@ mod sheets_of;
 mod texts;
 mod told;
 
+// Each trial has its own `main`, and the call that they share is one line.
 fn main(rt: HostRuntime) {
     each_case::<262144, _>(&rt, |line| lines::say_case(&rt, line));
 }

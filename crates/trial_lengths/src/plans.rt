@@ -29,7 +29,7 @@ pub fn say_list(rt: &HostRuntime, planned: &PlannedList) {
     say::say(rt, b"\n");
 }
 
-// The type that a cause names, 0 for none.
+// The type that a cause names, for print alone: 0 for none.
 fn named_by(cause: Cause) -> usize {
     match cause {
         Cause::OneTooLarge(t) => t,

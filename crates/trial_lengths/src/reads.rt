@@ -5,9 +5,8 @@ use trial::say;
 // The first bytes of a file, 0s behind it.
 pub fn front_of(file: &[u8]) -> [u8; FILE_BYTES] {
     let mut front = [0; FILE_BYTES];
-    for (byte, given) in front.iter_mut().zip(file) {
-        *byte = *given;
-    }
+    let size = file.len().min(FILE_BYTES);
+    front[..size].copy_from_slice(&file[..size]);
     front
 }
 

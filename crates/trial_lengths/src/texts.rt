@@ -1,6 +1,7 @@
 // Texts at the front of a buffer of 4,096 bytes that held something else before: what each call that takes a file, or bytes that were read, writes there, and
 // whether all bytes past those written are as they were. So a call that clears the rest of its caller's buffer, uses it, or takes the first 0 in it for the end
 // of the text is seen.
+use crate::lent::say_kept;
 use crate::reads::say_hex;
 use trial::lent::{front, kept_from};
 use trial::say;
@@ -19,11 +20,7 @@ fn say_written<W: FnOnce(&mut [u8; 4096]) -> usize, S: FnOnce(&[u8])>(
 {
     let mut out = OLD;
     let written = write(&mut out);
-    if kept_from(&out, &OLD, written) {
-        say::say(rt, b" kept");
-    } else {
-        say::say(rt, b" CHANGED");
-    }
+    say_kept(rt, kept_from(&out, &OLD, written));
     say_text(front(&out, written));
 }
 

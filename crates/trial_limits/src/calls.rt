@@ -1,7 +1,8 @@
 // The calls of a script, four bytes each: its kind (a for admit, m for 1,023 admits, n for 4,095 of them, s for seat, r for retire, p for repack, w for
 // withdraw, any
 // other for restore), its type, and the engine that it leaves, withdraws or puts back or that is shown after it, then a space. Each answer,
-// what the engine holds after it and whether it is out of service, and the table at the end.
+// what the engine holds after it and whether it is out of service, and the table at the end. Rows and predecessors go along as two slices, as the calls under
+// test take them.
 use crate::as_promised::{admit, open_board, repack, restore, retire, seat, withdraw};
 use crate::lent::{OLD, say_table};
 use board::{Board, Turn};
@@ -82,7 +83,8 @@ impl Kind {
     }
 }
 
-// The number at a place of a call's bytes: `0` is 0, and so on to `@`, which is 16, and `A`, 17; `z` is the largest there is.
+// The number at a place of a call's bytes: `0` is 0, and so on to `@`, which is 16, and `A`, 17; `z` is the largest there is. As that of
+// trial_parts but for the letter past all others.
 fn number_at(bytes: &[u8], i: usize) -> usize {
     match bytes.get(i) {
         None => 0,

@@ -2,6 +2,7 @@
 use brute::recovery;
 use trial::lent::Parts;
 use trial::{files, say};
+use trial_records::say_kept;
 
 // The entries of the longest part: more than any system needs.
 pub const LONG: usize = 5100;
@@ -24,11 +25,5 @@ pub fn say_table(rt: &HostRuntime, parts: &Parts<LONG>, file: &[u8]) {
     say::say(rt, b"table");
     say::say_also(rt, entry_before(&parts.rows, end));
     say::say_also(rt, entry_before(&parts.predecessors, end));
-    if parts.kept_from(&OLD, 0) {
-        say::say(rt, b", all kept\n");
-    } else if parts.kept_from(&OLD, end) {
-        say::say(rt, b", kept past it\n");
-    } else {
-        say::say(rt, b", changed past it\n");
-    }
+    say_kept(rt, parts, &OLD, end);
 }

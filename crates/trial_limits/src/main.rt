@@ -21,6 +21,7 @@ mod lines;
 mod openings;
 mod plans;
 
+// Each trial has its own `main`, and the call that they share is one line.
 fn main(rt: HostRuntime) {
     each_case::<32768, _>(&rt, |line| lines::say_case(&rt, line));
 }

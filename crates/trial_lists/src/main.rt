@@ -6,7 +6,7 @@ use brute::recovery;
 use system::System;
 use trial::lent::{Lengths, Parts};
 use trial::{files, say, systems};
-use trial_records::{plan_front, say_listed, say_record};
+use trial_records::{plan_front, say_kept, say_listed, say_record};
 
 // The most records that are lent: one more than any system has engines.
 const MOST: usize = 17;
@@ -35,13 +35,7 @@ fn say_table(rt: &HostRuntime, y: System, parts: &Parts<LONG>) {
     say::say(rt, b", table");
     say::say_also(rt, usize::from(parts.rows[0]));
     say::say_also(rt, usize::from(parts.predecessors[0]));
-    if parts.kept_from(&OLD, 0) {
-        say::say(rt, b", all kept\n");
-    } else if parts.kept_from(&OLD, recovery::columns_of(y)) {
-        say::say(rt, b", kept past it\n");
-    } else {
-        say::say(rt, b", changed past it\n");
-    }
+    say_kept(rt, parts, &OLD, recovery::columns_of(y));
 }
 
 // A line for a plan over the first entries of two parts: the records that are lent, the answer, all records after it, and the table.

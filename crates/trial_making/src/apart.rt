@@ -19,7 +19,7 @@ fn bits_of(x: u64) -> [bool; 64] {
 // The number of these bits.
 fn number_of(bits: &[bool; 64]) -> u64 {
     bits.iter().rev().fold(0u64, |x, bit| {
-        x.wrapping_add(x).wrapping_add(if *bit { 1 } else { 0 })
+        x.wrapping_add(x).wrapping_add(u64::from(*bit))
     })
 }
 
@@ -60,12 +60,12 @@ fn next_value(x: u64) -> u64 {
 
 // A remainder, 0 where there is nothing to divide by.
 fn remainder(x: u64, by: u64) -> u64 {
-    if by == 0 { 0 } else { x % by }
+    x.checked_rem(by).unwrap_or(0)
 }
 
 // One of the numbers from 1 to `most`.
 fn from_one(x: u64, most: u32) -> u32 {
-    (remainder(x, most as u64).wrapping_add(1) % 4294967296) as u32
+    (remainder(x, u64::from(most)).wrapping_add(1) % 4294967296) as u32
 }
 
 // One of the numbers from 0 to `most`.

@@ -31,7 +31,7 @@ fn recipe_in(words: &mut Words) -> Recipe {
     }
 }
 
-// One call: what was answered, the bytes that it says were written, and that it is wrong where it is. Answers 1 for a wrong one.
+// One call: what was answered, the bytes that it says were written, and that it is wrong where it is. Answers how many were wrong.
 fn say_call<const N: usize>(rt: &HostRuntime, name: &[u8], w: Recipe, room: usize) -> usize
     requires { N ≤ 6000 }
 {
@@ -45,12 +45,9 @@ fn say_call<const N: usize>(rt: &HostRuntime, name: &[u8], w: Recipe, room: usiz
             say_hex(rt, *b);
         }
     }
-    if right_call(&c, w, room, FILL) {
-        say(rt, b"\n");
-        return 0;
-    }
-    say(rt, b" wrong\n");
-    1
+    let right = right_call(&c, w, room, FILL);
+    say(rt, if right { b"\n" } else { b" wrong\n" });
+    usize::from(!right)
 }
 
 // A case: its kind, its name, its recipe, and the bytes lent. Answers how many calls were wrong.
@@ -60,6 +57,7 @@ pub fn say_case(rt: &HostRuntime, line: &[u8]) -> usize {
     let name = words.word();
     let recipe = recipe_in(&mut words);
     let room = words.number();
+    // The letter chooses here and nowhere else: an enum of three would say it twice more.
     match kind {
         b'l' => sweeps::say_lengths(rt, name, recipe),
         b'b' => say_call::<LONG>(rt, name, recipe, room),

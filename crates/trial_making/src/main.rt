@@ -15,6 +15,7 @@ mod lent;
 mod lines;
 mod sweeps;
 
+// Each trial has its own `main`, and the call that they share is one line.
 fn main(rt: HostRuntime) {
     let mut wrong: usize = 0;
     each_case::<{ lines::TEXT_BYTES }, _>(&rt, |line| {

@@ -7,8 +7,7 @@ use trial::{say, systems};
 // A line for a system: 1 where every answer was right, the pairs, and the bound.
 fn say_case(rt: &HostRuntime, name: &[u8], y: System) {
     let r = fills::trial_of(y, systems::system_full(0));
-    let right = if r.right { 1 } else { 0 };
-    say::say_numbers(rt, name, &[right, r.pairs, r.bound]);
+    say::say_numbers(rt, name, &[usize::from(r.right), r.pairs, r.bound]);
 }
 
 // One type 1,023 times on 16 engines: U, S, u, s and d.

@@ -3,6 +3,7 @@
 use brute::{recovery, search};
 use system::{NO_COLUMN, System, TYPE_LIMIT};
 use trial::lent::{front, front_mut};
+use trial::systems::product;
 
 // The columns of a system, at most.
 const WIDEST: usize = 4096;
@@ -15,7 +16,8 @@ pub struct Column {
     pub predecessor: u16,
 }
 
-// The columns of a system, which are the first of all that there may be, and the pairs tried to fill them.
+// The columns of a system, which are the first of all that there may be, and the pairs tried to fill them. An array and a number, seen through `columns`: a
+// Vec would bring an error of memory to every step.
 #[derive(Clone, Copy)]
 pub struct Count {
     all: [Column; WIDEST],
@@ -45,17 +47,17 @@ fn loads_of(y: System) -> Count {
         predecessor: NO_COLUMN,
     }; WIDEST];
     let mut digits: [usize; 8] = [0; 8];
+    // By index: the same over `all.iter_mut()` was tried, and its proof did not close.
     for c in 0..WIDEST {
         all[c].load = recovery::counts_of(digits);
-        let next = search::counted_up(digits, bases);
-        if next.wrapped {
+        let Some(next) = search::counted_up(digits, bases) else {
             return Count {
                 all,
                 number: c + 1,
                 tried: 0,
             };
-        }
-        digits = next.digits;
+        };
+        digits = next;
     }
     Count {
         all,
@@ -67,10 +69,6 @@ fn loads_of(y: System) -> Count {
 // Column p has no count above that of column c.
 fn no_greater(p: &Column, c: &Column) -> bool {
     p.load.iter().zip(&c.load).all(|(less, more)| less <= more)
-}
-
-fn times(a: u32, b: u32) -> u64 {
-    (a as u64) * (b as u64)
 }
 
 // How many times the code of a type is in memory: under rule 1 once for all instances.
@@ -88,9 +86,9 @@ fn difference_fits(y: &System, p: &Column, c: &Column) -> bool {
     let mut memory: u64 = 0;
     for (task, (less, more)) in y.types.iter().zip(p.load.iter().zip(&c.load)) {
         let count = more.wrapping_sub(*less);
-        time = time.wrapping_add(times(count as u32, task.time));
-        memory = memory.wrapping_add(times(count as u32, task.data));
-        memory = memory.wrapping_add(times(codes(y.rule, count), task.memory));
+        time = time.wrapping_add(product(u32::from(count), task.time));
+        memory = memory.wrapping_add(product(u32::from(count), task.data));
+        memory = memory.wrapping_add(product(codes(y.rule, count), task.memory));
         if task.most.is_some_and(|q| q < count) {
             return false;
         }
@@ -157,7 +155,7 @@ fn narrow(n: u64) -> u32 {
 
 // (n + 1) × (n + 2) / 2.
 fn triangle(n: u16) -> u32 {
-    narrow(times(n as u32 + 1, n as u32 + 2) / 2)
+    narrow(product(u32::from(n) + 1, u32::from(n) + 2) / 2)
 }
 
 // m times the product of (n + 1) × (n + 2) / 2.
@@ -165,6 +163,6 @@ pub fn bound_of(y: System) -> u32 {
     y.types
         .iter()
         .fold(narrow(y.engines as u64), |bound, task| {
-            narrow(times(bound, triangle(task.ceiling)))
+            narrow(product(bound, triangle(task.ceiling)))
         })
 }

@@ -18,7 +18,7 @@ pub struct Filled {
 }
 
 // What the fills of a system came to: whether every answer and every entry was right, the number, the bound, whether no type fits, whether the number is
-// the bound but for column 0, which is never tried, and whether it is one for each other column.
+// the bound but for column 0, which is never tried, and whether it is one for each other column. The flags are counted one by one, and none has a value beside.
 #[derive(Clone, Copy)]
 pub struct Trial {
     pub right: bool,

@@ -5,7 +5,7 @@ use trial::{say, spread, systems};
 
 // How many systems were tried; in how many every answer was right, no type fits, the pairs are the bound but for column 0, and they are one for each
 // other column; and the sums of pairs and bounds.
-#[derive(Clone, Copy)]
+#[derive(Clone, Copy, Default)]
 struct Tally {
     tried: usize,
     right: usize,
@@ -16,23 +16,7 @@ struct Tally {
     bound: usize,
 }
 
-fn plus_if(n: usize, b: bool) -> usize {
-    if b { n.wrapping_add(1) } else { n }
-}
-
 impl Tally {
-    fn new() -> Tally {
-        Tally {
-            tried: 0,
-            right: 0,
-            none: 0,
-            met: 0,
-            least: 0,
-            pairs: 0,
-            bound: 0,
-        }
-    }
-
     // The fills of one system, over parts that another one left.
     fn judge(&mut self, rt: &HostRuntime, y: System, other: System) {
         let r = fills::trial_of(y, other);
@@ -40,10 +24,10 @@ impl Tally {
             say::say_system(rt, b"mismatch:", y);
         }
         self.tried = self.tried.wrapping_add(1);
-        self.right = plus_if(self.right, r.right);
-        self.none = plus_if(self.none, r.none);
-        self.met = plus_if(self.met, r.met);
-        self.least = plus_if(self.least, r.least);
+        self.right = self.right.wrapping_add(usize::from(r.right));
+        self.none = self.none.wrapping_add(usize::from(r.none));
+        self.met = self.met.wrapping_add(usize::from(r.met));
+        self.least = self.least.wrapping_add(usize::from(r.least));
         self.pairs = self.pairs.wrapping_add(r.pairs);
         self.bound = self.bound.wrapping_add(r.bound);
     }
@@ -51,7 +35,7 @@ impl Tally {
 
 // A line for so many systems of up to 16 engines, drawn one after another.
 fn say_drawn(rt: &HostRuntime, name: &[u8], number: usize, typecount: usize, most: usize) {
-    let mut t = Tally::new();
+    let mut t = Tally::default();
     let mut seed = typecount as u64;
     let mut other = systems::system_a(3);
     for _ in 0..number {

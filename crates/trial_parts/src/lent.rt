@@ -31,8 +31,8 @@ impl From<u8> for Call {
     }
 }
 
-// The call of a case: filling alone, which answers the number of pairs; a plan, of which the text is how many records are lent, with all records after it, `=` for
-// one that is as it was; or a list of calls, the text.
+// The call of a case: filling alone, which answers the number of pairs; a plan, of which the text is how many records are lent, with all records after it, `=`
+// for one that is as it was; or a list of calls, the text.
 fn say_call(
     rt: &HostRuntime,
     call: Call,

@@ -1,5 +1,6 @@
 // A list of calls from the fresh board of a file, three bytes for each and a space: its kind (a, s, r for retire, p for repack, w for withdraw, b for
 // restore, which puts an engine back), its type and its engine. A number is a letter past `0`, so that `0` is 0 and `@` is 16; `x` is 255, and `-` none.
+// Rows and predecessors go along as two slices, as the calls under test take them.
 // Prints what opening and each call answer, as a code of `trial::say`, and then what each engine holds and whether it is out of service.
 use board::{Board, Turn};
 use board_code::{admit, open_board, repack, restore, retire, seat, withdraw};
@@ -20,7 +21,7 @@ enum Call {
     Restore(usize),
 }
 
-// The number at a place of a call's bytes.
+// The number at a place of a call's bytes. As that of trial_limits but for the letter past all others: one for both would take letter and number at each call.
 fn number_at(bytes: &[u8], i: usize) -> usize {
     match bytes.get(i) {
         None => 0,

@@ -13,6 +13,7 @@ mod lines;
 mod lists;
 mod runs;
 
+// Each trial has its own `main`, and the call that they share is one line.
 fn main(rt: HostRuntime) {
     each_case::<131072, _>(&rt, |line| lines::say_case(&rt, line));
 }

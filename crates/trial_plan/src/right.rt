@@ -1,11 +1,12 @@
 // A plan, by value and into a list, and filling alone, over two parts that are longer than they need to be, just long enough, and of which one is an entry
-// too short, or both: whether each is what the brute search says.
+// too short, or both: whether each is what the brute search says. The system, what is wanted of it and its columns go along one by one: most functions take
+// but one or two of them.
 use brute::recovery::Recovery;
 use brute::{recovery, search};
 use loads::EngineLoad;
 use planner::{EngineRecord, Plan};
 use planner_code::{plan_list, plan_of};
-use system::{ENGINE_LIMIT, Refusal, System, TYPE_LIMIT};
+use system::{ENGINE_LIMIT, Refusal, System};
 use table_code::fill_table;
 use trial::lent::{Lengths, Parts};
 use trial::{files, tables};
@@ -65,12 +66,7 @@ fn true_load(y: System, l: EngineLoad) -> bool {
 
 // All n(t) instances of each type are placed.
 fn all_placed(y: System, loads: [EngineLoad; ENGINE_LIMIT]) -> bool {
-    for t in 0..TYPE_LIMIT {
-        if recovery::instances(loads, t) != usize::from(y.types[t].ceiling) {
-            return false;
-        }
-    }
-    true
+    recovery::instances(loads) == search::digits_of(recovery::ceilings_of(y))
 }
 
 // The plan is the recovery, and a good assignment of all instances; engines past the answer are idle.

@@ -100,9 +100,8 @@ pub fn long_steps(rt: &HostRuntime) {
     step(rt, b"long-cut-after-44", front(file, 47), 0);
 }
 
-// A field of 65,535 bytes and one of 2 after it; the long field alone, and one byte short; and at place 5, within it, the head of another of 65,535, which
-// ends where the file does, and one byte short.
-pub fn longest_steps(rt: &HostRuntime) {
+// A field of 65,535 bytes and one of 2 after it; at place 5, within the long one, the head of another of 65,535, which ends where the file does.
+fn longest() -> [u8; FILE_BYTES] {
     let mut file = varied();
     file[0] = 7;
     file[1] = 255;
@@ -113,6 +112,12 @@ pub fn longest_steps(rt: &HostRuntime) {
     file[65538] = 9;
     file[65539] = 0;
     file[65540] = 2;
+    file
+}
+
+// Both fields; the long field alone, and one byte short; and the field at place 5, whole and one byte short.
+pub fn longest_steps(rt: &HostRuntime) {
+    let file = longest();
     step(rt, b"longest-at-0", &file, 0);
     step(rt, b"longest-at-65538", &file, 65538);
     step(rt, b"longest-alone", front(&file, 65538), 0);

@@ -42,6 +42,7 @@ fn say_case(rt: &HostRuntime, line: &[u8]) {
     say_written(rt, &out[..written]);
 }
 
+// Each trial has its own `main`, and the call that they share is one line.
 fn main(rt: HostRuntime) {
     each_case::<TEXT_BYTES, _>(&rt, |line| say_case(&rt, line));
 }

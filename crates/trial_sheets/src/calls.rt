@@ -5,6 +5,7 @@ use system::{Answer, COLUMN_LIMIT, Refusal};
 use trial::lent;
 use trial::lent::{Lengths, Parts, front_mut};
 use trial::words::CASE_BYTES;
+use trial_records::{front_number, mixed_parts};
 
 // What a check answered, and the number that stands for the whole table after it, where that is not as it was lent.
 #[derive(Clone, Copy)]
@@ -21,37 +22,17 @@ pub struct WriteCall {
     pub changed: Option<usize>,
 }
 
-// What stands at an entry of a table before it is lent.
-fn dirt(i: usize) -> u16 {
-    (((i % 65536) * 40503 + 7) % 65536) as u16
-}
-
-fn dirty_table() -> Parts<COLUMN_LIMIT> {
-    Parts::of(dirt, |i| dirt(i.wrapping_add(COLUMN_LIMIT)))
-}
-
 fn dirty_buffer() -> [u8; CASE_BYTES] {
     array::from_fn(|i| (i % 251 + 3) as u8)
 }
 
-// What numbers of entries are counted by.
-const MODULUS: usize = 1000003;
-
-// The number of entries after one more, of which the remainder counts.
-fn mixed(number: usize, entry: u16) -> usize {
-    number % MODULUS * 257 + usize::from(entry)
-}
-
 // The number of a table, where it is not as it was lent: every entry of both parts has a part in it.
 fn changed(table: &Parts<COLUMN_LIMIT>) -> Option<usize> {
-    if *table == dirty_table() {
-        return None;
+    if *table == mixed_parts::<COLUMN_LIMIT>() {
+        None
+    } else {
+        Some(front_number(table))
     }
-    let mut number = 1;
-    for (row, predecessor) in table.rows.iter().zip(&table.predecessors) {
-        number = mixed(mixed(number, *row), *predecessor);
-    }
-    Some(number % MODULUS + 1)
 }
 
 // The bytes of a buffer from a place on are as they were before the call.
@@ -61,7 +42,7 @@ pub fn kept_from(buffer: &[u8; CASE_BYTES], start: usize) -> bool {
 
 // A sheet checked against a file, with so many entries of each part lent.
 pub fn checked(file: &[u8], sheet: &[u8], n: Lengths) -> CheckCall {
-    let mut table = dirty_table();
+    let mut table = mixed_parts::<COLUMN_LIMIT>();
     let answer = table.lent(n, |rows, predecessors| {
         check_sheet(file, sheet, rows, predecessors)
     });
@@ -73,7 +54,7 @@ pub fn checked(file: &[u8], sheet: &[u8], n: Lengths) -> CheckCall {
 
 // The sheet of a file's plan written, with so many entries of each part and bytes lent.
 pub fn written(file: &[u8], n: Lengths, room: usize) -> WriteCall {
-    let mut table = dirty_table();
+    let mut table = mixed_parts::<COLUMN_LIMIT>();
     let mut buffer = dirty_buffer();
     let out = front_mut(&mut buffer, room);
     let answer = table.lent(n, |rows, predecessors| {

@@ -116,7 +116,7 @@ fn say_cuts(rt: &HostRuntime, c: &Case) {
     say(rt, b"\n");
 }
 
-// Every byte of the sheet made larger by the same number, past 255 from 0 on.
+// Every byte of the sheet made larger by the same number, past 255 from 0 on. By its place, since each time it is the one byte of a new copy that differs.
 fn say_changes(rt: &HostRuntime, c: &Case, more: u8) {
     say(rt, b"  +");
     say_number(rt, usize::from(more));

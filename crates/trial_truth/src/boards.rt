@@ -1,5 +1,5 @@
 // The boards of the trial, made by the words of a case one after the other from one whose numbers are all 0. A word that changes its system is one of crate
-// `trial`'s. The others:
+// `trial`'s, and its letter chooses as there, by the byte that `Change` holds. The others:
 // - `A`: document 01's system A with two engines, on which nothing stands; `H`: the same with (2, 0) and (1, 2) on them;
 // - `D`: two engines of U 10 and S 20, rule 1, types of u 2, s 5, n 4, d 3 and of u 1, s 2, n 2, d 1; (2, 1) on engine 1 and (1, 0) on engine 2. The
 //   memory of engine 1 is 14, and would be 19 under rule 0;

@@ -13,6 +13,7 @@ mod boards;
 mod calls;
 mod lines;
 
+// Each trial has its own `main`, and the call that they share is one line.
 fn main(rt: HostRuntime) {
     each_case::<16384, _>(&rt, |line| lines::say_case(&rt, line));
 }

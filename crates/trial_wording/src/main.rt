@@ -31,6 +31,7 @@ fn say_case(rt: &HostRuntime, line: &[u8]) {
     say(rt, &out[..written]);
 }
 
+// Each trial has its own `main`, and the call that they share is one line.
 fn main(rt: HostRuntime) {
     each_case::<TEXT_BYTES, _>(&rt, |line| say_case(&rt, line));
 }

@@ -35,7 +35,7 @@ fn with_junk(y: System) -> System {
     z
 }
 
-// The system after a word.
+// The system after a word, whose letter is a byte as in crate `trial`, which takes all others.
 fn after_word(y: System, c: Change) -> System {
     match c.what {
         b'p' => systems::system_full(1),

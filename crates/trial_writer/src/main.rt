@@ -17,6 +17,7 @@ mod rounds;
 mod sweeps;
 mod zeros;
 
+// Each trial has its own `main`, and the call that they share is one line.
 fn main(rt: HostRuntime) {
     let mut wrong: usize = 0;
     each_case::<{ cases::TEXT_BYTES }, _>(&rt, |line| {

@@ -96,8 +96,16 @@ fn in_turn(i: usize) -> (usize, usize) {
     }
 }
 
-// A system drawn by crate `trial`, with all of a buffer.
-fn whole(d: spread::DrawnSystem) -> Drawn {
+// The system at a place, drawn by crate `trial`, of up to 16 engines, with all of a buffer.
+fn drawn_in_turn<F: Fn(u64, usize, usize, usize) -> spread::DrawnSystem>(
+    seed: u64,
+    i: usize,
+    draw: F,
+) -> Drawn
+    requires { F.IsAlwaysCallable draw }
+{
+    let (k, most) = in_turn(i);
+    let d = draw(seed, 16, k, most);
     Drawn {
         draws: spread::Draws { seed: d.seed },
         system: d.system,
@@ -105,29 +113,30 @@ fn whole(d: spread::DrawnSystem) -> Drawn {
     }
 }
 
-fn drawn_spread(seed: u64, i: usize) -> Drawn {
-    let (k, most) = in_turn(i);
-    whole(spread::drawn_system(seed, 16, k, most))
-}
-
-// The same of two kinds.
-fn drawn_mixed(seed: u64, i: usize) -> Drawn {
-    let (k, most) = in_turn(i);
-    whole(spread::drawn_mixed(seed, 16, k, most))
-}
-
 // The drawn systems, and how many calls were wrong, among them and before them. Of two kinds the number of those refused 41 is shown too, and with a C and T
 // the number of those refused 43.
 pub fn say_sweeps(rt: &HostRuntime, before: usize) {
     let wrong = [
         sweep(rt, 1, 20000, |seed, _| drawn_edges(seed)).say(rt, b"ends of the limits:", 10),
-        sweep(rt, 2, 6000, drawn_spread).say(rt, b"drawn:", 10),
+        sweep(
+            rt,
+            2,
+            6000,
+            |seed, i| drawn_in_turn(seed, i, spread::drawn_system),
+        )
+        .say(rt, b"drawn:", 10),
         sweep(rt, 3, 10000, |seed, _| drawn_kinds(seed)).say(
             rt,
             b"ends of the limits, two kinds:",
             11,
         ),
-        sweep(rt, 4, 3000, drawn_mixed).say(rt, b"drawn, two kinds:", 11),
+        sweep(
+            rt,
+            4,
+            3000,
+            |seed, i| drawn_in_turn(seed, i, spread::drawn_mixed),
+        )
+        .say(rt, b"drawn, two kinds:", 11),
         sweep(rt, 5, 10000, |seed, _| drawn_paces(seed)).say(
             rt,
             b"ends of the limits, C and T:",

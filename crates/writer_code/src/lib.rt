@@ -44,7 +44,7 @@ fn task_fault(t: TaskType) -> Result<(), Refusal>
     costs_fault(t.there)
 }
 
-// The first fault among six types: 8.
+// The first fault among six types: 8. This and the next stay two loops of a line: one over a test that is passed in would need the test's clause once more.
 fn types_fault(types: [TaskType; TYPE_LIMIT]) -> Result<(), Refusal>
     ensures { result ≡ within (types_fault types) }
 {
@@ -96,7 +96,7 @@ fn system_fault(y: System) -> Result<(), Refusal>
     types_limits(y.timecap, cleared(y).types)
 }
 
-// The bytes of a whole field of this tag; none where the table has no rule for it.
+// The bytes of a whole field of this tag; none where the table has no rule for it. A closure for `map_or` would have to ask that the sum fits.
 fn field_size(tag: u8) -> usize
     ensures { result ≡ found_size (rule_of field_rules tag) }
 {
@@ -124,7 +124,7 @@ fn type_size(t: TaskType) -> usize
         + size_if(t.there.is_some(), COSTS)
 }
 
-// The bytes of the first `typecount` types.
+// The bytes of the first `typecount` types. `sum` would ask, before it adds them, that the sizes fit: the loop says so as it goes.
 fn types_size(types: [TaskType; TYPE_LIMIT], typecount: usize) -> usize
     requires { typecount ≤ type_limit }
     ensures { result ≡ length (types_bytes (take typecount types)) }
@@ -230,7 +230,8 @@ fn put_pace(out: &mut [u8], at: usize, pace: Option<Cycle>) -> usize
     put_four(out, run, c.period)
 }
 
-// Puts the u and s of a type on the second kind; nothing where they are not given.
+// Puts the u and s of a type on the second kind; nothing where they are not given. It is not one function with `put_pace`: two numbers to pass along would not
+// say which are C and T and which u and s.
 fn put_costs(out: &mut [u8], at: usize, there: Option<Costs>) -> usize
     requires { at + length (costs_bytes there) ≤ length out.old }
     ensures { Puts (costs_bytes there) at out.old out.new result }

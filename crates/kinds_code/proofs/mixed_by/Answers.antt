@@ -1,8 +1,10 @@
 -- The best column that the parts show is that of the definition (`best-shown`), so what both kinds place of it and of the rest, joined, is the mixed placement (`both-joined`).
 use Prim.Native.Nat.{ℕ, ◌+◌, ◌-◌, ◌≤◌, ◌<◌}
 use mathlib.Core.List.{List}
-use mathlib.Core.Path.{◌≡◌, ap, ◌∙◌}
+use mathlib.Core.Path.{◌≡◌, refl, sym, ap, ◌∙◌}
 use native.Mathlib.Omega.{arith}
+use borrow.Author.Rules.{rules}
+use Rattle.std.proofs.Common.{Option, None, Some}
 use Rattle.system.specs.declared.System.{System}
 use Rattle.system.specs.Values.{ceilings_of}
 use Rattle.system.specs.Limits.{columns}
@@ -17,6 +19,7 @@ use Rattle.kinds.specs.Mixing.{mixed_placement}
 use Rattle.kinds.specs.Inner.{BothShow, cost_at, joined_placement}
 use Rattle.kinds.proofs.Splits.{as_many, split-in, best-shown, best-inside}
 use Rattle.kinds_code.proofs.Both.{both-joined}
+use Rattle.kinds_code.proofs.mixed_by.Goals.{After-load_of-left}
 use Rattle.kinds_code.proofs.mixed_by.Goals as goal
 
 pub columns_of-last-requires : goal.columns_of-last-requires
@@ -45,7 +48,7 @@ module _ {first second : System} {rows predecessors rows2 predecessors2 : List �
   best-within : best ≤ all - 1
   best-within = omega (arith, is-best, best-last)
 
-  both-mixed : (a b : Placement) → a ≡ rows_placed first first.engines (load_of (ceilings_of first) best)
+  both-mixed : (a b : Option Placement) → a ≡ rows_placed first first.engines (load_of (ceilings_of first) best)
       → b ≡ rows_placed second second.engines (load_of (ceilings_of second) (all - 1 - best)) → joined_placement a b first.engines ≡ mixed_placement first second
   both-mixed a b is_one is_other =
       let many = as_many shown (all - 1) is_last in
@@ -59,28 +62,44 @@ module _ {first second : System} {rows predecessors rows2 predecessors2 : List �
 pub overflow_sub-rest : goal.overflow_sub-rest
 overflow_sub-rest c = best-within c.requires c.columns_of-last.result c.columns_of-last.ensures c.best_split-best.result c.best_split-best.ensures
 
-pub placed_by-one-requires : goal.placed_by-one-requires
-placed_by-one-requires c = (c.requires.one, rw c.load_of-given.ensures (load_of-within (ceilings_of c.args.first) c.best_split-best.result))
+pub placed_by-requires : goal.placed_by-requires
+placed_by-requires c = (c.requires.one, rw c.load_of-given.ensures (load_of-within (ceilings_of c.args.first) c.best_split-best.result))
 
-pub placed_by-other-requires : goal.placed_by-other-requires
-placed_by-other-requires c =
+pub placed_by-requires-2 : goal.placed_by-requires-2
+placed_by-requires-2 c =
     (c.requires.other, rw c.load_of-left.ensures (load_of-within (ceilings_of c.args.second) (c.columns_of-last.result - 1 - c.best_split-best.result)))
 
 pub joined-requires : goal.joined-requires
 joined-requires c =
     let first = c.args.first in
     let second = c.args.second in
-    let one = rows-used first first.engines c.load_of-given.result c.placed_by-one.result c.placed_by-one.ensures in
-    let other = rows-used second second.engines c.load_of-left.result c.placed_by-other.result c.placed_by-other.ensures in
+    let one = rows-used first first.engines c.load_of-given.result _ (sym c.in_ok-one.was ∙ c.placed_by.ensures) in
+    let other = rows-used second second.engines c.load_of-left.result _ (sym c.in_ok-other.was ∙ c.placed_by-2.ensures) in
     (omega (arith, one, other, c.requires.few), omega (arith, c.requires.few))
 
+-- what both kinds place, joined
+module _ (c : After-load_of-left) where
+  both-is : (a b : Option Placement) → a ≡ rows_placed c.args.first c.args.first.engines c.load_of-given.result → b ≡ rows_placed c.args.second c.args.second.engines c.load_of-left.result
+      → joined_placement a b c.args.first.engines ≡ mixed_placement c.args.first c.args.second
+  both-is a b one other =
+      let first = c.args.first in
+      let second = c.args.second in
+      both-mixed c.requires c.columns_of-last.result c.columns_of-last.ensures c.best_split-best.result c.best_split-best.ensures a b
+      (one ∙ ap (rows_placed first first.engines) c.load_of-given.ensures)
+      (other ∙ ap (rows_placed second second.engines) c.load_of-left.ensures)
+
+-- one of them places nothing
+pub returns-in_err-one : goal.returns-in_err-one
+unfolding joined_placement
+returns-in_err-one c =
+    let told : c.from_residual.result ≡ None = search rules in
+    told ∙ both-is (goal.at.returns-in_err-one c).After-load_of-left None _ (sym c.in_err-one.was ∙ c.placed_by.ensures) refl
+
+pub returns-in_err-other : goal.returns-in_err-other
+unfolding joined_placement
+returns-in_err-other c =
+    let told : c.from_residual-in_err-other.result ≡ None = search rules in
+    told ∙ both-is (goal.at.returns-in_err-other c).After-load_of-left (Some _) None (sym c.in_ok-one.was ∙ c.placed_by.ensures) (sym c.in_err-other.was ∙ c.placed_by-2.ensures)
+
 pub returns : goal.returns
-returns c =
-    let first = c.args.first in
-    let second = c.args.second in
-    let one = c.placed_by-one in
-    let other = c.placed_by-other in
-    c.joined.ensures
-    ∙ both-mixed c.requires c.columns_of-last.result c.columns_of-last.ensures c.best_split-best.result c.best_split-best.ensures one.result other.result
-    (one.ensures ∙ ap (rows_placed first first.engines) c.load_of-given.ensures)
-    (other.ensures ∙ ap (rows_placed second second.engines) c.load_of-left.ensures)
+returns c = c.joined.ensures ∙ both-is (goal.at.returns c).After-load_of-left (Some _) (Some _) (sym c.in_ok-one.was ∙ c.placed_by.ensures) (sym c.in_ok-other.was ∙ c.placed_by-2.ensures)

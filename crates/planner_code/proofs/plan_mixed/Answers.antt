@@ -1,7 +1,7 @@
 -- `planner_code::plan_mixed`. Each way out is the one that the plan is defined to take there (the laws of MixedPlans), from what the callees ensure of what is lent, of the card's two systems and of the placement.
 use Rattle.std.proofs.Common.{Err, arith, rules}
 use mathlib.Core.Path.{◌≡◌, sym, ap, ap₂, ◌∙◌}
-use borrow.Author.Tests.{not-true, not-false}
+use Rattle.std.specs.Result.{result_ok}
 use Rattle.system.specs.declared.System.{System}
 use Rattle.system.specs.Card.{first_of}
 use Rattle.system.specs.Outcome.{checked_of}
@@ -10,6 +10,7 @@ use Rattle.system.proofs.CardLaws.{both-engines}
 use Rattle.partition.specs.Lent.{Lent, lent}
 use Rattle.table.specs.Table.{filled_to}
 use Rattle.kinds.specs.Mixing.{mixed_placement}
+use Rattle.planner.proofs.Exits.{refused-by}
 use Rattle.planner.proofs.MixedPlans.{mixed-lent, may-mix, mixed-none, mixed-placed}
 use Rattle.planner_code.proofs.plan_mixed.Goals as goal
 
@@ -26,8 +27,8 @@ returns-in_err-lent_check c =
     let told : c.from_residual.result ≡ Err c.in_err-lent_check.field-0.0 = search rules in
     rw told (mixed-lent c.args.y c.args.k c.requires parts c.args.room _ (ap checked_of (sym c.in_err-lent_check.was) ∙ c.lent_check.ensures))
 
-pub place_mixed-placed-requires : goal.place_mixed-placed-requires
-place_mixed-placed-requires c =
+pub place_mixed-requires : goal.place_mixed-requires
+place_mixed-requires c =
     let parts = lent c.args.rows.now c.args.predecessors.now in
     let passed = ap checked_of (sym c.in_ok-lent_check.was) ∙ c.lent_check.ensures in
     rw (c.first_kind-first.ensures, c.second_kind-second.ensures) (may-mix c.args.y c.args.k c.requires parts c.args.room passed)
@@ -36,20 +37,22 @@ place_mixed-placed-requires c =
 table_is : (y first : System) (parts after : Lent) → first ≡ first_of y → after ≡ filled_to first first.engines parts → after ≡ filled_to (first_of y) y.engines parts
 table_is y first parts after is e = e ∙ ap (λ (z : System). filled_to z z.engines parts) is
 
-pub returns-then-not-placed : goal.returns-then-not-placed
-returns-then-not-placed c =
+pub returns-in_err-placed : goal.returns-in_err-placed
+returns-in_err-placed c =
     let parts = lent c.args.rows.now c.args.predecessors.now in
     let passed = ap checked_of (sym c.in_ok-lent_check.was) ∙ c.lent_check.ensures in
-    let p = c.place_mixed-placed in
+    let p = c.place_mixed in
     let is = p.ensures.1 ∙ ap₂ mixed_placement c.first_kind-first.ensures c.second_kind-second.ensures in
-    rw (table_is c.args.y c.first_kind-first.result parts _ c.first_kind-first.ensures p.ensures.0)
-    (mixed-none c.args.y c.args.k c.requires parts c.args.room passed _ is (not-true _ c.if-not-placed.true))
+    let none = refused-by _ _ (sym c.ok_or.ensures.value ∙ c.in_err-placed.was) in
+    let told : c.from_residual-in_err-placed.result ≡ Err c.in_err-placed.field-0.0 = search rules in
+    rw (told, none.1, table_is c.args.y c.first_kind-first.result parts _ c.first_kind-first.ensures p.ensures.0)
+    (mixed-none c.args.y c.args.k c.requires parts c.args.room passed (none.0 ∙ is))
 
 pub returns : goal.returns
 returns c =
     let parts = lent c.args.rows.now c.args.predecessors.now in
     let passed = ap checked_of (sym c.in_ok-lent_check.was) ∙ c.lent_check.ensures in
-    let p = c.place_mixed-placed in
+    let p = c.place_mixed in
     let is = p.ensures.1 ∙ ap₂ mixed_placement c.first_kind-first.ensures c.second_kind-second.ensures in
     rw (table_is c.args.y c.first_kind-first.result parts _ c.first_kind-first.ensures p.ensures.0)
-    (mixed-placed c.args.y c.args.k c.requires parts c.args.room passed _ is (not-false _ c.if-not-placed.false))
+    (mixed-placed c.args.y c.args.k c.requires parts c.args.room passed _ (sym (c.ok_or.ensures.ok_part ∙ ap result_ok c.in_ok-placed.was) ∙ is))

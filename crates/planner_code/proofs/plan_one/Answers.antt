@@ -6,7 +6,7 @@ use mathlib.Core.Bool.{true}
 use mathlib.Core.List.{List}
 use Prim.Native.Nat.{ℕ}
 use borrow.Author.Rules.{rules}
-use borrow.Author.Tests.{not-true, not-false}
+use Rattle.std.specs.Result.{result_ok}
 use Rattle.system.specs.declared.Opened.{Opened}
 use Rattle.system.specs.Values.{ceilings_of}
 use Rattle.system.specs.Limits.{keeps_limits}
@@ -18,7 +18,7 @@ use Rattle.partition.specs.Assignment.{numbers_from}
 use Rattle.partition.specs.Lent.{lent}
 use Rattle.table.proofs.Placed.{may-place-on-all}
 use Rattle.table.proofs.Reading.{ok-opens}
-use Rattle.planner.proofs.Exits.{unread-plans, lent-plans, none-plans, placed-plans}
+use Rattle.planner.proofs.Exits.{unread-plans, lent-plans, none-plans, placed-plans, refused-by}
 use Rattle.planner.proofs.Cases.{lent-passed}
 use Rattle.planner.proofs.Demands.{promises-of}
 use Rattle.planner_code.proofs.plan_one.Goals as goal
@@ -55,8 +55,8 @@ returns-in_err-lent_check c =
 pub engines_to-engines-requires : goal.engines_to-engines-requires
 engines_to-engines-requires c = (limits_of _ (keeps c.args.file.now c.read_system-read.result c.read_system-read.ensures c.in_ok-read.was)).engines
 
-pub place-placement-requires : goal.place-placement-requires
-place-placement-requires c =
+pub place-requires : goal.place-requires
+place-requires c =
     let r = c.read_system-read in
     let y = r.result.system in
     let parts = lent c.args.rows.now c.args.predecessors.now in
@@ -65,18 +65,20 @@ place-placement-requires c =
     may-place-on-all y _ _ parts (keeps c.args.file.now r.result r.ensures c.in_ok-read.was) engines.0 engines.1 (lent-passed y parts c.args.room passed).0
     (rw c.ceilings_of.ensures (within-refl (ceilings_of y)))
 
--- all instances are placed: what the table and the placement are
-pub returns-then-not-placement : goal.returns-then-not-placement
-returns-then-not-placement c =
+-- the instances cannot be placed
+pub returns-in_err-placement : goal.returns-in_err-placement
+returns-in_err-placement c =
     let file = c.args.file.now in
     let r = c.read_system-read in
     let parts = lent c.args.rows.now c.args.predecessors.now in
     let passed = ap checked_of (sym c.in_ok-lent_check.was) ∙ c.lent_check.ensures in
-    let p = c.place-placement in
+    let p = c.place in
     let table_is = rw c.engines_to-engines.ensures.1 at p.ensures.0 in
     let placement-is = rw (c.engines_to-engines.ensures.1, c.ceilings_of.ensures) at p.ensures.1 in
-    promises-of file _ _ _ _ (rw table_is
-    (none-plans (read_file file) r.result.system (is-opened file r.result r.ensures c.in_ok-read.was) parts c.args.room passed _ placement-is (not-true _ c.if-not-placement.true)))
+    let none = refused-by _ _ (sym c.ok_or.ensures.value ∙ c.in_err-placement.was) in
+    let told : c.from_residual-in_err-placement.result ≡ Err c.in_err-placement.field-0.0 = search rules in
+    rw (told, none.1) (promises-of file _ _ _ _ (rw table_is
+    (none-plans (read_file file) r.result.system (is-opened file r.result r.ensures c.in_ok-read.was) parts c.args.room passed (none.0 ∙ placement-is))))
 
 pub returns : goal.returns
 unfolding numbers_from
@@ -85,8 +87,8 @@ returns c =
     let r = c.read_system-read in
     let parts = lent c.args.rows.now c.args.predecessors.now in
     let passed = ap checked_of (sym c.in_ok-lent_check.was) ∙ c.lent_check.ensures in
-    let p = c.place-placement in
+    let p = c.place in
     let table_is = rw c.engines_to-engines.ensures.1 at p.ensures.0 in
     let placement-is = rw (c.engines_to-engines.ensures.1, c.ceilings_of.ensures) at p.ensures.1 in
     promises-of file _ _ _ _ (rw table_is
-    (placed-plans (read_file file) r.result.system (is-opened file r.result r.ensures c.in_ok-read.was) parts c.args.room passed _ placement-is (not-false _ c.if-not-placement.false)))
+    (placed-plans (read_file file) r.result.system (is-opened file r.result r.ensures c.in_ok-read.was) parts c.args.room passed _ (sym (c.ok_or.ensures.ok_part ∙ ap result_ok c.in_ok-placement.was) ∙ placement-is)))

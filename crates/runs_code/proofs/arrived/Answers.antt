@@ -1,33 +1,32 @@
 -- `arrived`: the answers.
 use borrow.Author.Rules.{rules}
-use Prim.Native.Nat.{◌+◌}
-use mathlib.Core.Path.{◌≡◌, sym, ap, ◌∙◌}
-use lib.ListN.{length, set, take, length-set}
+use mathlib.Core.Path.{◌≡◌, refl, sym, ap, ◌∙◌}
+use Prim.Native.Nat.{ℕ}
+use mathlib.Core.List.{◌++◌}
+use lib.ListN.{length, take, drop}
+use lib.Seq.{length-take-le, take-append_seam}
 use native.Mathlib.Omega.{arith}
-use Rattle.runs.specs.declared.Job.{Job}
-use Rattle.runs.specs.Run.{job_limit}
-use Rattle.runs.proofs.Steps.{arrived-none, arrived-turn}
+use Rattle.runs.specs.Run.{job_limit, no_job, arrived_job}
+use Rattle.runs_code.proofs.Passes.{arrived-map, passed-turn, passed-all}
 use Rattle.runs_code.proofs.arrived.Goals as goal
 
-pub loop-i-init : goal.loop-i-init
-loop-i-init c = (omega arith, search rules, sym (arrived-none _))
+pub loop-j-init : goal.loop-j-init
+loop-j-init c = refl
 
-pub loop-i-preserved : goal.loop-i-preserved
-loop-i-preserved c =
+pub loop-j-preserved : goal.loop-j-preserved
+loop-j-preserved c =
     let a = c.args in
-    let i = c.loop-i.i in
-    let out = c.loop-i.out in
-    let l : length a.jobs ≡ job_limit = search rules in
-    let e = c.loop-i.invariant.2 in (
-      omega arith,
-      length-set out i _ ∙ c.loop-i.invariant.1,
-      ap (λ (j : Job). take (i + 1) (set out i j)) c.arrived_job.ensures ∙ arrived-turn a.jobs out i (omega arith) (omega arith) a.now e,
-    )
+    let l = c.loop-j in
+    passed-turn (arrived_job a.now) l.j-index (take a.count a.jobs) l.j-items no_job c.arrived_job.result c.loop-j-test.true l.invariant c.arrived_job.ensures
 
 pub returns : goal.returns
 returns c =
     let a = c.args in
-    let i = c.loop-i.i in
-    let out = c.loop-i.out in
-    let t : i ≡ a.count = omega arith in
-    rw (← t) c.loop-i.invariant.2
+    let l = c.loop-j in
+    let all : length a.jobs ≡ job_limit = search rules in
+    let same : length l.j-items ≡ a.count = l.auto.j-items ∙ length-take-le a.count a.jobs (omega arith) in
+    ap (λ (n : ℕ). take n (l.j-items ++ drop a.count a.jobs)) (sym same)
+    ∙ take-append_seam l.j-items _
+    ∙ l.invariant
+    ∙ passed-all (arrived_job a.now) l.j-index (take a.count a.jobs) c.loop-j-test.false
+    ∙ arrived-map a.now (take a.count a.jobs)

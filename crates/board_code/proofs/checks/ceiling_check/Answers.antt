@@ -26,11 +26,11 @@ same_test b t counts e = ap₂ ltb (ap (λ (x : List ℕ). get_or x (t - 1) 0) e
 pub overflow_sub-i : goal.overflow_sub-i
 overflow_sub-i c = (type-range c.args.b c.requires.0 c.args.t c.requires.1).0
 
-pub offset_bounds-types-i : goal.offset_bounds-types-i
-offset_bounds-types-i c = omega (arith, in-range c.args.b c.args.t c.requires.0 c.requires.1)
+pub offset_bounds-b-i : goal.offset_bounds-b-i
+offset_bounds-b-i c = omega (arith, in-range c.args.b c.args.t c.requires.0 c.requires.1)
 
-pub bounds-types-i : goal.bounds-types-i
-bounds-types-i c = in-range c.args.b c.args.t c.requires.0 c.requires.1
+pub bounds-b-i : goal.bounds-b-i
+bounds-b-i c = in-range c.args.b c.args.t c.requires.0 c.requires.1
 
 pub offset_bounds-counts-i : goal.offset_bounds-counts-i
 offset_bounds-counts-i c = omega (arith, in-range c.args.b c.args.t c.requires.0 c.requires.1)

@@ -23,15 +23,15 @@ place-found-requires c =
     may-place b s.requires.0.is_true on.result _ parts on.ensures.0 on.ensures.1 s.requires.1
     (subst (λ (x : List ℕ). within x (ceilings_of b.system) ≡ true) (sym c.with_newcomer-counts.ensures) (newcomer-within b s.args.t s.requires.0))
 
-pub returns-then-found : goal.returns-then-found
-returns-then-found c =
+pub returns-then-is_some : goal.returns-then-is_some
+returns-then-is_some c =
     let s = c in
     let a = s.args in
     let p = c.place-found in
     let parts = lent a.rows.now a.predecessors.now in
     let on = c.engines_of-engines.ensures.1 in
     let same = c.with_newcomer-counts.ensures in
-    crowded-by a.b a.t p.result (p.ensures.1 ∙ ap₂ (placement a.b.system) on same) parts _ _ true c.if-found.true (p.ensures.0 ∙ ap (λ (es : List ℕ). filled a.b.system es parts) on)
+    crowded-by a.b a.t p.result (p.ensures.1 ∙ ap₂ (placement a.b.system) on same) parts _ _ true (sym c.is_some.ensures ∙ c.if-is_some.true) (p.ensures.0 ∙ ap (λ (es : List ℕ). filled a.b.system es parts) on)
     c.refuse.ensures.0
     c.refuse.ensures.1
 
@@ -43,6 +43,6 @@ returns c =
     let parts = lent a.rows.now a.predecessors.now in
     let on = c.engines_of-engines.ensures.1 in
     let same = c.with_newcomer-counts.ensures in
-    crowded-by a.b a.t p.result (p.ensures.1 ∙ ap₂ (placement a.b.system) on same) parts _ _ false c.if-found.false (p.ensures.0 ∙ ap (λ (es : List ℕ). filled a.b.system es parts) on)
+    crowded-by a.b a.t p.result (p.ensures.1 ∙ ap₂ (placement a.b.system) on same) parts _ _ false (sym c.is_some.ensures ∙ c.if-is_some.false) (p.ensures.0 ∙ ap (λ (es : List ℕ). filled a.b.system es parts) on)
     c.refuse-2.ensures.0
     c.refuse-2.ensures.1

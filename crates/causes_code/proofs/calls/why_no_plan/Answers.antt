@@ -76,5 +76,5 @@ returns c =
     promises-of c.args.file.now (lent c.args.rows.now c.args.predecessors.now) _ _
     (cause-gives (read_file c.args.file.now) y (is-opened c.args.file.now r.result r.ensures c.in_ok-opened.was) (lent c.args.rows.now c.args.predecessors.now)
     (ap checked_of (sym c.in_ok-table_check.was) ∙ c.table_check.ensures) _
-    (cause-found y _ c.place-found.result c.cause_of.ensures c.ceilings_of-counts.ensures placement-is)
+    (cause-found y _ c.place-found.result (rw c.is_some.ensures at c.cause_of.ensures) c.ceilings_of-counts.ensures placement-is)
     _ parts_are)

@@ -60,5 +60,5 @@ returns c =
     = c.place-found.ensures.1 ∙ ap₂ (placement y) c.engines_of-engines.ensures.1 c.with_newcomer-counts.ensures in
     promises-of c.args.b c.args.t table _ _
     (cause-gives c.args.b c.args.t table (ap checked_of (sym c.in_ok-check_newcomer.was) ∙ c.check_newcomer.ensures) _
-    (cause-found c.args.b c.args.t _ _ c.place-found.result c.cause_of.ensures c.engines_of-engines.ensures.0 c.with_newcomer-counts.ensures placement-is)
+    (cause-found c.args.b c.args.t _ _ c.place-found.result (rw c.is_some.ensures at c.cause_of.ensures) c.engines_of-engines.ensures.0 c.with_newcomer-counts.ensures placement-is)
     _ parts_are)

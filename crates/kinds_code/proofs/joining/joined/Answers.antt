@@ -1,11 +1,8 @@
--- Both ways out are those of the definition: where both kinds place their part, the numbers are those of both (`both-numbers`).
+-- The numbers are those of both (`both-numbers`).
+use mathlib.Core.Path.{ap}
 use Rattle.kinds.specs.Inner.{joined_placement}
 use Rattle.kinds.proofs.Padded.{both-numbers}
 use Rattle.kinds_code.proofs.joining.joined.Goals as goal
-
-pub returns-then-not-first-second : goal.returns-then-not-first-second
-unfolding joined_placement
-returns-then-not-first-second c = rw c.if-not-first-second.true c.none_placed.ensures
 
 pub returns : goal.returns
 unfolding joined_placement
@@ -15,4 +12,4 @@ returns c =
     let first = c.args.first in
     let second = c.args.second in
     let same = both-numbers first.used second.used c.args.m front.result numbers.result c.requires.0 front.ensures numbers.ensures in
-    rw (c.if-not-first-second.false, same, c.loads_after.ensures)
+    rw (same, c.loads_after.ensures)

@@ -4,4 +4,4 @@ use Rattle.recipes_code.proofs.text.stored.Goals as goal
 
 pub returns : goal.returns
 unfolding stored
-returns c = rw c.held.ensures
+returns c = rw (c.held.ensures, c.begun.ensures)

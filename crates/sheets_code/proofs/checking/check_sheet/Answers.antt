@@ -5,6 +5,7 @@ use mathlib.Core.Path.{◌≡◌, sym, ap, ◌∙◌}
 use mathlib.Core.List.{List}
 use mathlib.Core.Bool.{true}
 use borrow.Author.Rules.{rules}
+use Rattle.std.specs.Result.{result_ok}
 use Rattle.system.specs.declared.Opened.{Opened}
 use Rattle.system.specs.Values.{ceilings_of}
 use Rattle.system.specs.Limits.{keeps_limits}
@@ -20,7 +21,8 @@ use Rattle.table.proofs.Placed.{may-place-on-all}
 use Rattle.planner.specs.Plan.{plan_engines}
 use Rattle.sheets.specs.Sheet.{used_in}
 use Rattle.sheets.specs.Checking.{records_check}
-use Rattle.sheets_code.proofs.Exits.{unread-checks, lent-checks, judged-checks, right-checks}
+use Rattle.planner.proofs.Exits.{refused-by}
+use Rattle.sheets_code.proofs.Exits.{unread-checks, lent-checks, judged-checks, never-none, right-checks}
 use Rattle.sheets.proofs.Promises.{promises-of}
 use Rattle.sheets_code.proofs.checking.check_sheet.Goals as goal
 
@@ -70,8 +72,8 @@ returns-in_err-records_check c =
 pub engines_to-engines-requires : goal.engines_to-engines-requires
 engines_to-engines-requires c = (limits_of _ (keeps c.args.file.now c.read_system-opened.result c.read_system-opened.ensures c.in_ok-opened.was)).engines
 
-pub place-placement-requires : goal.place-placement-requires
-place-placement-requires c =
+pub place-requires : goal.place-requires
+place-requires c =
     let r = c.read_system-opened in
     let y = r.result.system in
     let engines = c.engines_to-engines.ensures in
@@ -79,16 +81,27 @@ place-placement-requires c =
     may-place-on-all y _ _ table (keeps c.args.file.now r.result r.ensures c.in_ok-opened.was) engines.0 engines.1
     (check-passed (long_enough y table) from_input 11 (ap checked_of (sym c.in_ok-table_check.was) ∙ c.table_check.ensures)) (rw c.ceilings_of.ensures (within-refl (ceilings_of y)))
 
+-- there is a placement
+pub returns-in_err-placement : goal.returns-in_err-placement
+returns-in_err-placement c =
+    let r = c.read_system-opened in
+    let y = r.result.system in
+    let placed : c.place.result ≡ placement y (plan_engines y) (ceilings_of y) = c.place.ensures.1 ∙ rw (c.engines_to-engines.ensures.1, c.ceilings_of.ensures) in
+    absurd (never-none (read_file c.args.file.now) y (is-opened c.args.file.now r.result r.ensures c.in_ok-opened.was) c.args.sheet.now (lent c.args.rows.now c.args.predecessors.now)
+    (ap checked_of (sym c.in_ok-table_check.was) ∙ c.table_check.ensures) (keeps c.args.file.now r.result r.ensures c.in_ok-opened.was)
+    (ap checked_of (sym c.in_ok-records_check.was) ∙ c.records_check.ensures ∙ ap (records_check y c.args.sheet.now) c.loads_in-loads.ensures)
+    ((refused-by _ _ (sym c.ok_or.ensures.value ∙ c.in_err-placement.was)).0 ∙ placed))
+
 -- all instances are placed: what the table and the placement are
 pub returns : goal.returns
 returns c =
     let r = c.read_system-opened in
     let y = r.result.system in
-    let table : lent c.place-placement.new.rows c.place-placement.new.predecessors ≡ filled y (plan_engines y) (lent c.args.rows.now c.args.predecessors.now)
-    = c.place-placement.ensures.0 ∙ rw c.engines_to-engines.ensures.1 in
-    let placed : c.place-placement.result ≡ placement y (plan_engines y) (ceilings_of y) = c.place-placement.ensures.1 ∙ rw (c.engines_to-engines.ensures.1, c.ceilings_of.ensures) in
+    let table : lent c.place.new.rows c.place.new.predecessors ≡ filled y (plan_engines y) (lent c.args.rows.now c.args.predecessors.now)
+    = c.place.ensures.0 ∙ rw c.engines_to-engines.ensures.1 in
+    let placed : c.place.result ≡ placement y (plan_engines y) (ceilings_of y) = c.place.ensures.1 ∙ rw (c.engines_to-engines.ensures.1, c.ceilings_of.ensures) in
     promises-of c.args.file.now c.args.sheet.now (lent c.args.rows.now c.args.predecessors.now) _ _ (rw table
     (right-checks (read_file c.args.file.now) y (is-opened c.args.file.now r.result r.ensures c.in_ok-opened.was) c.args.sheet.now (lent c.args.rows.now c.args.predecessors.now)
     (ap checked_of (sym c.in_ok-table_check.was) ∙ c.table_check.ensures) (keeps c.args.file.now r.result r.ensures c.in_ok-opened.was)
     (ap checked_of (sym c.in_ok-records_check.was) ∙ c.records_check.ensures ∙ ap (records_check y c.args.sheet.now) c.loads_in-loads.ensures)
-    _ placed _ (c.used_engines.ensures.0 ∙ ap used_in c.loads_in-loads.ensures)))
+    _ (sym (c.ok_or.ensures.ok_part ∙ ap result_ok c.in_ok-placement.was) ∙ placed) _ (c.used_engines.ensures.0 ∙ ap used_in c.loads_in-loads.ensures)))

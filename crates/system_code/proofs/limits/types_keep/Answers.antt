@@ -1,36 +1,20 @@
--- `types_keep`: the answers.
-use native.Mathlib.Omega.{arith}
-use native.Mathlib.Nat.{sub-zero}
-use borrow.Author.Rules.{rules}
-use borrow.Author.Tests.{eq-eqb}
-use mathlib.Core.Path.{◌≡◌, sym, ◌∙◌}
+-- `limits::types_keep` meets its contract: the chain asks each of the six entries, with its index.
+use Rattle.std.proofs.Common.{rules}
+use Prim.Native.Nat.{ℕ}
+use mathlib.Core.Path.{◌≡◌, ◌∙◌}
+use borrow.Author.Tests.{tests, eq-eqb}
 use lib.ListN.{length}
-use Rattle.system.specs.Values.{no_task}
+use Rattle.std.proofs.lemmas.Iterator.{YieldsList-from_slice}
+use Rattle.std.proofs.lemmas.Iterator.Consumers.{YieldsList-from_enumerate}
+use Rattle.std.proofs.lemmas.Iterator.Search.{all_from_yields_List}
 use Rattle.system.specs.Limits.{type_limit}
-use Rattle.system_code.proofs.Steps.{types-fail, types_more, types-end}
+use Rattle.system_code.proofs.Steps.{entry-keeps, types-listed}
 use Rattle.system_code.proofs.limits.types_keep.Goals as goal
-
-pub loop-i-init : goal.loop-i-init
-loop-i-init c = rw sub-zero
-
-pub returns-then-not-task_keeps : goal.returns-then-not-task_keeps
-returns-then-not-task_keeps c =
-    let l = c.loop-i in
-    let a = c.args in
-    let six : length a.types ≡ type_limit = search rules in
-    rw (eq-eqb (length a.types) type_limit six)
-    (types-fail a.k l.i a.types no_task (omega arith) (sym c.task_keeps.ensures ∙ c.if-not-task_keeps.true) l.invariant)
-
-pub loop-i-preserved : goal.loop-i-preserved
-loop-i-preserved c =
-    let l = c.loop-i in
-    let a = c.args in
-    let six : length a.types ≡ type_limit = search rules in
-    types_more a.k l.i a.types no_task (omega arith) (sym c.task_keeps.ensures ∙ c.if-not-task_keeps.false) l.invariant
 
 pub returns : goal.returns
 returns c =
-    let l = c.loop-i in
     let a = c.args in
     let six : length a.types ≡ type_limit = search rules in
-    rw (eq-eqb (length a.types) type_limit six) (types-end a.k l.i a.types (omega arith) l.invariant)
+    rw (eq-eqb (length a.types) type_limit six)
+    (all_from_yields_List (entry-keeps a.k) _ _ _ c.all.ensures.ran (YieldsList-from_enumerate (YieldsList-from_slice a.types cc) cc) (λ x b q k. search (rules, tests))
+    ∙ types-listed a.k a.types)

@@ -32,39 +32,29 @@ offset_bounds-rows-column c =
 pub bounds-rows-column : goal.bounds-rows-column
 bounds-rows-column c = omega (arith, column-small c.args.y c.args.counts c.column_of-column.result c.requires.1 c.column_of-column.ensures, c.requires.0.room_rows)
 
-pub recover-loads-requires : goal.recover-loads-requires
-recover-loads-requires c =
-    let start = c in
-    let found = c in
-    shown-chain start.requires.0 found.column_of-column.result (column-small c.args.y c.args.counts c.column_of-column.result c.requires.1 c.column_of-column.ensures) c.if-row-engines.true
-
 pub returns-then-row-engines : goal.returns-then-row-engines
 returns-then-row-engines c =
-    let start = c in
-    let found = c in
-    let column = found.column_of-column.result in
-    rows-found start.args.y start.args.engines start.args.counts
-    (get_or start.args.rows.now column 0)
+    let column = c.column_of-column.result in
+    rows_none c.args.y c.args.engines c.args.counts
+    (lowest_for c.args.y c.args.engines column)
     column
-    c.idle_engine-idle.result
-    (shown-row start.requires.0 column (column-small c.args.y c.args.counts c.column_of-column.result c.requires.1 c.column_of-column.ensures) c.if-row-engines.true)
-    found.column_of-column.ensures
-    c.idle_engine-idle.ensures
-    c.recover-loads.result
-    c.recover-loads.ensures
-    c.if-row-engines.true
+    refl
+    c.column_of-column.ensures
+    (shown-none c.requires.0 column (column-small c.args.y c.args.counts column c.requires.1 c.column_of-column.ensures) c.if-row-engines.true)
 
--- a row past the engines is none
+pub recover-requires : goal.recover-requires
+recover-requires c = shown-chain c.requires.0 c.column_of-column.result (column-small c.args.y c.args.counts c.column_of-column.result c.requires.1 c.column_of-column.ensures) c.if-row-engines.false
+
 pub returns : goal.returns
 returns c =
-    let start = c in
-    let found = c in
-    let column = found.column_of-column.result in
-    rows_none start.args.y start.args.engines start.args.counts
-    (lowest_for start.args.y start.args.engines column)
+    let column = c.column_of-column.result in
+    rows-found c.args.y c.args.engines c.args.counts
+    (get_or c.args.rows.now column 0)
     column
+    (shown-row c.requires.0 column (column-small c.args.y c.args.counts column c.requires.1 c.column_of-column.ensures) c.if-row-engines.false)
+    c.column_of-column.ensures
     c.idle_engine-idle.result
-    refl
-    found.column_of-column.ensures
     c.idle_engine-idle.ensures
-    (shown-none start.requires.0 column (column-small c.args.y c.args.counts c.column_of-column.result c.requires.1 c.column_of-column.ensures) c.if-row-engines.false)
+    c.recover.result
+    c.recover.ensures
+    c.if-row-engines.false

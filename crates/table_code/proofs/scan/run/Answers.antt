@@ -9,6 +9,8 @@ use lib.ListN.{get_or}
 use lib.Dec.{leb}
 use Rattle.partition.specs.Cell.{lowest, no_column}
 use Rattle.table.specs.Scan.{seen_by}
+use Rattle.table.specs.Under.{column_found}
+use Rattle.table.proofs.Candidates.{is-found}
 use Rattle.table.proofs.Between.{between-here, between-later, between-end}
 use Rattle.table_code.proofs.scan.run.Goals as goal
 
@@ -45,12 +47,6 @@ module _ (rows : List ℕ) (bound column end left : ℕ) (some : 1 ≤ left) (in
       let h' : bound < get_or rows here 0 = rw (← is-here) h in
       rw (lt-leb (get_or rows here 0) bound h')
 
-pub overflow_sub-left : goal.overflow_sub-left
-overflow_sub-left c = omega (arith, c.requires.rising, c.requires.reach)
-
-pub overflow_sub-least : goal.overflow_sub-least
-overflow_sub-least c = c.requires.reach
-
 pub loop-left-init : goal.loop-left-init
 loop-left-init c =
     let a = c.args in
@@ -76,8 +72,9 @@ pub returns-then-rows-p : goal.returns-then-rows-p
 returns-then-rows-p c =
     let at = c in
     let a = at.args in
-    found a.rows.now a.bound a.column a.end at.loop-left.left (omega arith) (omega (arith, at.loop-left.invariant.1)) (omega arith) c.if-rows-left-le1.true c.if-rows-p.true
-    ∙ at.loop-left.invariant.2
+    is-found
+    (found a.rows.now a.bound a.column a.end at.loop-left.left (omega arith) (omega (arith, at.loop-left.invariant.1)) (omega arith) c.if-rows-left-le1.true c.if-rows-p.true ∙ at.loop-left.invariant.2)
+    (λ z. omega (arith, c.requires.few))
 
 pub loop-left-preserved-else-rows-p : goal.loop-left-preserved-else-rows-p
 loop-left-preserved-else-rows-p c =
@@ -111,4 +108,4 @@ pub returns : goal.returns
 returns c =
     let at = c in
     let a = at.args in
-    sym (between-end (seen_by a.rows.now a.bound a.column) no_column (a.column + 1 - at.loop-left.left) a.end (omega (arith, at.loop-left.invariant.0, at.requires.reach))) ∙ at.loop-left.invariant.2
+    ap column_found (sym (between-end (seen_by a.rows.now a.bound a.column) no_column (a.column + 1 - at.loop-left.left) a.end (omega (arith, at.loop-left.invariant.0, at.requires.reach))) ∙ at.loop-left.invariant.2)

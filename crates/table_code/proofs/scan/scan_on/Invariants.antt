@@ -9,8 +9,8 @@ use Rattle.table.proofs.Candidates.{Given, Passed}
 use Rattle.table.specs.Scan.{seen_by}
 use Rattle.table_code.proofs.scan.scan_on.Given as goal
 
-abbrev pub invariant-loop-load : goal.invariant-loop-load
-invariant-loop-load l = (length l.counts ≡ 6) × ((ns : List ℕ) → Given (seen_by l.rows l.bound l.column) ns l.load l.jumps → Passed (seen_by l.rows l.bound l.column) ns l.load l.counts l.base l.tried)
+abbrev pub invariant-loop-t : goal.invariant-loop-t
+invariant-loop-t l = (length l.counts ≡ 6) × ((ns : List ℕ) → Given (seen_by l.rows l.bound l.column) ns l.load l.jumps → Passed (seen_by l.rows l.bound l.column) ns l.load l.counts l.base l.tried)
 
-abbrev pub decreases-loop-load : goal.decreases-loop-load
-decreases-loop-load l = column_limit - l.base
+abbrev pub decreases-loop-t : goal.decreases-loop-t
+decreases-loop-t l = column_limit - l.base

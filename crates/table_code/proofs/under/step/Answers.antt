@@ -5,6 +5,8 @@ use borrow.Author.Rules.{rules}
 use lib.ListN.{length, get_or, length-set}
 use mir.Syntax.{w16}
 use mir.Val.{Fits}
+use Rattle.system.specs.Limits.{type_limit}
+use Rattle.table.proofs.Candidates.{is-found, is-nothing}
 use Rattle.table.proofs.Stepping.{step-rise, step-turn, step_end}
 use Rattle.table_code.proofs.under.step.Goals as goal
 
@@ -21,7 +23,7 @@ returns-then-count-tops c =
     let here = c.loop-t in
     let lt : length a.tops ≡ 6 = search rules in
     let now = step-rise a.tops here.counts here.t (omega arith) (omega arith) c.if-count-tops.true in
-    (now.0 ∙ here.invariant.2, omega (arith, now.1, here.invariant.3))
+    (now.0 ∙ here.invariant.2, is-found {m = type_limit} (omega (arith, now.1, here.invariant.3)) (λ z. omega arith))
 
 pub loop-t-preserved : goal.loop-t-preserved
 loop-t-preserved c =
@@ -41,4 +43,4 @@ returns c =
     let here = c.loop-t in
     let lt : length a.tops ≡ 6 = search rules in
     let now = step_end a.tops here.counts here.t (omega arith) (omega arith) in
-    (sym now.0 ∙ here.invariant.2, omega (arith, now.1, here.invariant.3))
+    (sym now.0 ∙ here.invariant.2, is-nothing {m = type_limit} (omega (arith, now.1, here.invariant.3)))
