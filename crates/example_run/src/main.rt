@@ -8,8 +8,8 @@ use runs::Report;
 use std::io;
 use system::{Refusal, TYPE_LIMIT};
 
-// Plans a system, runs each engine of the plan, and then engines with counts of our own.
-fn main(rt: HostRuntime) -> io::Result<()> {
+// Plans a system, runs each engine of the plan, and then engines with counts of our own. What cannot be written is left out, and the next is tried.
+fn main(rt: HostRuntime) {
     // A system file: the platform (m 2, rule 0, U 12, S 8), type 1 (u 4, s 1, n 2) with C 1 and T 3, type 2 (u 6, s 1, n 2) with C 2 and T 4:
     // an instance of type 1 has a job every 3 ticks that runs for 1, one of type 2 a job every 4 ticks that runs for 2, each due when the next one comes.
     let file =
@@ -19,42 +19,37 @@ fn main(rt: HostRuntime) -> io::Result<()> {
     let mut predecessors = [0u16; 9];
     let plan = plan_of(file, &mut rows, &mut predecessors);
     let Ok(Some(used)) = plan.answer else {
-        return Ok(());
+        return;
     };
-    println!(rt; "engines {used}")?;
+    let _ = println!(rt; "engines {used}");
     // What engine e holds is at index e - 1. No engine of a plan of one kind misses a deadline, whatever number of ticks it runs: that is proved for every
     // file.
     for (number, load) in plan.numbers.iter().zip(plan.loads.iter()).take(used) {
-        print!(rt; "engine {number}")?;
-        say_run(&rt, file, load.counts, 24)?;
+        let _ = print!(rt; "engine {number}");
+        say_run(&rt, file, load.counts, 24);
     }
     // The counts need not be those of a plan: how many of each type there are, the six types of a system in order.
-    print!(rt; "one of each type")?;
-    say_run(&rt, file, [1, 1, 0, 0, 0, 0], 12)?;
+    let _ = print!(rt; "one of each type");
+    say_run(&rt, file, [1, 1, 0, 0, 0, 0], 12);
     // 2 × 4 + 6 is more than U: the run ends with the first deadline that is missed.
-    print!(rt; "one too many")?;
-    say_run(&rt, file, [2, 1, 0, 0, 0, 0], 12)?;
+    let _ = print!(rt; "one too many");
+    say_run(&rt, file, [2, 1, 0, 0, 0, 0], 12);
     // There is no type 3, so it has no C and T: refused 44.
-    print!(rt; "no type 3")?;
-    say_run(&rt, file, [0, 0, 1, 0, 0, 0], 12)?;
+    let _ = print!(rt; "no type 3");
+    say_run(&rt, file, [0, 0, 1, 0, 0, 0], 12);
     // A run has at most 65,535 ticks, and 64 instances: refused 45.
-    print!(rt; "too long")?;
-    say_run(&rt, file, [1, 1, 0, 0, 0, 0], 65536)
+    let _ = print!(rt; "too long");
+    say_run(&rt, file, [1, 1, 0, 0, 0, 0], 65536);
 }
 
 // Runs an engine that holds these counts over so many ticks, and says what was answered.
-fn say_run(
-    rt: &HostRuntime,
-    file: &[u8],
-    counts: [u16; TYPE_LIMIT],
-    ticks: usize,
-) -> io::Result<()> {
+fn say_run(rt: &HostRuntime, file: &[u8], counts: [u16; TYPE_LIMIT], ticks: usize) {
     let [one, two, three, ..] = counts;
-    print!(rt; ": holds {one} {two} {three}, ticks {ticks}: ")?;
-    match run_engine(file, counts, ticks) {
+    let _ = print!(rt; ": holds {one} {two} {three}, ticks {ticks}: ");
+    let _ = match run_engine(file, counts, ticks) {
         Ok(report) => say_report(rt, report),
         Err(why) => say_refusal(rt, why),
-    }
+    };
 }
 
 // A report: the ticks in which nobody ran, and the first missed deadline. After a miss only the ticks before it count.
