@@ -1,13 +1,14 @@
 // What the programs read of standard input: `plan`, `sheet`, `why` and `tight` of a system file, `make` of a text of numbers, `watch` of
-// three numbers and a file, and `sheet_check` of a file and a sheet, joined; and how they write their answer. One function reads for all of them, as many bytes
-// as it is lent room for; a program has no length to choose, as it is handed the bytes.
+// three numbers and a file, and `sheet_check` of a file and a sheet, joined; and the status with which they end. One function reads for all
+// of them, as many bytes as it is lent room for; a program has no length to choose, as it is handed the bytes. Nothing here writes: each
+// program writes its answer itself.
 //
 // The contracts say that the bytes counted are bytes of the buffer. No contract can say what is read: that it is all there is, at whatever
 // pieces it comes in, and 0 past it, is run. `trial_front` goes on where all three sizes end, and `tests/outside` hands each program its
 // input in pieces.
 #![tactic(auto)]
 
-ghost use Rattle.std.specs.Prelude.{◌≡◌, ◌≤◌, length, take};
+ghost use Rattle.std.specs.Prelude.{◌≡◌, length, take, OnOk, OnErr};
 ghost use Rattle.io.specs.Counts.{IsPrefixLen};
 ghost use Rattle.std.specs.Process.{exit_status};
 
@@ -84,12 +85,14 @@ pub fn read_joined(rt: &HostRuntime) -> Front<JOINED_BYTES>
     Front::read(rt)
 }
 
-// What comes before it stands in each program: the function that answers takes arrays, and a bound `FnOnce` cannot name a const parameter (tried).
-// How a program ends: it writes its answer to standard output, and its status, 0 or 1, says whether all of it could be written.
-pub fn write_answer(rt: &HostRuntime, answer: &[u8]) -> ExitCode
-    ensures { exit_status result ≤ 1 }
+// The status of a program that has tried to write its answer: 0 where all of it could be written, 1 where not. It is handed how the writing
+// went, not the handle, and writes nothing. What comes before it stands in each program: the function that answers takes arrays, and a bound
+// `FnOnce` cannot name a const parameter (tried).
+pub fn status_of(written: std::io::Result<()>) -> ExitCode
+    ensures ok { OnOk written (exit_status result ≡ 0) }
+    ensures err { OnErr written (exit_status result ≡ 1) }
 {
-    match rt.write_all(answer) {
+    match written {
         Ok(()) => ExitCode::SUCCESS,
         Err(_) => ExitCode::FAILURE,
     }

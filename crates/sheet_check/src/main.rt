@@ -3,7 +3,7 @@
 // They are joined as two bytes with the file's length, the file and the sheet; of a longer file or sheet its first 4,096 bytes.
 #![tactic(auto)]
 
-use front::{read_joined, write_answer};
+use front::{read_joined, status_of};
 use std::process::ExitCode;
 
 // What is read holds all that can be joined. What `check_read` promises it promises of every file and every sheet that begin with these parts, and of any
@@ -12,5 +12,5 @@ fn main(rt: HostRuntime) -> ExitCode {
     let joined = read_joined(&rt);
     let mut out = io::buffer();
     let written = answers_code::check_read(joined.bytes, joined.read, &mut out);
-    write_answer(&rt, &out[..written])
+    status_of(rt.write_all(&out[..written]))
 }

@@ -2,7 +2,7 @@
 // engine of the file's plan to standard output; or one line, a refusal or `no such number`.
 #![tactic(auto)]
 
-use front::{read_watched, write_answer};
+use front::{read_watched, status_of};
 use std::process::ExitCode;
 use timeline_code::WATCH_BYTES;
 
@@ -11,5 +11,5 @@ fn main(rt: HostRuntime) -> ExitCode {
     let front = read_watched(&rt);
     let mut out = [0u8; WATCH_BYTES];
     let written = timeline_code::watch_read(front.bytes, front.read, &mut out);
-    write_answer(&rt, &out[..written])
+    status_of(rt.write_all(&out[..written]))
 }
