@@ -1,5 +1,7 @@
 // The pairs that a fill tries, counted one by one, as requests 2026-05 and 2026-10 say them: for each row from 1 and each column without a row yet, the
 // columns with no greater count, from the lowest up to the one accepted or to the last. Rows and predecessors are document 01's, from its definition alone.
+ghost use Rattle.std.specs.Prelude.{◌≤◌};
+
 use brute::{recovery, search};
 use system::{NO_COLUMN, System, TYPE_LIMIT};
 use trial::lent::{front, front_mut};
@@ -39,7 +41,9 @@ struct Cell {
 }
 
 // The loads within the ceilings, counted through, the count of type 1 moving fastest; no row places any of them yet.
-fn loads_of(y: System) -> Count {
+fn loads_of(y: System) -> Count
+    ensures { result.number ≤ 4096 }
+{
     let bases = recovery::bases_of(search::digits_of(recovery::ceilings_of(y)));
     let mut all = [Column {
         load: [0; TYPE_LIMIT],

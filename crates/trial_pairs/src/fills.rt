@@ -4,8 +4,8 @@ use crate::count::Count;
 use brute::search;
 use system::{Answer, Refusal, System, TYPE_LIMIT};
 use table_code::fill_table;
-use trial::files;
 use trial::lent::{Lengths, Parts, front};
+use trial::{files, say};
 
 // The entries of the longest part: more than any system needs.
 pub const LONG: usize = 4200;
@@ -115,13 +115,14 @@ pub fn trial_of(y: System, other: System) -> Trial {
     let want = count::count_of(y);
     let columns = want.columns().len();
     let long = filled_over(file, &parts_after(left, 3), lengths(LONG, LONG));
-    let pairs = long.answer.ok().flatten().unwrap_or(0);
+    // An answer without a number comes to more pairs than any system has: it is not taken for 0.
+    let pairs = say::code_of(long.answer).wrapping_sub(1000);
     let bound = count::bound_of(y) as usize;
     let none = none_fits(y);
     let met = pairs.wrapping_add(y.engines) == bound;
     let filled = right_fills(file, left, &want) & right_shorts(file, left, columns);
     Trial {
-        right: filled & (pairs == want.tried) & (pairs <= bound) & (!none | met),
+        right: filled & (long.answer == Ok(Some(want.tried))) & (pairs <= bound) & (!none | met),
         pairs,
         bound,
         none,
