@@ -195,10 +195,12 @@ fn agreed(y: System) -> bool {
     there == if y.second.is_some() { y.typecount } else { 0 }
 }
 
-// What a file reads as: its system, up to what it is refused for, whether a tag 3 gave a d of 0, and the number that it is refused with. An accepted file has
-// number 0, as the trials count their files by it.
+// What a file reads as: the place after the last field that was read, and its tag; its system, up to what it is refused for, whether a tag 3 gave a d of 0, and
+// the number that it is refused with. An accepted file has number 0, as the trials count their files by it.
 #[derive(Clone, Copy)]
 pub struct Reading {
+    pub at: usize,
+    pub last: Option<u8>,
     pub system: System,
     pub zero: bool,
     pub refusal: usize,
@@ -314,10 +316,10 @@ impl Reading {
 
     fn file(&mut self, file: &[u8]) -> Result<(), usize> {
         let mut rest = file;
-        let mut last = None;
         while !rest.is_empty() {
-            let (field, after) = field_of(rest, last)?;
-            last = Some(field.tag);
+            let (field, after) = field_of(rest, self.last)?;
+            self.at = file.len().wrapping_sub(after.len());
+            self.last = Some(field.tag);
             rest = after;
             self.field(field)?;
         }
@@ -328,6 +330,8 @@ impl Reading {
 // What a file reads as, of one kind of engine or two.
 pub fn reading_of(file: &[u8]) -> Reading {
     let mut r = Reading {
+        at: 0,
+        last: None,
         system: systems::no_system(),
         zero: false,
         refusal: 0,
