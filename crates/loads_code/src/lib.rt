@@ -61,7 +61,8 @@ fn apart(types: [TaskType; TYPE_LIMIT], counts: [u16; TYPE_LIMIT]) -> bool
         .all(|(task, count)| apart_at(task.most, *count))
 }
 
-// Whether a load fits an engine of the system.
+// Whether a load fits an engine of the system. Inlined: a call that is not copies the system once more, and the fill of a table asks it for most columns.
+#[inline]
 pub fn fits_engine(y: System, counts: [u16; TYPE_LIMIT]) -> bool
     ensures { result ≡ fits_engine y counts }
 {
