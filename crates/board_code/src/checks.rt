@@ -60,7 +60,7 @@ fn held_check(b: Board, t: usize, e: usize) -> Result<(), Refusal>
     ensures { checked_of result ≡ held_check b t e }
 {
     let i = t - 1;
-    let counts = state::load_at(b, e);
+    let counts = state::load_at(&b, e);
     if 1 <= counts[i] {
         return Ok(());
     }
@@ -72,7 +72,7 @@ fn state_check(b: Board, e: usize, out: bool) -> Result<(), Refusal>
     requires { OnEngine b e }
     ensures { checked_of result ≡ state_check b e out }
 {
-    if state::marked(b, e) != out {
+    if state::marked(&b, e) != out {
         return Ok(());
     }
     Err(Refusal::State(36))
@@ -83,7 +83,7 @@ fn empty_check(b: Board, e: usize) -> Result<(), Refusal>
     requires { OnEngine b e }
     ensures { checked_of result ≡ empty_check b e }
 {
-    let counts = state::load_at(b, e);
+    let counts = state::load_at(&b, e);
     if loads_code::holds_none(counts) {
         return Ok(());
     }

@@ -46,17 +46,17 @@ fn true_at(y: System, i: usize, l: EngineLoad) -> bool
 }
 
 // Engine e is marked. The bound of e stands in each contract about one engine: the calls take any number, and refuse 14 where it is no engine's.
-pub(crate) fn marked(b: Board, e: usize) -> bool
+pub(crate) fn marked(b: &Board, e: usize) -> bool
     requires { (1 ≤ e) × (e ≤ engine_limit) }
-    ensures { result ≡ marked b e }
+    ensures { result ≡ marked b.now e }
 {
     b.marks[e - 1]
 }
 
 // Where engine e is marked, it is one of the engines 1 to m and holds nothing. Its first answer is what edit `mark_past_m` turns.
-fn mark_true(b: Board, e: usize) -> bool
+fn mark_true(b: &Board, e: usize) -> bool
     requires { (1 ≤ e) × (e ≤ engine_limit) }
-    ensures { result ≡ mark_true b e }
+    ensures { result ≡ mark_true b.now e }
 {
     if marked(b, e) {
         let counts = load_at(b, e);
@@ -65,11 +65,11 @@ fn mark_true(b: Board, e: usize) -> bool
     true
 }
 
-// Of each of the sixteen engines.
+// Of each of the sixteen engines. The board is lent to what is asked of one engine: a copy for each of them takes longer than the tests.
 fn true_marks(b: Board) -> bool
     ensures { result ≡ true_marks b }
 {
-    (1..ENGINE_LIMIT + 1).all(|e| mark_true(b, e))
+    (1..ENGINE_LIMIT + 1).all(|e| mark_true(&b, e))
 }
 
 // A load added to a sum of at most 15 others.
@@ -118,9 +118,9 @@ pub(crate) fn standing_counts(b: Board) -> [u16; TYPE_LIMIT]
 }
 
 // What engine e holds.
-pub(crate) fn load_at(b: Board, e: usize) -> [u16; TYPE_LIMIT]
+pub(crate) fn load_at(b: &Board, e: usize) -> [u16; TYPE_LIMIT]
     requires { (1 ≤ e) × (e ≤ engine_limit) }
-    ensures { result ≡ load_at b e }
+    ensures { result ≡ load_at b.now e }
 {
     b.loads[e - 1].counts
 }

@@ -68,7 +68,7 @@ fn load_with(b: Board, t: usize, e: usize) -> [u16; TYPE_LIMIT]
     requires { CheckedNewcomer b t × OnEngine b e }
     ensures { result ≡ one_more (t - 1) (load_at b e) }
 {
-    let counts = state::load_at(b, e);
+    let counts = state::load_at(&b, e);
     loads_code::one_more(counts, t - 1)
 }
 
@@ -120,7 +120,7 @@ fn load_without(b: Board, t: usize, e: usize) -> [u16; TYPE_LIMIT]
     requires { OnEngine b e × (known_type b.system t ≡ true) }
     ensures { result ≡ one_less (t - 1) (load_at b e) }
 {
-    let counts = state::load_at(b, e);
+    let counts = state::load_at(&b, e);
     loads_code::one_less(counts, t - 1)
 }
 

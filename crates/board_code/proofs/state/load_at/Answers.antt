@@ -13,5 +13,5 @@ use Rattle.board_code.proofs.state.load_at.Goals as goal
 pub returns : goal.returns
 returns c =
     let start = c in
-    let l : length start.args.b.loads ≡ 16 = search (rules, length-mapped) in
-    ap (λ (x : EngineLoad). x.counts) (get_or-inside start.args.b.loads (start.args.e - 1) _ idle_engine (omega arith))
+    let l : length start.args.b.now.loads ≡ 16 = search (rules, length-mapped) in
+    ap (λ (x : EngineLoad). x.counts) (get_or-inside start.args.b.now.loads (start.args.e - 1) _ idle_engine (omega arith))
